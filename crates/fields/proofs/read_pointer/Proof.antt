@@ -1,0 +1,75 @@
+use Prim.Native.Nat.{ℕ, _+_, _-_, _*_, _^_, _≤_, _<_}
+use mathlib.Core.Path.{_≡_, _∙_, sym}
+use native.Mathlib.Omega.{arith}
+use borrow.Author.Needs.{needs}
+use Rattle.fields.specs.Bytes.{Octets, number}
+use Rattle.fields.proofs.Numbers.{number-more, number-small, number-below, number-none}
+use Rattle.fields.proofs.read_pointer.Statement.{statement}
+use Rattle.fields.proofs.read_pointer.Tie as tie
+
+abbrev Inv-loop : tie.InvT-loop
+Inv-loop b at width x₀ i₀ x i = (i ≤ width) × (x ≡ number i b at)
+
+abbrev μ-loop : tie.MeasureT-loop
+μ-loop b at width x₀ i₀ x i = width - i
+
+loop-holds : tie.Need-loop-holds Inv-loop μ-loop
+loop-holds c = (omega arith, number-none _ _)
+
+mul-x : tie.Need-mul-x Inv-loop μ-loop
+mul-x c =
+    let x = c .before .before .before .args in
+    let o = c .before .loop in
+    omega (arith, number-small (o .i) (x .b .now) (x .at) (λ k. omega (arith, c .before .before .shared-slice-known .given k)) (omega arith), o .inv .1)
+
+add-wide : tie.Need-add-wide Inv-loop μ-loop
+add-wide c = search needs
+
+shared-slice-read-wide : tie.Need-shared-slice-read-wide Inv-loop μ-loop
+shared-slice-read-wide c = search needs
+
+wide-requires : tie.Need-wide-requires Inv-loop μ-loop
+wide-requires c κs = search needs
+
+add-x : tie.Need-add-x Inv-loop μ-loop
+add-x c =
+    let x = c .before .before .before .before .before .args in
+    let o = c .before .before .before .loop in
+    omega (arith, number-small (o .i) (x .b .now) (x .at) (λ k. omega (arith, c .before .before .before .before .shared-slice-known .given k)) (omega arith), o .inv .1, c .wide .ensures .1)
+
+add-i : tie.Need-add-i Inv-loop μ-loop
+add-i c = search needs
+
+loop-less : tie.Need-loop-less Inv-loop μ-loop
+loop-less c = search needs
+
+loop-again : tie.Need-loop-again Inv-loop μ-loop
+loop-again c =
+    let x = c .before .before .before .before .before .args in
+    let o = c .before .before .before .loop in
+    (omega arith, omega (arith, number-more (o .i) (x .b .now) (x .at), o .inv .1, c .wide .ensures .0))
+
+returns : tie.Need-returns Inv-loop μ-loop
+returns c =
+    let x = c .before .before .before .args in
+    let o = c .before .loop in
+    let e : o .i ≡ x .width = omega arith in
+    let v : o .x ≡ number (x .width) (x .b .now) (x .at) = rw e at (o .inv .1) in
+    (v, omega (arith, v, number-below (x .width) (x .b .now) (x .at) (λ k. omega (arith, c .before .before .shared-slice-known .given k))))
+
+pub read-pointer-spec : {M : Type 1} → statement M
+read-pointer-spec =
+    tie.close
+    (tie.spec
+    Inv-loop
+    μ-loop
+    loop-holds
+    mul-x
+    add-wide
+    shared-slice-read-wide
+    wide-requires
+    add-x
+    add-i
+    loop-less
+    loop-again
+    returns)

@@ -1,0 +1,19 @@
+-- Choosing by a test: the small words that every definition of the register is made of.
+use mathlib.Core.Bool.{Bool, true, false}
+
+-- the first where the test holds, else the second
+abbrev pub pick : {A : Type 0} → Bool → A → A → A
+pick true a b = a
+pick false a b = b
+
+abbrev pub both : Bool → Bool → Bool
+both true b = b
+both false b = false
+
+abbrev pub either : Bool → Bool → Bool
+either true b = true
+either false b = b
+
+abbrev pub no : Bool → Bool
+no true = false
+no false = true

@@ -1,0 +1,140 @@
+// Numbers and parts of byte lists: what every layout is read and written by.
+ghost use mathlib.Core.Path.{_≡_};
+ghost use Prim.Native.Nat.{ℕ, _+_, _-_, _*_, _^_, _≤_, _<_};
+ghost use mathlib.Core.Logic.{_⊎_};
+ghost use lib.ListN.{length, replicate};
+ghost use Rattle.fields.specs.Bytes.{number, digits, splice};
+ghost use Rattle.fields.specs.Order.{orderOf, common};
+
+// How one byte list stands to another.
+pub enum Order {
+    Less,
+    Same,
+    Greater,
+}
+
+pub(crate) fn wide(x: u8) -> usize
+    ensures { λ r. ⌜ (r ≡ x) × (r < 256) ⌝ }
+{
+    x as usize
+}
+
+// The number in two bytes.
+pub fn read_two(b: &[u8], at: usize) -> usize
+    requires { ⌜ at + 2 ≤ length (now b) ⌝ }
+    ensures { λ r. ⌜ (r ≡ number 2 (now (b .entry)) at) × (r < 65536) ⌝ }
+{
+    let high = wide(b[at]);
+    let low = wide(b[at + 1]);
+    high * 256 + low
+}
+
+// The number in four bytes.
+pub fn read_four(b: &[u8], at: usize) -> usize
+    requires { ⌜ at + 4 ≤ length (now b) ⌝ }
+    ensures { λ r. ⌜ (r ≡ number 4 (now (b .entry)) at) × (r < 4294967296) ⌝ }
+{
+    read_two(b, at) * 65536 + read_two(b, at + 2)
+}
+
+// The number in `width` bytes: a pointer.
+pub fn read_pointer(b: &[u8], at: usize, width: usize) -> usize
+    requires { ⌜ (width ≤ 4) × (at + width ≤ length (now b)) ⌝ }
+    ensures { λ r. ⌜ (r ≡ number width (now (b .entry)) at) × (r < 256 ^ width) ⌝ }
+{
+    let mut x: usize = 0;
+    let mut i: usize = 0;
+    while i < width {
+        x = x * 256 + wide(b[at + i]);
+        i += 1;
+    }
+    x
+}
+
+// Stores a number in two bytes.
+pub fn write_two(b: &mut [u8], at: usize, x: usize)
+    requires { ⌜ (at + 2 ≤ length (now b)) × (x < 65536) ⌝ }
+    ensures { λ _. ⌜ now (b .exit) ≡ splice (now (b .entry)) at (digits 2 x) ⌝ }
+{
+    b[at] = (x / 256) as u8;
+    b[at + 1] = (x % 256) as u8;
+}
+
+// Stores a number in `width` bytes, the last byte first: a pointer.
+pub fn write_pointer(b: &mut [u8], at: usize, width: usize, x: usize)
+    requires { ⌜ (width ≤ 4) × (at + width ≤ length (now b)) ⌝ }
+    ensures { λ _. ⌜ now (b .exit) ≡ splice (now (b .entry)) at (digits width x) ⌝ }
+{
+    let mut left = x;
+    let mut i = width;
+    while 0 < i {
+        i -= 1;
+        b[at + i] = (left % 256) as u8;
+        left = left / 256;
+    }
+}
+
+// How many first bytes two parts have in common.
+pub fn common_front(a: &[u8], b: &[u8]) -> usize
+    ensures { λ r. ⌜ (r ≡ common (now (a .entry)) (now (b .entry))) × (r ≤ length (now (a .entry))) × (r ≤ length (now (b .entry))) ⌝ }
+{
+    let n = shorter(a.len(), b.len());
+    let mut i = 0;
+    while i < n {
+        if a[i] != b[i] {
+            return i;
+        }
+        i += 1;
+    }
+    n
+}
+
+pub(crate) fn shorter(a: usize, b: usize) -> usize
+    ensures { λ r. ⌜ (r ≤ a) × (r ≤ b) × ((r ≡ a) ⊎ (r ≡ b)) ⌝ }
+{
+    if a < b { a } else { b }
+}
+
+// How the part a stands to the part b: the first byte in which they differ decides.
+pub fn compare(a: &[u8], b: &[u8]) -> Order
+    ensures { λ r. ⌜ r ≡ orderOf (now (a .entry)) (now (b .entry)) ⌝ }
+{
+    let i = common_front(a, b);
+    if a.len() <= i {
+        if b.len() <= i {
+            return Order::Same;
+        }
+        return Order::Less;
+    }
+    if b.len() <= i {
+        return Order::Greater;
+    }
+    if a[i] < b[i] {
+        return Order::Less;
+    }
+    Order::Greater
+}
+
+// Stores a run of bytes from a place on.
+pub fn copy(b: &mut [u8], at: usize, new: &[u8])
+    requires { ⌜ at + length (now new) ≤ length (now b) ⌝ }
+    ensures { λ _. ⌜ now (b .exit) ≡ splice (now (b .entry)) at (now (new .entry)) ⌝ }
+{
+    let mut i = new.len();
+    while 0 < i {
+        i -= 1;
+        b[at + i] = new[i];
+    }
+}
+
+// Stores one byte from one place to another.
+pub fn fill(b: &mut [u8], from: usize, to: usize, byte: u8)
+    requires { ⌜ (from ≤ to) × (to ≤ length (now b)) ⌝ }
+    ensures { λ _. ⌜ now (b .exit) ≡ splice (now (b .entry)) from (replicate (to - from) byte) ⌝ }
+{
+    let mut i = to;
+    while from < i {
+        i -= 1;
+        b[i] = byte;
+    }
+}

@@ -1,0 +1,113 @@
+// The measures of an area: which sizes are permitted, and refusal 1.
+ghost use mathlib.Core.Path.{_≡_};
+ghost use lib.ListN.{length};
+ghost use Rattle.measures.specs.Sizes.{permittedSize};
+ghost use Rattle.measures.specs.Judgement.{judgedOf};
+
+// What every definition and function below the requests goes by. `least` is the shortest record.
+pub struct Measures {
+    pub size: usize,
+    pub offset: usize,
+    pub key: usize,
+    pub least: usize,
+    pub most: usize,
+}
+
+pub enum Judged {
+    Fine { measures: Measures, count: usize },
+    Outside,
+}
+
+// The most data intervals that one control area has.
+pub const LIMIT: usize = 256;
+
+// Source document 001, chapter 6.
+const SIZES: [usize; 28] = [
+    512,
+    1024,
+    1536,
+    2048,
+    2560,
+    3072,
+    3584,
+    4096,
+    4608,
+    5120,
+    5632,
+    6144,
+    6656,
+    7168,
+    7680,
+    8192,
+    10240,
+    12288,
+    14336,
+    16384,
+    18432,
+    20480,
+    22528,
+    24576,
+    26624,
+    28672,
+    30720,
+    32768,
+];
+
+// Whether an interval may have this size.
+pub fn permitted(size: usize) -> bool
+    ensures { λ r. ⌜ r ≡ permittedSize size ⌝ }
+{
+    let mut i: usize = 0;
+    while i < 28 {
+        if SIZES[i] == size {
+            return true;
+        }
+        i += 1;
+    }
+    false
+}
+
+// Refusal 1: whether the four measures and the buffer's length are what document 01 allows, with the number of data intervals.
+// The size is judged before anything is divided by it, and sums are taken only of what is known to be small.
+pub fn judge(size: usize, offset: usize, key: usize, most: usize, length: usize) -> Judged
+    ensures { λ r. ⌜ r ≡ judgedOf size offset key most length ⌝ }
+{
+    if !permitted(size) {
+        return Judged::Outside;
+    }
+    if key < 1 {
+        return Judged::Outside;
+    }
+    if 255 < key {
+        return Judged::Outside;
+    }
+    if size - 7 < most {
+        return Judged::Outside;
+    }
+    if most < key {
+        return Judged::Outside;
+    }
+    if most - key < offset {
+        return Judged::Outside;
+    }
+    if length % size != 0 {
+        return Judged::Outside;
+    }
+    let whole = length / size;
+    if whole < 2 {
+        return Judged::Outside;
+    }
+    if LIMIT + 1 < whole {
+        return Judged::Outside;
+    }
+    Judged::Fine {
+        measures: Measures {
+            size,
+            offset,
+            key,
+            least: offset + key,
+            most,
+        },
+        count: whole - 1,
+    }
+}
