@@ -1,0 +1,40 @@
+-- Laws of records laid one after another, and of cutting them apart.
+use Prim.Native.Nat.{ℕ, _+_, _-_, _≤_}
+use mathlib.Core.Path.{_≡_, refl, ap}
+use mathlib.Core.List.{List, [], _∷_, _++_, map, append-assoc, append-nil}
+use lib.ListN.{length, take, drop, length-append, length-drop}
+use lib.Seq.{take-append-seam, drop-append-seam, length-take-le, take-add}
+use native.Mathlib.Omega.{arith}
+use Rattle.room.specs.Room.{sum}
+use Rattle.interval.specs.Records.{concat}
+use Rattle.interval.specs.Reading.{cut}
+
+-- the lengths of records add up to the length of all their bytes
+pub sum-lengths : (rs : List (List ℕ)) → sum (map length rs) ≡ length (concat rs)
+unfolding sum concat
+sum-lengths [] = refl
+sum-lengths (r ∷ rs) = simp (length-append, sum-lengths rs)
+
+-- records laid one after another, whatever follows them, are cut apart again by their lengths
+pub cut-front : (rs : List (List ℕ)) (x : List ℕ) → cut (concat rs ++ x) (map length rs) ≡ rs
+unfolding cut concat
+cut-front [] x = refl
+cut-front (r ∷ rs) x =
+    simp (append-assoc, take-append-seam, drop-append-seam) (ap (λ (l : List (List ℕ)). r ∷ l) (cut-front rs x))
+
+-- cutting undoes laying one after another
+pub cut-concat : (rs : List (List ℕ)) → cut (concat rs) (map length rs) ≡ rs
+cut-concat rs = rw append-nil at (cut-front rs [])
+
+-- the pieces one after another are the bytes that they were cut from
+pub concat-cut : (b ls : List ℕ) → sum ls ≤ length b → concat (cut b ls) ≡ take (sum ls) b
+unfolding cut concat sum
+concat-cut b [] h = refl
+concat-cut b (l ∷ ls) h = rw (take-add l (sum ls) b, concat-cut (drop l b) ls (simp length-drop (omega arith)))
+
+-- the pieces have the lengths that were asked for
+pub map-length-cut : (b ls : List ℕ) → sum ls ≤ length b → map length (cut b ls) ≡ ls
+unfolding cut sum
+map-length-cut b [] h = refl
+map-length-cut b (l ∷ ls) h =
+    rw (length-take-le l b (omega arith), map-length-cut (drop l b) ls (simp length-drop (omega arith)))

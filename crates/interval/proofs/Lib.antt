@@ -1,0 +1,9 @@
+pub mod Cutting
+pub mod Groups
+pub mod Written
+pub mod Forward
+pub mod Backward
+pub mod Octets
+pub mod Form
+pub mod Unsound
+pub mod Vectors

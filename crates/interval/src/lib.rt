@@ -1,0 +1,1 @@
+// One data interval: its layout, its reading, and the laws between them.

@@ -1,0 +1,66 @@
+-- What the first group of some RDFs says of them all.
+use Prim.Native.Nat.{ℕ, zero, suc, _+_, _-_, _*_, _≤_, _<_}
+use mathlib.Core.Path.{_≡_, refl, _∙_, sym, ap}
+use mathlib.Core.Bool.{Bool, true, false}
+use mathlib.Core.List.{List, [], _∷_, _++_}
+use lib.ListN.{length, drop, replicate, getD}
+use Rattle.fields.specs.Bytes.{number}
+use lib.Dec.{eqb, leb}
+use Rattle.fields.proofs.Choices.{both-false}
+use Rattle.interval.specs.Reading.{Rdf, wellFormed, paired, lengths, repeated, rdfs}
+use Rattle.interval.specs.Records.{within}
+use Rattle.room.specs.Room.{sum}
+use Rattle.fields.specs.Choice.{pick, both}
+use Rattle.rdf.proofs.Rdfs.{rdfs-cons, rdfs-drop, sum-run, length-run}
+use Rattle.rdf.specs.Front.{frontOf, pairOf}
+use Rattle.rdf.specs.declared.Front.{Front}
+use Rattle.rdf.specs.declared.Front.the-variants.{Run, Damaged}
+
+abbrev pub FrontLaw : ℕ → ℕ → Front → List Rdf → Type 0
+FrontLaw least most (Run l c k) rs = (wellFormed least most rs ≡ wellFormed least most (drop k rs)) × (lengths rs ≡ replicate c l ++ lengths (drop k rs))
+FrontLaw least most Damaged rs = wellFormed least most rs ≡ false
+
+pub front : (least most : ℕ) (r : Rdf) (rs : List Rdf) → FrontLaw least most (frontOf least most (r ∷ rs)) (r ∷ rs)
+unfolding wellFormed lengths
+front least most r [] = go (within least most (r .num)) (eqb (r .control) 0) (eqb (r .control) 64) refl refl refl
+  where
+    go : (w a b : Bool) → within least most (r .num) ≡ w → eqb (r .control) 0 ≡ a → eqb (r .control) 64 ≡ b
+        → FrontLaw least most (pick w (pick a (Run (r .num) 1 1) (pick b Damaged Damaged)) Damaged) (r ∷ [])
+    go true true b e f g = (rw (f, e), rw f)
+    go true false true e f g = rw (f, g, e)
+    go true false false e f g = rw (f, g)
+    go false true b e f g = rw (f, e)
+    go false false b e f g = rw (f, e) (both-false (eqb (r .control) 64))
+front least most r (q ∷ qs) = go (within least most (r .num)) (eqb (r .control) 0) (eqb (r .control) 64) (eqb (q .control) 8) (leb 2 (q .num)) refl refl refl refl refl
+  where
+    go : (w a b x y : Bool) → within least most (r .num) ≡ w → eqb (r .control) 0 ≡ a → eqb (r .control) 64 ≡ b → eqb (q .control) 8 ≡ x → leb 2 (q .num) ≡ y
+        → FrontLaw least most (pick w (pick a (Run (r .num) 1 1) (pick b (pick (both x y) (Run (r .num) (q .num) 2) Damaged) Damaged)) Damaged) (r ∷ q ∷ qs)
+    go true true b x y e f g h i = (rw (f, e), rw f)
+    go true false true true true e f g h i = (rw (f, g, e, h, i), rw f)
+    go true false true true false e f g h i = rw (f, g, e, h, i)
+    go true false true false y e f g h i = rw (f, g, e, h)
+    go true false false x y e f g h i = rw (f, g)
+    go false true b x y e f g h i = rw (f, e)
+    go false false b x y e f g h i = rw (f, e) (both-false (eqb (r .control) 64))
+
+-- the same of the n RDFs from place p on, as a walk asks it
+module _ (b : List ℕ) (p n least most : ℕ) (some : 0 < n) where
+  there : FrontLaw least most (frontOf least most (rdfs b p n)) (rdfs b p n)
+  there =
+      rw (rdfs-cons b p n some)
+      (front least most (record { control = getD b (p + 3 * (n - 1)) 0; num = number 2 b (p + 3 * (n - 1) + 1) }) (rdfs b p (n - 1)))
+
+  pub stops : Damaged ≡ frontOf least most (rdfs b p n) → wellFormed least most (rdfs b p n) ≡ false
+  stops e = rw (sym e) at there
+
+  pub record Step (l c k : ℕ) : Type 0 where
+    pub list : lengths (rdfs b p n) ≡ replicate c l ++ lengths (rdfs b p (n - k))
+    pub formed : wellFormed least most (rdfs b p n) ≡ wellFormed least most (rdfs b p (n - k))
+    pub total : sum (lengths (rdfs b p n)) ≡ l * c + sum (lengths (rdfs b p (n - k)))
+    pub count : length (lengths (rdfs b p n)) ≡ c + length (lengths (rdfs b p (n - k)))
+
+  pub steps : (l c k : ℕ) → Run l c k ≡ frontOf least most (rdfs b p n) → k ≤ n → Step l c k
+  steps l c k e h =
+      let f : FrontLaw least most (Run l c k) (rdfs b p n) = rw (sym e) at there in
+      let g = rw (rdfs-drop b p n k h) at f in
+      record { list = g .1; formed = g .0; total = rw (g .1) (sum-run c l _); count = rw (g .1) (length-run c l _) }

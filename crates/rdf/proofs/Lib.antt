@@ -1,0 +1,4 @@
+pub mod Controls
+pub mod Rdfs
+pub mod Fronts
+pub mod Unique
