@@ -2,6 +2,7 @@ pub mod Choices
 pub mod Splices
 pub mod Numbers
 pub mod Orders
+pub mod Answers
 pub mod Fronts
 pub mod Tables
 pub mod Masks

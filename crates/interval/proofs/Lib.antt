@@ -7,3 +7,4 @@ pub mod Octets
 pub mod Form
 pub mod Unsound
 pub mod Vectors
+pub mod Keys

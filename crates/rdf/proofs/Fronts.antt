@@ -6,7 +6,9 @@ use mathlib.Core.List.{List, [], _∷_, _++_}
 use lib.ListN.{length, drop, replicate, getD}
 use Rattle.fields.specs.Bytes.{number}
 use lib.Dec.{eqb, leb}
-use Rattle.fields.proofs.Choices.{both-false}
+use Rattle.fields.proofs.Choices.{both-false, both-split}
+use borrow.Author.Tests.{leb-true}
+use native.Mathlib.Omega.{arith}
 use Rattle.interval.specs.Reading.{Rdf, wellFormed, paired, lengths, repeated, rdfs}
 use Rattle.interval.specs.Records.{within}
 use Rattle.room.specs.Room.{sum}
@@ -64,3 +66,30 @@ module _ (b : List ℕ) (p n least most : ℕ) (some : 0 < n) where
       let f : FrontLaw least most (Run l c k) (rdfs b p n) = rw (sym e) at there in
       let g = rw (rdfs-drop b p n k h) at f in
       record { list = g .1; formed = g .0; total = rw (g .1) (sum-run c l _); count = rw (g .1) (length-run c l _) }
+
+run-len : (n l c u k : ℕ) (b : Bool) → Run l c u ≡ pick b (Run n k 2) Damaged → l ≡ n
+run-len n l c u k true e = cc
+run-len n l c u k false e = absurd (let z : _≡_ {A = ℕ} 0 1 = cc in omega arith)
+
+pair-len : (n : ℕ) (rs : List Rdf) (l c u : ℕ) → Run l c u ≡ pairOf n rs → l ≡ n
+pair-len n [] l c u e = absurd (let z : _≡_ {A = ℕ} 0 1 = cc in omega arith)
+pair-len n (q ∷ qs) l c u e = run-len n l c u (q .num) (both (eqb (q .control) 8) (leb 2 (q .num))) e
+
+-- a group's length is one that is allowed
+pub front-within : (least most : ℕ) (rs : List Rdf) (l c u : ℕ) → Run l c u ≡ frontOf least most rs → (least ≤ l) × (l ≤ most)
+front-within least most [] l c u e = absurd (let z : _≡_ {A = ℕ} 0 1 = cc in omega arith)
+front-within least most (r ∷ rs) l c u e = go (within least most (r .num)) (eqb (r .control) 0) (eqb (r .control) 64) refl e
+  where
+    fine : within least most (r .num) ≡ true → l ≡ r .num → (least ≤ l) × (l ≤ most)
+    fine w e =
+        let s = both-split (leb least (r .num)) (leb (r .num) most) w in
+        let p = leb-true least (r .num) (s .0) in
+        let q = leb-true (r .num) most (s .1) in
+        (omega arith, omega arith)
+
+    go : (w a b : Bool) → within least most (r .num) ≡ w
+        → Run l c u ≡ pick w (pick a (Run (r .num) 1 1) (pick b (pairOf (r .num) rs) Damaged)) Damaged → (least ≤ l) × (l ≤ most)
+    go true true b w e = fine w (cc)
+    go true false true w e = fine w (pair-len (r .num) rs l c u e)
+    go true false false w e = absurd (let z : _≡_ {A = ℕ} 0 1 = cc in omega arith)
+    go false a b w e = absurd (let z : _≡_ {A = ℕ} 0 1 = cc in omega arith)

@@ -1,0 +1,78 @@
+-- A division keeps all rules of the index record, into two parts and into three: document 01, 'Dividing an interval'.
+use Prim.Native.Nat.{ℕ}
+use mathlib.Core.Path.{_≡_, refl, _∙_, sym}
+use mathlib.Core.Bool.{Bool, true, false}
+use mathlib.Core.List.{List, [], _∷_, _++_, append-assoc}
+use lib.ListN.{length}
+use Rattle.fields.specs.Bytes.{Octets}
+use Rattle.fields.specs.Order.{less}
+use Rattle.fields.proofs.Choices.{false-true}
+use Rattle.fields.proofs.Orders.{less-trans}
+use Rattle.index.specs.Bounds.{bound, cutSeparator}
+use Rattle.index.specs.Meaning.{Entry, Meaning, numbers, namedOnce}
+use Rattle.index.specs.Rules.{keepsRules, boundBefore}
+use Rattle.index.proofs.Naming.{named-insert, numbers-append}
+use Rattle.index.proofs.Keeping.{rules-apart, rules-together}
+use Rattle.index.proofs.Cutting.{cut-below}
+use Rattle.index.proofs.Inserting.{entry, cut-insert, closed-insert, before-snoc}
+
+-- a meaning in which an entry and the rightmost free number stand out, and what a cut makes of it
+abbrev pub ready : List ℕ → ℕ → List ℕ → ℕ → List Entry → Entry → List Entry → Meaning
+ready kept spare free a pre e post = record { kept = kept; spare = spare; free = free ++ (a ∷ []); entries = pre ++ (e ∷ post) }
+
+abbrev pub divided : List ℕ → ℕ → List ℕ → ℕ → List Entry → Entry → List Entry → List ℕ → Meaning
+divided kept spare free a pre e post s =
+    record { kept = kept; spare = spare; free = free; entries = pre ++ (entry s (e .num) ∷ entry (e .sep) a ∷ post) }
+
+-- what is at most b and above a makes a at most b
+at-most : (b x y : List ℕ) → less x y ≡ true → less b y ≡ false → less b x ≡ false
+at-most b x y l h = go (less b x) refl
+  where
+    go : (t : Bool) → less b x ≡ t → t ≡ false
+    go false e = refl
+    go true e = absurd (false-true (sym h ∙ less-trans b x y e l))
+
+module _ (S K n : ℕ) (low end kept : List ℕ) (spare : ℕ) where
+  -- A division into two keeps all rules: the old interval gets the cut's separator, the rightmost free number the old one.
+  pub divided-keeps : (free : List ℕ) (a : ℕ) (pre : List Entry) (e : Entry) (post : List Entry) (left right : List ℕ)
+      → length left ≡ K → length right ≡ K → Octets left → Octets right → less left right ≡ true
+      → less (boundBefore K low pre) left ≡ true → less (bound K (e .sep)) right ≡ false
+      → keepsRules S K n low end (ready kept spare free a pre e post) ≡ true
+      → keepsRules S K n low end (divided kept spare free a pre e post (cutSeparator left right)) ≡ true
+  divided-keeps free a pre e post left right la lb oa ob ab above within h =
+      let k = rules-apart S K n low end (ready kept spare free a pre e post) h in
+      let s : List ℕ = cutSeparator left right in
+      let q : namedOnce n ((free ++ (a ∷ [])) ++ (numbers pre ++ (e .num ∷ numbers post))) ≡ true = rw numbers-append at (k .naming) in
+      let p : namedOnce n (free ++ (numbers pre ++ (e .num ∷ a ∷ numbers post))) ≡ true = sym (named-insert free (numbers pre) (numbers post) a (e .num) n) ∙ q in
+      rules-together S K n low end (divided kept spare free a pre e post s)
+      (record {
+        base = k .base;
+        rising = cut-insert K low pre left right (e .num) a e post la lb oa ob ab above within (k .rising);
+        closing = closed-insert end pre s (e .num) a e post (k .closing);
+        naming = rw (numbers-append pre (entry s (e .num) ∷ entry (e .sep) a ∷ post)) p;
+      })
+
+  -- A division into three keeps them as well: the middle part, one record with the key middle, takes the rightmost free number b, the last part the one before it, a.
+  pub divided-twice-keeps : (free : List ℕ) (a b : ℕ) (pre : List Entry) (e : Entry) (post : List Entry) (left middle right : List ℕ)
+      → length left ≡ K → length middle ≡ K → length right ≡ K → Octets left → Octets middle → Octets right → less left middle ≡ true → less middle right ≡ true
+      → less (boundBefore K low pre) left ≡ true → less (bound K (e .sep)) right ≡ false
+      → keepsRules S K n low end (ready kept spare (free ++ (a ∷ [])) b pre e post) ≡ true
+      → keepsRules S K n low end
+      (record {
+        kept = kept;
+        spare = spare;
+        free = free;
+        entries = pre ++ (entry (cutSeparator left middle) (e .num) ∷ entry (cutSeparator middle right) b ∷ entry (e .sep) a ∷ post);
+      })
+      ≡ true
+  divided-twice-keeps free a b pre e post left middle right ll lm lr ol om or lm< mr< above within h =
+      let f : Entry = entry (cutSeparator left middle) (e .num) in
+      let g : Entry = entry (e .sep) b in
+      let q : keepsRules S K n low end (divided kept spare (free ++ (a ∷ [])) b pre e post (cutSeparator left middle)) ≡ true =
+      divided-keeps (free ++ (a ∷ [])) b pre e post left middle ll lm ol om lm< above (at-most (bound K (e .sep)) middle right mr< within) h in
+      let p : pre ++ (f ∷ g ∷ post) ≡ (pre ++ (f ∷ [])) ++ (g ∷ post) = simp append-assoc in
+      let i : keepsRules S K n low end (ready kept spare free a (pre ++ (f ∷ [])) g post) ≡ true = rw p at q in
+      let j : less (boundBefore K low (pre ++ (f ∷ []))) middle ≡ true = rw (before-snoc K low pre f) (cut-below K left middle ll lm lm<) in
+      let z : keepsRules S K n low end (divided kept spare free a (pre ++ (f ∷ [])) g post (cutSeparator middle right)) ≡ true =
+      divided-keeps free a (pre ++ (f ∷ [])) g post middle right lm lr om or mr< j within i in
+      rw append-assoc at z

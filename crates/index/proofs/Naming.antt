@@ -1,0 +1,147 @@
+-- Naming by counts: where each number below n is named once, and no other, there are n of them; and a free number may go to an entry.
+use Prim.Native.Nat.{ℕ, zero, suc, _+_, _≤_, _<_}
+use mathlib.Core.Path.{_≡_, refl, _∙_, sym}
+use mathlib.Core.Bool.{Bool, true, false}
+use mathlib.Core.List.{List, [], _∷_, _++_}
+use mathlib.Core.Logic.{⊎-elim}
+use lib.ListN.{length, length-append}
+use lib.Dec.{eqb, ltb}
+use native.Mathlib.Omega.{arith}
+use native.Mathlib.Nat.{not-suc-le-zero, le-of-suc-le-suc, eq-or-lt-of-le}
+use borrow.Author.Tests.{eqb-true, ltb-true, eq-eqb, ne-eqb}
+use Rattle.fields.specs.Choice.{pick, both}
+use Rattle.fields.proofs.Choices.{both-split}
+use Rattle.index.specs.Meaning.{Entry, Meaning, numbers, named, count, below, once, namedOnce}
+
+pub count-same : (k x : ℕ) (xs : List ℕ) → x ≡ k → count k (x ∷ xs) ≡ count k xs + 1
+unfolding count
+count-same k x xs e = rw (eq-eqb x k e)
+
+pub count-other : (k x : ℕ) (xs : List ℕ) → (x ≡ k → ⊥) → count k (x ∷ xs) ≡ count k xs
+unfolding count
+count-other k x xs e = rw (ne-eqb x k e)
+
+-- the counts of all numbers below n, added up
+unfoldable total : List ℕ → ℕ → ℕ
+total xs zero = 0
+total xs (suc k) = count k xs + total xs k
+
+total-nil : (n : ℕ) → total [] n ≡ 0
+unfolding total count
+total-nil zero = refl
+total-nil (suc n) = omega (arith, total-nil n)
+
+total-out : (x : ℕ) (xs : List ℕ) (n : ℕ) → n ≤ x → total (x ∷ xs) n ≡ total xs n
+unfolding total
+total-out x xs zero h = refl
+total-out x xs (suc n) h = rw (total-out x xs n (omega arith), count-other n x xs (omega arith))
+
+total-cons : (x : ℕ) (xs : List ℕ) (n : ℕ) → x < n → total (x ∷ xs) n ≡ suc (total xs n)
+unfolding total
+total-cons x xs zero h = absurd (not-suc-le-zero h)
+total-cons x xs (suc n) h = ⊎-elim (λ (p : x ≡ n). same p) (λ (l : x < n). other l (total-cons x xs n l)) (eq-or-lt-of-le (le-of-suc-le-suc h))
+  where
+    same : x ≡ n → count n (x ∷ xs) + total (x ∷ xs) n ≡ suc (count n xs + total xs n)
+    same p = rw (count-same n x xs p, total-out x xs n (omega arith)) (omega arith)
+
+    other : x < n → total (x ∷ xs) n ≡ suc (total xs n) → count n (x ∷ xs) + total (x ∷ xs) n ≡ suc (count n xs + total xs n)
+    other l i = rw (count-other n x xs (omega arith), i) (omega arith)
+
+below-total : (n : ℕ) (xs : List ℕ) → below n xs ≡ true → total xs n ≡ length xs
+unfolding below
+below-total n [] e = total-nil n
+below-total n (x ∷ xs) e =
+    let s = both-split (ltb x n) (below n xs) e in
+    total-cons x xs n (ltb-true x n (s .0)) ∙ rw (below-total n xs (s .1))
+
+once-total : (xs : List ℕ) (n : ℕ) → once xs n ≡ true → total xs n ≡ n
+unfolding once total
+once-total xs zero e = refl
+once-total xs (suc n) e =
+    let s = both-split (eqb (count n xs) 1) (once xs n) e in
+    rw (once-total xs n (s .1), eqb-true (count n xs) 1 (s .0)) (omega arith)
+
+-- Where each number below n is named once, and no other, as many numbers occur as there are intervals.
+pub named-length : (n : ℕ) (xs : List ℕ) → namedOnce n xs ≡ true → length xs ≡ n
+unfolding namedOnce
+named-length n xs e =
+    let s = both-split (below n xs) (once xs n) e in
+    sym (below-total n xs (s .0)) ∙ once-total xs n (s .1)
+
+pub length-numbers : (es : List Entry) → length (numbers es) ≡ length es
+length-numbers [] = refl
+length-numbers (e ∷ es) = rw (length-numbers es)
+
+-- Free numbers and entries are together as many as there are intervals.
+pub free-and-used : (n : ℕ) (m : Meaning) → namedOnce n (named m) ≡ true → length (m .free) + length (m .entries) ≡ n
+free-and-used n m e = omega (arith, named-length n (named m) e, length-append (m .free) (numbers (m .entries)), length-numbers (m .entries))
+
+-- and each of them is below n
+pub named-below : (n : ℕ) (xs : List ℕ) → namedOnce n xs ≡ true → below n xs ≡ true
+unfolding namedOnce
+named-below n xs e = both-split (below n xs) (once xs n) e .0
+
+pub below-append : (n : ℕ) (xs ys : List ℕ) → below n (xs ++ ys) ≡ both (below n xs) (below n ys)
+unfolding below
+below-append n [] ys = refl
+below-append n (x ∷ xs) ys = rw (below-append n xs ys) (go (ltb x n))
+  where
+    go : (t : Bool) → both t (both (below n xs) (below n ys)) ≡ both (both t (below n xs)) (below n ys)
+    go true = refl
+    go false = refl
+
+-- ---- a number goes from the free ones to the entries
+
+abbrev unit : ℕ → ℕ → ℕ
+unit k x = pick (eqb x k) 1 0
+
+count-cons : (k x : ℕ) (xs : List ℕ) → count k (x ∷ xs) ≡ unit k x + count k xs
+unfolding count
+count-cons k x xs = go (eqb x k)
+  where
+    go : (t : Bool) → pick t (count k xs + 1) (count k xs) ≡ pick t 1 0 + count k xs
+    go true = omega arith
+    go false = omega arith
+
+count-none : (k : ℕ) → count k [] ≡ 0
+unfolding count
+count-none k = refl
+
+count-append : (k : ℕ) (xs ys : List ℕ) → count k (xs ++ ys) ≡ count k xs + count k ys
+count-append k [] ys = omega (arith, count-none k)
+count-append k (x ∷ xs) ys = omega (arith, count-cons k x xs, count-cons k x (xs ++ ys), count-append k xs ys)
+
+once-same : (xs ys : List ℕ) (n : ℕ) → ((k : ℕ) → count k xs ≡ count k ys) → once xs n ≡ once ys n
+unfolding once
+once-same xs ys zero h = refl
+once-same xs ys (suc n) h = rw (h n, once-same xs ys n h)
+
+module _ (free pre post : List ℕ) (a x : ℕ) where
+  same-counts : (k : ℕ) → count k ((free ++ (a ∷ [])) ++ (pre ++ (x ∷ post))) ≡ count k (free ++ (pre ++ (x ∷ a ∷ post)))
+  same-counts k =
+      omega
+      (arith, count-append k (free ++ (a ∷ [])) (pre ++ (x ∷ post)), count-append k free (a ∷ []), count-append k pre (x ∷ post), count-append k free (pre ++ (x ∷ a ∷ post)), count-append k pre (x ∷ a ∷ post), count-cons k a [], count-none k, count-cons k x post, count-cons k x (a ∷ post), count-cons k a post)
+
+  same-below : (n : ℕ) → below n ((free ++ (a ∷ [])) ++ (pre ++ (x ∷ post))) ≡ below n (free ++ (pre ++ (x ∷ a ∷ post)))
+  unfolding below
+  same-below n =
+      rw (below-append n (free ++ (a ∷ [])) (pre ++ (x ∷ post)), below-append n free (a ∷ []), below-append n pre (x ∷ post), below-append n free (pre ++ (x ∷ a ∷ post)), below-append n pre (x ∷ a ∷ post)) (inner n)
+    where
+      go : (f l p y q : Bool) → both (both f (both l true)) (both p (both y q)) ≡ both f (both p (both y (both l q)))
+      go false l p y q = refl
+      go true true p y q = refl
+      go true false true true q = refl
+      go true false true false q = refl
+      go true false false y q = refl
+
+      inner : (n : ℕ) → both (both (below n free) (below n (a ∷ []))) (both (below n pre) (below n (x ∷ post))) ≡ both (below n free) (both (below n pre) (below n (x ∷ a ∷ post)))
+      inner n = go (below n free) (ltb a n) (below n pre) (ltb x n) (below n post)
+
+  -- The rightmost free number a goes to the entry after the one that keeps x: each number is still named as often.
+  pub named-insert : (n : ℕ) → namedOnce n ((free ++ (a ∷ [])) ++ (pre ++ (x ∷ post))) ≡ namedOnce n (free ++ (pre ++ (x ∷ a ∷ post)))
+  unfolding namedOnce
+  named-insert n = rw (same-below n, once-same ((free ++ (a ∷ [])) ++ (pre ++ (x ∷ post))) (free ++ (pre ++ (x ∷ a ∷ post))) n same-counts)
+
+pub numbers-append : (xs ys : List Entry) → numbers (xs ++ ys) ≡ numbers xs ++ numbers ys
+numbers-append [] ys = refl
+numbers-append (x ∷ xs) ys = rw (numbers-append xs ys)

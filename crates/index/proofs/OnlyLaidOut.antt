@@ -1,0 +1,130 @@
+-- Whatever is sound was laid out so: what is read is what the grammar lays out as just these bytes.
+use Prim.Native.Nat.{ℕ, _+_, _-_, _^_, _≤_}
+use mathlib.Core.Path.{_≡_, refl, _∙_}
+use mathlib.Core.Bool.{true}
+use mathlib.Core.List.{List, [], _∷_, _++_, append-assoc, append-nil}
+use lib.ListN.{length, drop}
+use lib.Seq.{drop-length}
+use native.Mathlib.Omega.{arith}
+use Rattle.fields.specs.Bytes.{Octets, part, digits}
+use Rattle.fields.proofs.Splices.{length-mid}
+use Rattle.index.specs.Meaning.{Meaning}
+use Rattle.index.specs.Rules.{keepsRules}
+use Rattle.index.specs.Pieces.{Piece, spell, piecesSize, oneByteEach}
+use Rattle.index.specs.Layout.{piecesBytes, freeBytes, unusedPlace, lastPlace, recordLength, header, trailer, layout, LaidOut}
+use Rattle.index.specs.Reading.{unusedAt, lastAt, freeCount, piecesIn, readIndex, soundIndex}
+use Rattle.index.proofs.Sounding.{Sound, sound-apart}
+use Rattle.index.proofs.Taking.{part-at, byte-at, field-at, length-numbersAt, free-at, pieces-at, small-at}
+
+module _ (w K n : ℕ) (low end ib : List ℕ) (o : Octets ib) (some : 31 ≤ length ib) (sound : soundIndex w K n low end ib ≡ true) where
+  s : Sound w K n low end ib
+  s = sound-apart w K n low end ib sound
+
+  abbrev S : ℕ
+  S = length ib
+
+  abbrev R : ℕ
+  R = S - 7
+
+  abbrev U : ℕ
+  U = unusedAt ib
+
+  abbrev E : ℕ
+  E = lastAt ib
+
+  abbrev ps : List Piece
+  ps = piecesIn w n ib
+
+  -- where the entries begin, and what lies left of them
+  abbrev B : ℕ
+  B = R - piecesSize w ps
+
+  abbrev gap : List ℕ
+  gap = part ib U (B - U)
+
+  abbrev m : Meaning
+  m = readIndex w n ib
+
+  length-gap : length gap ≡ B - U
+  length-gap = length-mid ib U (B - U) (omega (arith, s .placed .apart))
+
+  ended : drop S ib ≡ []
+  ended = drop-length ib
+
+  from-trailer : drop R ib ≡ trailer R
+  unfolding trailer
+  from-trailer =
+      let f = s .framed in
+      let d2 : drop (S - 2) ib ≡ digits 2 0 ++ [] = field-at 2 ib (S - 2) S 0 [] o (omega arith) (omega arith) (f .none) ended in
+      let d4 : drop (S - 4) ib ≡ digits 2 R ++ (digits 2 0 ++ []) = field-at 2 ib (S - 4) (S - 2) R _ o (omega arith) (omega arith) (f .cidf) d2 in
+      let d6 : drop (S - 6) ib ≡ digits 2 R ++ (digits 2 R ++ (digits 2 0 ++ [])) = field-at 2 ib (S - 6) (S - 4) R _ o (omega arith) (omega arith) (f .rdf-length) d4 in
+      byte-at ib R (S - 6) 0 _ (omega arith) (omega arith) (f .rdf) d6 ∙ simp append-nil
+
+  from-entries : drop B ib ≡ piecesBytes w ps ++ trailer R
+  unfolding piecesIn
+  from-entries = pieces-at w ib R (n - freeCount w ib) (trailer R) o (omega arith) (omega (arith, s .placed .apart)) from-trailer
+
+  from-unused : drop U ib ≡ gap ++ (piecesBytes w ps ++ trailer R)
+  from-unused = part-at ib U (B - U) B _ (omega (arith, s .placed .apart)) from-entries
+
+  from-free : drop 24 ib ≡ freeBytes w (m .free) ++ (gap ++ (piecesBytes w ps ++ trailer R))
+  unfolding readIndex
+  from-free = free-at w ib 24 (freeCount w ib) U _ o (s .placed .unused) (omega (arith, s .placed .apart)) from-unused
+
+  abbrev body : List ℕ
+  body = freeBytes w (m .free) ++ (gap ++ (piecesBytes w ps ++ trailer R))
+
+  from-header : ib ≡ header w m R U E ++ body
+  unfolding header readIndex
+  from-header =
+      let f = s .framed in
+      let d22 : drop 22 ib ≡ digits 2 E ++ body = field-at 2 ib 22 24 E body o refl (omega arith) (s .placed .section) from-free in
+      let d20 : drop 20 ib ≡ digits 2 E ++ (digits 2 E ++ body) = field-at 2 ib 20 22 E _ o refl (omega arith) refl d22 in
+      let d18 : drop 18 ib ≡ digits 2 U ++ (digits 2 E ++ (digits 2 E ++ body)) = field-at 2 ib 18 20 U _ o refl (omega arith) refl d20 in
+      let d17 : drop 17 ib ≡ m .spare ∷ (digits 2 U ++ (digits 2 E ++ (digits 2 E ++ body))) = byte-at ib 17 18 (m .spare) _ refl (omega arith) refl d18 in
+      let d16 : drop 16 ib ≡ 1 ∷ m .spare ∷ (digits 2 U ++ (digits 2 E ++ (digits 2 E ++ body))) = byte-at ib 16 17 1 _ refl (omega arith) (f .level) d17 in
+      let d4 : drop 4 ib ≡ m .kept ++ (1 ∷ m .spare ∷ (digits 2 U ++ (digits 2 E ++ (digits 2 E ++ body)))) = part-at ib 4 12 16 _ refl d16 in
+      let d3 : drop 3 ib ≡ (2 ^ w - 1) ∷ (m .kept ++ (1 ∷ m .spare ∷ (digits 2 U ++ (digits 2 E ++ (digits 2 E ++ body))))) =
+      byte-at ib 3 4 (2 ^ w - 1) _ refl (omega arith) (f .indicator) d4 in
+      let d2 : drop 2 ib ≡ (w + 2) ∷ (2 ^ w - 1) ∷ (m .kept ++ (1 ∷ m .spare ∷ (digits 2 U ++ (digits 2 E ++ (digits 2 E ++ body))))) =
+      byte-at ib 2 3 (w + 2) _ refl (omega arith) (f .control) d3 in
+      field-at 2 ib 0 2 R _ o refl (omega arith) (f .long) d2 ∙ simp append-assoc
+
+  -- the fields are what the lengths of what lies there make them
+  free-many : length (m .free) ≡ freeCount w ib
+  unfolding readIndex
+  free-many = length-numbersAt w ib 24 (freeCount w ib)
+
+  unused-is : unusedPlace w m ≡ U
+  unused-is = rw free-many (s .placed .unused)
+
+  last-is : lastPlace w m gap ps ≡ E
+  last-is = omega (arith, unused-is, length-gap, s .placed .apart, s .placed .last)
+
+  record-is : recordLength w m gap ps ≡ R
+  record-is = omega (arith, unused-is, length-gap, s .placed .apart)
+
+  laid : ib ≡ layout w m gap ps
+  unfolding layout
+  laid = rw (record-is, last-is, unused-is) from-header
+
+  small : oneByteEach ps ≡ true
+  unfolding piecesIn
+  small = small-at w ib R (n - freeCount w ib) o
+
+  twelve : length (m .kept) ≡ 12
+  unfolding readIndex
+  twelve = length-mid ib 4 12 (omega arith)
+
+  spells : spell [] ps ≡ m .entries
+  unfolding readIndex
+  spells = refl
+
+  -- Bytes that are called sound were laid out as what they are read as.
+  pub index-only-laid-out : LaidOut w (length ib) (readIndex w n ib) ib
+  index-only-laid-out =
+      record { pieces = ps; gap = gap; twelve = twelve; fits = s .fronts; small = small; spells = spells; bytes = laid; size = refl }
+
+  -- And what they are read as keeps the rules.
+  pub index-keeps-rules : keepsRules (length ib) K n low end (readIndex w n ib) ≡ true
+  index-keeps-rules = s .rules

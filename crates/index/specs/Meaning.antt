@@ -1,0 +1,46 @@
+-- What an index record means, and the naming of intervals: document 01, 'Index record'.
+use Prim.Native.Nat.{ℕ, zero, suc, _+_}
+use mathlib.Core.Bool.{Bool, true}
+use mathlib.Core.List.{List, [], _∷_, _++_}
+use lib.Dec.{eqb, ltb}
+use Rattle.fields.specs.Choice.{pick, both}
+
+-- An entry: its separator in full, and the number of its data interval.
+pub record Entry : Type 0 where
+  pub sep : List ℕ
+  pub num : ℕ
+
+-- The header bytes that are kept as found (base RBA, horizontal pointer and reserved bytes, 4 to 15; reserved byte 17), the free
+-- numbers from left to right, and the entries in their order, the first being the one against the RDF.
+pub record Meaning : Type 0 where
+  pub kept : List ℕ
+  pub spare : ℕ
+  pub free : List ℕ
+  pub entries : List Entry
+
+abbrev pub numbers : List Entry → List ℕ
+numbers [] = []
+numbers (e ∷ es) = e .num ∷ numbers es
+
+-- every number that occurs: the free ones, then those of the entries
+abbrev pub named : Meaning → List ℕ
+named m = m .free ++ numbers (m .entries)
+
+-- how often a number stands in a list
+unfoldable pub count : ℕ → List ℕ → ℕ
+count k [] = 0
+count k (x ∷ xs) = pick (eqb x k) (count k xs + 1) (count k xs)
+
+-- every number of the list is below n
+unfoldable pub below : ℕ → List ℕ → Bool
+below n [] = true
+below n (x ∷ xs) = both (ltb x n) (below n xs)
+
+-- every number below n stands in the list once
+unfoldable pub once : List ℕ → ℕ → Bool
+once xs zero = true
+once xs (suc k) = both (eqb (count k xs) 1) (once xs k)
+
+-- "every interval number below n is named once, as free or by an entry; no other number occurs"
+unfoldable pub namedOnce : ℕ → List ℕ → Bool
+namedOnce n xs = both (below n xs) (once xs n)

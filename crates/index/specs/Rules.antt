@@ -1,0 +1,45 @@
+-- The rules that the meaning of a sound index record keeps: document 01, 'Index record', "Sound when".
+-- K is the key's length, n the number of data intervals. low is the bound before the first entry, [] for none; end is the separator that the
+-- last entry must have. Both are [] in the base.
+use Prim.Native.Nat.{ℕ, _+_, _*_}
+use mathlib.Core.Bool.{Bool, true, false}
+use mathlib.Core.List.{List, [], _∷_}
+use lib.Dec.{leb, eqb}
+use Rattle.fields.specs.Choice.{both}
+use Rattle.fields.specs.Bytes.{number}
+use Rattle.fields.specs.Order.{less}
+use Rattle.index.specs.Bounds.{bound, separator}
+use Rattle.index.specs.Meaning.{Entry, Meaning, named, namedOnce}
+
+-- the two byte lists are the same
+abbrev pub alike : List ℕ → List ℕ → Bool
+alike [] [] = true
+alike [] (y ∷ ys) = false
+alike (x ∷ xs) [] = false
+alike (x ∷ xs) (y ∷ ys) = both (eqb x y) (alike xs ys)
+
+-- every separator is as it must be, and the bounds "strictly ascend", from low on; [] is below every bound
+unfoldable pub rises : ℕ → List ℕ → List Entry → Bool
+rises K low [] = true
+rises K low (e ∷ es) = both (separator K (e .sep)) (both (less low (bound K (e .sep))) (rises K (bound K (e .sep)) es))
+
+-- "there is at least one entry, and the last .. has an empty separator": here, the separator end.
+-- That no other entry has an empty one follows from the bounds (proofs/Closing.antt, only-last-empty).
+unfoldable pub closed : List ℕ → List Entry → Bool
+closed end [] = false
+closed end (e ∷ []) = alike (e .sep) end
+closed end (e ∷ f ∷ es) = closed end (f ∷ es)
+
+-- "Base + n × S ≤ 2^32"; the base RBA is the first four of the kept bytes
+abbrev pub baseFine : ℕ → ℕ → List ℕ → Bool
+baseFine S n kept = leb (number 4 kept 0 + n * S) 4294967296
+
+-- all of them
+unfoldable pub keepsRules : ℕ → ℕ → ℕ → List ℕ → List ℕ → Meaning → Bool
+keepsRules S K n low end m =
+    both (baseFine S n (m .kept)) (both (rises K low (m .entries)) (both (closed end (m .entries)) (namedOnce n (named m))))
+
+-- the bound before the entry that comes after these: that of the last of them, or low where there is none
+unfoldable pub boundBefore : ℕ → List ℕ → List Entry → List ℕ
+boundBefore K low [] = low
+boundBefore K low (e ∷ es) = boundBefore K (bound K (e .sep)) es

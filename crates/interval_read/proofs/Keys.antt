@@ -1,0 +1,72 @@
+-- Keys by their places, and how a run of them ascends.
+use Prim.Native.Nat.{ℕ, zero, suc, _+_, _-_, _*_, _≤_, _<_}
+use mathlib.Core.Path.{_≡_, refl, _∙_, sym, ap}
+use mathlib.Core.Bool.{Bool, true, false}
+use mathlib.Core.List.{List, [], _∷_, _++_, map}
+use lib.ListN.{length, getD, take, drop, replicate, length-drop}
+use lib.Seq.{take-take, drop-drop, length-take-le}
+use lib.Dec.{eqb, leb}
+use native.Mathlib.Omega.{arith}
+use native.Mathlib.Nat.{mul-add, mul-one}
+use borrow.Author.Tests.{leb-true}
+use Rattle.fields.specs.Choice.{pick, both}
+use Rattle.fields.specs.Bytes.{part}
+use Rattle.fields.specs.Order.{orderOf, isLess, less}
+use Rattle.fields.specs.declared.Order.{Order}
+use Rattle.fields.specs.declared.Order.the-variants.{Less, Same, Greater}
+use Rattle.fields.proofs.Choices.{both-split, both-false}
+use Rattle.measures.specs.declared.Measures.{Measures}
+use Rattle.room.specs.Room.{sum}
+use Rattle.interval.specs.Records.{keyOf, keysOf, within, allWithin, ascending, ascendFrom}
+use Rattle.interval.specs.Reading.{cut}
+use Rattle.interval_read.specs.Walk.{keysAt, keysFrom}
+
+-- products, one more
+pub one-more : (l c : ℕ) → l * suc c ≡ l + l * c
+one-more l c = let e : suc c ≡ 1 + c = omega arith in rw e (mul-add l 1 c ∙ rw (mul-one l))
+
+pub one-less : (l c : ℕ) → 0 < c → l * c ≡ l + l * (c - 1)
+one-less l c h = let e : c ≡ suc (c - 1) = omega arith in ap (λ (k : ℕ). l * k) e ∙ one-more l (c - 1)
+
+-- one key of a run
+pub keys-more : (key : ℕ) (ci : List ℕ) (at len c : ℕ) → 0 < c → keysAt key ci at len c ≡ part ci at key ∷ keysAt key ci (at + len) len (c - 1)
+unfolding keysAt
+keys-more key ci at len zero h = absurd (omega arith)
+keys-more key ci at len (suc c) h = let e : suc c - 1 ≡ c = omega arith in rw e
+
+pub keys-none : (key : ℕ) (ci : List ℕ) (at len : ℕ) → keysAt key ci at len 0 ≡ []
+unfolding keysAt
+keys-none key ci at len = refl
+
+pub ascend-cons : (prev k : List ℕ) (ks : List (List ℕ)) → ascendFrom prev (k ∷ ks) ≡ both (less prev k) (ascendFrom k ks)
+unfolding ascendFrom
+ascend-cons prev k ks = refl
+
+pub ascend-none : (prev : List ℕ) → ascendFrom prev [] ≡ true
+unfolding ascendFrom
+ascend-none prev = refl
+
+-- a run's turn: the next key is above the one before, or not
+module _ (key : ℕ) (ci prev : List ℕ) (at len c : ℕ) (some : 0 < c) where
+  turn : ascendFrom prev (keysAt key ci at len c) ≡ both (less prev (part ci at key)) (ascendFrom (part ci at key) (keysAt key ci (at + len) len (c - 1)))
+  turn = rw (keys-more key ci at len c some) (ascend-cons prev (part ci at key) (keysAt key ci (at + len) len (c - 1)))
+
+  pub run-on : Less ≡ orderOf prev (part ci at key)
+      → ascendFrom prev (keysAt key ci at len c) ≡ ascendFrom (part ci at key) (keysAt key ci (at + len) len (c - 1))
+  run-on e = turn ∙ rw (← e)
+
+  pub run-stops : less prev (part ci at key) ≡ false → ascendFrom prev (keysAt key ci at len c) ≡ false
+  run-stops e = turn ∙ rw e
+
+-- the first run of an interval begins with no key before it
+pub empty-below : (key : ℕ) (ci : List ℕ) (at : ℕ) → 1 ≤ key → at + key ≤ length ci → less [] (part ci at key) ≡ true
+unfolding orderOf
+empty-below key ci at h k = go (part ci at key) (length-take-le key (drop at ci) (simp length-drop (omega arith)))
+  where
+    go : (xs : List ℕ) → length xs ≡ key → less [] xs ≡ true
+    go [] e = absurd (omega arith)
+    go (x ∷ xs) e = refl
+
+pub run-first : (key : ℕ) (ci : List ℕ) (at len c : ℕ) → 0 < c → 1 ≤ key → at + key ≤ length ci
+    → ascendFrom [] (keysAt key ci at len c) ≡ ascendFrom (part ci at key) (keysAt key ci (at + len) len (c - 1))
+run-first key ci at len c h k f = turn key ci [] at len c h ∙ rw (empty-below key ci at k f)

@@ -1,0 +1,5 @@
+pub mod Tails
+pub mod Keys
+pub mod Walking
+pub mod Judging
+pub mod Unique

@@ -1,0 +1,207 @@
+use Prim.Native.Nat.{ℕ, _+_, _-_, _*_, _≤_, _<_}
+use mathlib.Core.Path.{_≡_, refl, _∙_, sym}
+use mathlib.Core.List.{List, []}
+use lib.ListN.{length}
+use native.Mathlib.Omega.{arith}
+use borrow.Author.Needs.{needs}
+use borrow.Author.Tests.{eq-eqb, ne-eqb, not-true, not-false}
+use Rattle.interval.specs.Reading.{rdfs}
+use Rattle.rdf.specs.Front.{frontOf}
+use Rattle.rdf.specs.declared.Front.the-variants.{Run, Damaged}
+use Rattle.rdf.proofs.Fronts.{Step, steps, stops, front-within}
+use Rattle.rdf.proofs.Rdfs.{prod16}
+use Rattle.interval_read.proofs.Keys.{one-less}
+use Rattle.interval_read.proofs.Walking.{Come, set-out, ended, no-group, too-long, falls, goes-on}
+use Rattle.interval_read.proofs.walk.Statement.{statement}
+use Rattle.interval_read.proofs.walk.Tie as tie
+
+abbrev Inv-loop : tie.InvT-loop
+Inv-loop ci bytes p many offset key least most left₀ at₀ seen₀ last₀ left at seen last =
+    (left ≤ many) × Come offset key least most ci bytes (rdfs ci p many) (rdfs ci p left) at seen last
+
+abbrev μ-loop : tie.MeasureT-loop
+μ-loop ci bytes p many offset key least most left₀ at₀ seen₀ last₀ left at seen last = left
+
+none : (ci : List ℕ) (p : ℕ) → rdfs ci p 0 ≡ []
+unfolding rdfs
+none ci p = refl
+
+-- the group that was read, with the tests it passed
+pub record Group (ci : List ℕ) (p n least most l c u : ℕ) (some : 0 < n) : Type 0 where
+  pub step : Step ci p n least most some l c u
+  pub least-is : least ≤ l
+  pub len : l < 65536
+  pub count : c < 65536
+  pub taken : u ≤ n
+  pub takes : 1 ≤ u
+  pub holds : 1 ≤ c
+
+group : (c : tie.After-known-told Inv-loop μ-loop)
+    → Group (c .before .before .before .before .before .before .before .args .ci .now) (c .before .before .before .before .before .before .before .args .p) (c .before .before .before .before .before .loop .left) (c .before .before .before .before .before .before .before .args .m .least) (c .before .before .before .before .before .before .before .args .m .most) (c .before .len .given .0 .0) (c .before .len .given .0 .1 .0) (c .before .len .given .0 .1 .1 .0) (c .before .before .before .before .loop-test .taken)
+group c =
+    let a = c .before .before .before .before .before .before .before .args in
+    let n = c .before .before .before .before .before .loop .left in
+    let g = c .before .before .before .group-at in
+    let e : Run (c .before .len .given .0 .0) (c .before .len .given .0 .1 .0) (c .before .len .given .0 .1 .1 .0) ≡ frontOf (a .m .least) (a .m .most) (rdfs (a .ci .now) (a .p) n) = sym (c .before .len .given .1) ∙ g .ensures .0 in
+    let f = rw (c .before .len .given .1) at (g .ensures .1) in
+    record {
+      step = steps (a .ci .now) (a .p) n (a .m .least) (a .m .most) (c .before .before .before .before .loop-test .taken) (c .before .len .given .0 .0) (c .before .len .given .0 .1 .0) (c .before .len .given .0 .1 .1 .0) e (f .3);
+      least-is = front-within (a .m .least) (a .m .most) (rdfs (a .ci .now) (a .p) n) (c .before .len .given .0 .0) (c .before .len .given .0 .1 .0) (c .before .len .given .0 .1 .1 .0) e .0;
+      len = f .0;
+      count = f .1;
+      taken = f .3;
+      takes = f .2;
+      holds = f .4;
+    }
+
+loop-holds : tie.Need-loop-holds Inv-loop μ-loop
+loop-holds c =
+    let a = c .before .args in
+    (omega arith, set-out (a .m) (a .ci .now) (a .bytes) (rdfs (a .ci .now) (a .p) (a .many)))
+
+group-at-requires : tie.Need-group-at-requires Inv-loop μ-loop
+group-at-requires c κs = search needs
+
+enum-known-len : tie.Need-enum-known-len Inv-loop μ-loop
+enum-known-len c = search needs
+
+enum-told : tie.Need-enum-told Inv-loop μ-loop
+enum-told c = search needs
+
+returns : tie.Need-returns Inv-loop μ-loop
+returns c =
+    let a = c .before .before .before .before .before .before .args in
+    let o = c .before .before .before .before .loop in
+    let some = c .before .before .before .loop-test .taken in
+    sym (no-group (a .m) (a .ci .now) (a .bytes) (rdfs (a .ci .now) (a .p) (a .many)) (a .many) (a .p) (o .left) (o .at) (o .seen) (o .last) (o .inv .1) some (stops (a .ci .now) (a .p) (o .left) (a .m .least) (a .m .most) some (sym (c .enum-told .given .1) ∙ c .before .before .group-at .ensures .0)))
+
+mul-end : tie.Need-mul-end Inv-loop μ-loop
+mul-end c = omega (arith, prod16 (c .before .len .given .0 .0) (c .before .len .given .0 .1 .0) (group c .len) (group c .count))
+
+add-end : tie.Need-add-end Inv-loop μ-loop
+add-end c = omega (arith, prod16 (c .before .len .given .0 .0) (c .before .len .given .0 .1 .0) (group c .len) (group c .count), c .before .before .before .before .before .loop .inv .1 .inside)
+
+returns-2 : tie.Need-returns-2 Inv-loop μ-loop
+returns-2 c =
+    let k = c .before in
+    let a = k .before .before .before .before .before .before .before .args in
+    let o = k .before .before .before .before .before .loop in
+    let g = group k in
+    sym (too-long (a .m) (a .ci .now) (a .bytes) (rdfs (a .ci .now) (a .p) (a .many)) (a .many) (a .p) (o .left) (o .at) (o .seen) (o .last) (o .inv .1) (k .before .before .before .before .loop-test .taken) (k .before .len .given .0 .0) (k .before .len .given .0 .1 .0) (k .before .len .given .0 .1 .1 .0) (g .step) (g .holds) (omega (arith, g .least-is)) (c .if1 .taken))
+
+add-run-rises : tie.Need-add-run-rises Inv-loop μ-loop
+add-run-rises c =
+    let k = c .before in
+    let a = k .before .before .before .before .before .before .before .args in
+    let o = k .before .before .before .before .before .loop in
+    let g = group k in
+    omega (arith, g .least-is, g .len, o .inv .1 .behind, o .inv .1 .inside)
+
+add-run-rises-2 : tie.Need-add-run-rises-2 Inv-loop μ-loop
+add-run-rises-2 c =
+    let k = c .before in
+    let a = k .before .before .before .before .before .before .before .args in
+    let o = k .before .before .before .before .before .loop in
+    let g = group k in
+    omega (arith, g .least-is, g .len, o .inv .1 .inside)
+
+run-rises-requires : tie.Need-run-rises-requires Inv-loop μ-loop
+run-rises-requires c κs =
+    let k = c .before in
+    let a = k .before .before .before .before .before .before .before .args in
+    let o = k .before .before .before .before .before .loop in
+    let g = group k in
+    let one = one-less (k .before .len .given .0 .0) (k .before .len .given .0 .1 .0) (g .holds) in
+    (omega (arith, g .least-is, o .inv .1 .behind, one), omega arith, omega (arith, g .least-is), g .holds, omega (arith, g .least-is), omega arith, g .len)
+
+returns-3 : tie.Need-returns-3 Inv-loop μ-loop
+returns-3 c =
+    let k = c .before .before .before in
+    let a = k .before .before .before .before .before .before .before .args in
+    let o = k .before .before .before .before .before .loop in
+    let g = group k in
+    sym (falls (a .m) (a .ci .now) (a .bytes) (rdfs (a .ci .now) (a .p) (a .many)) (a .many) (a .p) (o .left) (o .at) (o .seen) (o .last) (o .inv .1) (k .before .before .before .before .loop-test .taken) (k .before .len .given .0 .0) (k .before .len .given .0 .1 .0) (k .before .len .given .0 .1 .1 .0) (g .step) (g .holds) (omega (arith, g .least-is)) (sym (c .before .run-rises .ensures) ∙ not-true (c .before .run-rises .result) (c .if2 .taken)))
+
+sub-last : tie.Need-sub-last Inv-loop μ-loop
+sub-last c =
+    let k = c .before .before .before in
+    let a = k .before .before .before .before .before .before .before .args in
+    let o = k .before .before .before .before .before .loop in
+    let g = group k in
+    omega (arith, one-less (k .before .len .given .0 .0) (k .before .len .given .0 .1 .0) (g .holds))
+
+add-seen : tie.Need-add-seen Inv-loop μ-loop
+add-seen c =
+    let k = c .before .before .before in
+    let a = k .before .before .before .before .before .before .before .args in
+    let o = k .before .before .before .before .before .loop in
+    let g = group k in
+    omega (arith, g .count, o .inv .1 .few, o .inv .1 .inside)
+
+sub-left : tie.Need-sub-left Inv-loop μ-loop
+sub-left c =
+    let k = c .before .before .before in
+    let a = k .before .before .before .before .before .before .before .args in
+    let o = k .before .before .before .before .before .loop in
+    let g = group k in
+    omega (arith, g .taken)
+
+loop-less : tie.Need-loop-less Inv-loop μ-loop
+loop-less c =
+    let k = c .before .before .before in
+    let a = k .before .before .before .before .before .before .before .args in
+    let o = k .before .before .before .before .before .loop in
+    let g = group k in
+    omega (arith, g .taken, g .takes)
+
+loop-again : tie.Need-loop-again Inv-loop μ-loop
+loop-again c =
+    let k = c .before .before .before in
+    let a = k .before .before .before .before .before .before .before .args in
+    let o = k .before .before .before .before .before .loop in
+    let g = group k in
+    (omega (arith, g .taken), goes-on (a .m) (a .ci .now) (a .bytes) (rdfs (a .ci .now) (a .p) (a .many)) (a .many) (a .p) (o .left) (o .at) (o .seen) (o .last) (o .inv .1) (k .before .before .before .before .loop-test .taken) (k .before .len .given .0 .0) (k .before .len .given .0 .1 .0) (k .before .len .given .0 .1 .1 .0) (g .step) (g .holds) (omega (arith, g .least-is)) (c .before .before .if1 .left) (sym (c .before .run-rises .ensures) ∙ not-false (c .before .run-rises .result) (c .if2 .left)))
+
+returns-4 : tie.Need-returns-4 Inv-loop μ-loop
+returns-4 c =
+    let a = c .before .before .before .before .args in
+    let o = c .before .before .loop in
+    let z : o .left ≡ 0 = omega arith in
+    let n : rdfs (a .ci .now) (a .p) (o .left) ≡ [] = rw z (none (a .ci .now) (a .p)) in
+    let k = rw n at (o .inv .1) in
+    sym (ended (a .m) (a .ci .now) (a .bytes) (rdfs (a .ci .now) (a .p) (a .many)) (a .many) (o .at) (o .seen) (o .last) k ∙ rw (eq-eqb (o .at) (a .bytes) (c .if3 .taken)))
+
+returns-5 : tie.Need-returns-5 Inv-loop μ-loop
+returns-5 c =
+    let a = c .before .before .before .before .args in
+    let o = c .before .before .loop in
+    let z : o .left ≡ 0 = omega arith in
+    let n : rdfs (a .ci .now) (a .p) (o .left) ≡ [] = rw z (none (a .ci .now) (a .p)) in
+    let k = rw n at (o .inv .1) in
+    sym (ended (a .m) (a .ci .now) (a .bytes) (rdfs (a .ci .now) (a .p) (a .many)) (a .many) (o .at) (o .seen) (o .last) k ∙ rw (ne-eqb (o .at) (a .bytes) (c .if3 .left)))
+
+pub walk-spec : {M : Type 1} → statement M
+walk-spec =
+    tie.close
+    (tie.spec
+    Inv-loop
+    μ-loop
+    loop-holds
+    group-at-requires
+    enum-known-len
+    enum-told
+    returns
+    mul-end
+    add-end
+    returns-2
+    add-run-rises
+    add-run-rises-2
+    run-rises-requires
+    returns-3
+    sub-last
+    add-seen
+    sub-left
+    loop-less
+    loop-again
+    returns-4
+    returns-5)

@@ -1,0 +1,151 @@
+// Whether a data interval is sound: one walk over its RDFs and records.
+ghost use mathlib.Core.Path.{_≡_};
+ghost use mathlib.Core.List.{List, []};
+ghost use Prim.Native.Nat.{ℕ, _+_, _-_, _*_, _≤_, _<_};
+ghost use lib.ListN.{length};
+ghost use lib.Dec.{eqb};
+ghost use Rattle.fields.specs.Choice.{pick};
+ghost use Rattle.fields.specs.Bytes.{part};
+ghost use Rattle.interval.specs.Records.{ascendFrom};
+ghost use Rattle.interval.specs.Reading.{rdfs};
+ghost use Rattle.interval_read.specs.Verdict.{verdictOf};
+ghost use Rattle.interval_read.specs.Walk.{tailOf, Small, keysAt, walked};
+use fields::Order;
+use measures::Measures;
+use rdf::Front;
+
+// The verdict: how many records, their bytes, how many RDFs, and where the last record begins (0 where there is none).
+pub enum Verdict {
+    Sound {
+        count: usize,
+        bytes: usize,
+        rdfs: usize,
+        last: usize,
+    },
+    Unsound,
+}
+
+// What the CIDF says: the records' bytes, where the RDFs begin, how many they are.
+pub enum Tail {
+    Of {
+        bytes: usize,
+        at: usize,
+        many: usize,
+    },
+    Bad,
+}
+
+// Not busy, and d + u + 3 × RDFs + 4 = S.
+pub(crate) fn read_tail(ci: &[u8]) -> Tail
+    requires { ⌜ (4 ≤ length (now ci)) × (length (now ci) ≤ 32768) ⌝ }
+    ensures is { λ r. ⌜ r ≡ tailOf (now (ci .entry)) ⌝ }
+    ensures small { λ r. ⌜ Small (length (now (ci .entry))) r ⌝ }
+{
+    let size = ci.len();
+    let bytes = fields::read_two(ci, size - 4);
+    let field = fields::read_two(ci, size - 2);
+    if rdf::is_busy(field) {
+        return Tail::Bad;
+    }
+    let at = bytes + rdf::below_flag(field);
+    if size < at + 4 {
+        return Tail::Bad;
+    }
+    let many = (size - 4 - at) / 3;
+    if at + 3 * many + 4 != size {
+        return Tail::Bad;
+    }
+    Tail::Of { bytes, at, many }
+}
+
+// Whether the keys of `count` records of one length, the first key at place `at`, ascend after the key at place `prev`.
+pub(crate) fn rises(ci: &[u8], key: usize, prev: usize, at: usize, len: usize, count: usize) -> bool
+    requires { ⌜ (prev + key ≤ length (now ci)) × (key ≤ len) × (at + len * count ≤ length (now ci) + (len - key)) × (length (now ci) ≤ 32768) × (len < 65536) ⌝ }
+    ensures { λ r. ⌜ r ≡ ascendFrom (part (now (ci .entry)) prev key) (keysAt key (now (ci .entry)) at len count) ⌝ }
+{
+    let mut before = prev;
+    let mut here = at;
+    let mut left = count;
+    while 0 < left {
+        let e = before + key;
+        let f = here + key;
+        let Order::Less = fields::compare(&ci[before..e], &ci[here..f]) else {
+            return false;
+        };
+        before = here;
+        here = here + len;
+        left -= 1;
+    }
+    true
+}
+
+// The same for a run of an interval of which `seen` records were passed, the last of them with its key at `prev`.
+pub(crate) fn run_rises(
+    ci: &[u8],
+    key: usize,
+    seen: usize,
+    prev: usize,
+    at: usize,
+    len: usize,
+    count: usize,
+) -> bool
+    requires { ⌜ (prev + key ≤ length (now ci)) × (1 ≤ key) × (key ≤ len) × (1 ≤ count) × (at + len * count ≤ length (now ci) + (len - key)) × (length (now ci) ≤ 32768) × (len < 65536) ⌝ }
+    ensures { λ r. ⌜ r ≡ ascendFrom (pick (eqb seen 0) [] (part (now (ci .entry)) prev key)) (keysAt key (now (ci .entry)) at len count) ⌝ }
+{
+    if seen == 0 {
+        return rises(ci, key, at, at + len, len, count - 1);
+    }
+    rises(ci, key, prev, at, len, count)
+}
+
+// The walk over the `many` RDFs from place p on and over the records that they describe, which must have `bytes` bytes.
+pub(crate) fn walk(ci: &[u8], m: Measures, bytes: usize, p: usize, many: usize) -> Verdict
+    requires { ⌜ (p + 3 * many ≤ length (now ci)) × (bytes ≤ length (now ci)) × (length (now ci) ≤ 32768) × (1 ≤ m .key) × (m .offset + m .key ≤ m .least) ⌝ }
+    ensures { λ r. ⌜ r ≡ walked m (now (ci .entry)) bytes many (rdfs (now (ci .entry)) p many) ⌝ }
+{
+    let offset = m.offset;
+    let key = m.key;
+    let least = m.least;
+    let most = m.most;
+    let mut left = many;
+    let mut at = 0;
+    let mut seen = 0;
+    let mut last = 0;
+    while 0 < left {
+        let Front::Run { len, count, used } = rdf::group_at(ci, p, left, least, most) else {
+            return Verdict::Unsound;
+        };
+        let end = at + len * count;
+        if bytes < end {
+            return Verdict::Unsound;
+        }
+        if !run_rises(ci, key, seen, last + offset, at + offset, len, count) {
+            return Verdict::Unsound;
+        }
+        last = end - len;
+        at = end;
+        seen = seen + count;
+        left = left - used;
+    }
+    if at == bytes {
+        Verdict::Sound {
+            count: seen,
+            bytes,
+            rdfs: many,
+            last,
+        }
+    } else {
+        Verdict::Unsound
+    }
+}
+
+// The verdict on an interval, whatever its bytes are.
+pub fn check(ci: &[u8], m: Measures) -> Verdict
+    requires { ⌜ (4 ≤ length (now ci)) × (length (now ci) ≤ 32768) × (1 ≤ m .key) × (m .offset + m .key ≤ m .least) ⌝ }
+    ensures { λ r. ⌜ r ≡ verdictOf m (now (ci .entry)) ⌝ }
+{
+    let Tail::Of { bytes, at, many } = read_tail(ci) else {
+        return Verdict::Unsound;
+    };
+    walk(ci, m, bytes, at, many)
+}
