@@ -1,0 +1,4 @@
+pub mod Division
+pub mod Choose
+pub mod Fewest
+pub mod Changed
