@@ -1,0 +1,1 @@
+// A whole control area: the index record and the data intervals that it names.
