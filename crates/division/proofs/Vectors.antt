@@ -5,26 +5,11 @@ use mathlib.Core.Bool.{Bool, true, false}
 use mathlib.Core.List.{List, [], _∷_, _++_}
 use lib.ListN.{replicate}
 use lib.Dec.{eqb}
+use Rattle.fields.specs.Table.{sameList, sameLists, all}
 use Rattle.fields.specs.Choice.{both}
 use Rattle.room.specs.Room.{sum, rdfCount, push, groups, need, fits}
 use Rattle.division.specs.Division.{gap, fitting, better, bestTo, bestCut, byCut, divisionOf, counts, parts, pieces}
 use Rattle.division.specs.Changed.{swap}
-
-abbrev sameList : List ℕ → List ℕ → Bool
-sameList [] [] = true
-sameList [] (y ∷ ys) = false
-sameList (x ∷ xs) [] = false
-sameList (x ∷ xs) (y ∷ ys) = both (eqb x y) (sameList xs ys)
-
-abbrev sameLists : List (List ℕ) → List (List ℕ) → Bool
-sameLists [] [] = true
-sameLists [] (y ∷ ys) = false
-sameLists (x ∷ xs) [] = false
-sameLists (x ∷ xs) (y ∷ ys) = both (sameList x y) (sameLists xs ys)
-
-abbrev all : List Bool → Bool
-all [] = true
-all (b ∷ bs) = both b (all bs)
 
 -- Records of these lengths fit; with one of l put in at place k, or in place of the one there, they need n bytes, and stay or are
 -- divided into parts of so many.

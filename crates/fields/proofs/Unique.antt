@@ -1,36 +1,41 @@
--- For each public function: any two results that its contract allows are equal, buffers too.
-use Prim.Native.Nat.{ℕ, _-_}
+-- For each public function: any two results that its contract allows are equal, buffers too. `Learnt` is the contract as a caller reads it.
 use mathlib.Core.Path.{_≡_}
-use mathlib.Core.List.{List}
-use lib.ListN.{replicate}
-use Rattle.fields.specs.Bytes.{number, digits, splice}
-use Rattle.fields.specs.Order.{orderOf, common}
-use Rattle.fields.specs.declared.Order.{Order}
 use Rattle.fields.proofs.Choices.{agree}
+use Prim.Native.Nat.{ℕ}
+use Rattle.fields.specs.declared.Order.{Order}
+use Rattle.fields.proofs.read_two.Reads as read-two
+use Rattle.fields.proofs.read_four.Reads as read-four
+use Rattle.fields.proofs.read_pointer.Reads as read-pointer
+use Rattle.fields.proofs.write_two.Reads as write-two
+use Rattle.fields.proofs.write_pointer.Reads as write-pointer
+use Rattle.fields.proofs.common_front.Reads as common-front
+use Rattle.fields.proofs.compare.Reads as compare
+use Rattle.fields.proofs.copy.Reads as copy
+use Rattle.fields.proofs.fill.Reads as fill
 
-pub unique-read-two : (b : List ℕ) (at r s : ℕ) → r ≡ number 2 b at → s ≡ number 2 b at → r ≡ s
-unique-read-two b at r s = agree
+pub unique-read-two : (κs : _) (args : _) (r s : ℕ) (e f : _) → read-two.Learnt κs args r e → read-two.Learnt κs args s f → r ≡ s
+unique-read-two κs args r s e f p q = agree (p .0) (q .0)
 
-pub unique-read-four : (b : List ℕ) (at r s : ℕ) → r ≡ number 4 b at → s ≡ number 4 b at → r ≡ s
-unique-read-four b at r s = agree
+pub unique-read-four : (κs : _) (args : _) (r s : ℕ) (e f : _) → read-four.Learnt κs args r e → read-four.Learnt κs args s f → r ≡ s
+unique-read-four κs args r s e f p q = agree (p .0) (q .0)
 
-pub unique-read-pointer : (b : List ℕ) (at width r s : ℕ) → r ≡ number width b at → s ≡ number width b at → r ≡ s
-unique-read-pointer b at width r s = agree
+pub unique-read-pointer : (κs : _) (args : _) (r s : ℕ) (e f : _) → read-pointer.Learnt κs args r e → read-pointer.Learnt κs args s f → r ≡ s
+unique-read-pointer κs args r s e f p q = agree (p .0) (q .0)
 
-pub unique-write-two : (b : List ℕ) (at x : ℕ) (p q : List ℕ) → p ≡ splice b at (digits 2 x) → q ≡ splice b at (digits 2 x) → p ≡ q
-unique-write-two b at x p q = agree
+pub unique-write-two : (κs : _) (args : _) (r s : _) (e f : _) → write-two.Learnt κs args r e → write-two.Learnt κs args s f → e .0 .now ≡ f .0 .now
+unique-write-two κs args r s e f p q = agree p q
 
-pub unique-write-pointer : (b : List ℕ) (at width x : ℕ) (p q : List ℕ) → p ≡ splice b at (digits width x) → q ≡ splice b at (digits width x) → p ≡ q
-unique-write-pointer b at width x p q = agree
+pub unique-write-pointer : (κs : _) (args : _) (r s : _) (e f : _) → write-pointer.Learnt κs args r e → write-pointer.Learnt κs args s f → e .0 .now ≡ f .0 .now
+unique-write-pointer κs args r s e f p q = agree p q
 
-pub unique-common-front : (a b : List ℕ) (r s : ℕ) → r ≡ common a b → s ≡ common a b → r ≡ s
-unique-common-front a b r s = agree
+pub unique-common-front : (κs : _) (args : _) (r s : ℕ) (e f : _) → common-front.Learnt κs args r e → common-front.Learnt κs args s f → r ≡ s
+unique-common-front κs args r s e f p q = agree (p .0) (q .0)
 
-pub unique-compare : (a b : List ℕ) (r s : Order) → r ≡ orderOf a b → s ≡ orderOf a b → r ≡ s
-unique-compare a b r s = agree
+pub unique-compare : (κs : _) (args : _) (r s : Order) (e f : _) → compare.Learnt κs args r e → compare.Learnt κs args s f → r ≡ s
+unique-compare κs args r s e f p q = agree p q
 
-pub unique-copy : (b : List ℕ) (at : ℕ) (new p q : List ℕ) → p ≡ splice b at new → q ≡ splice b at new → p ≡ q
-unique-copy b at new p q = agree
+pub unique-copy : (κs : _) (args : _) (r s : _) (e f : _) → copy.Learnt κs args r e → copy.Learnt κs args s f → e .0 .now ≡ f .0 .now
+unique-copy κs args r s e f p q = agree p q
 
-pub unique-fill : (b : List ℕ) (from to byte : ℕ) (p q : List ℕ) → p ≡ splice b from (replicate (to - from) byte) → q ≡ splice b from (replicate (to - from) byte) → p ≡ q
-unique-fill b from to byte p q = agree
+pub unique-fill : (κs : _) (args : _) (r s : _) (e f : _) → fill.Learnt κs args r e → fill.Learnt κs args s f → e .0 .now ≡ f .0 .now
+unique-fill κs args r s e f p q = agree p q

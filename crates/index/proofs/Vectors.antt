@@ -5,6 +5,7 @@ use mathlib.Core.Bool.{Bool, true}
 use mathlib.Core.List.{List, [], _∷_}
 use lib.ListN.{length, replicate}
 use lib.Dec.{eqb}
+use Rattle.fields.specs.Table.{all}
 use Rattle.fields.specs.Choice.{both}
 use Rattle.fields.specs.Bytes.{part, number, digits}
 use Rattle.fields.specs.Order.{orderOf, common}
@@ -22,10 +23,6 @@ entry s n = record { sep = s; num = n }
 
 abbrev meaning : List ℕ → List Entry → Meaning
 meaning fs es = record { kept = replicate 12 0; spare = 0; free = fs; entries = es }
-
-abbrev all : List Bool → Bool
-all [] = true
-all (b ∷ bs) = both b (all bs)
 
 -- the bytes of the writer's form from place p on
 abbrev has : Meaning → ℕ → List ℕ → Bool

@@ -5,6 +5,7 @@ use mathlib.Core.Bool.{Bool, true, false}
 use mathlib.Core.List.{List, [], _∷_, _++_, map}
 use lib.ListN.{length, drop, replicate}
 use lib.Dec.{eqb}
+use Rattle.fields.specs.Table.{sameList, sameLists, all}
 use Rattle.fields.specs.Choice.{both, no}
 use Rattle.fields.specs.Bytes.{number, digits}
 use Rattle.fields.specs.Order.{orderOf}
@@ -14,22 +15,6 @@ use Rattle.room.specs.Room.{sum, rdfCount, push, groups, need}
 use Rattle.interval.specs.Records.{concat, ascendFrom, ascending}
 use Rattle.interval.specs.Layout.{groupBytes, groupsBytes, layout, form}
 use Rattle.interval.specs.Reading.{rdfs, rdfsIn, wellFormed, lengths, cut, recordsIn, formSound, sound}
-
-abbrev sameList : List ℕ → List ℕ → Bool
-sameList [] [] = true
-sameList [] (y ∷ ys) = false
-sameList (x ∷ xs) [] = false
-sameList (x ∷ xs) (y ∷ ys) = both (eqb x y) (sameList xs ys)
-
-abbrev sameLists : List (List ℕ) → List (List ℕ) → Bool
-sameLists [] [] = true
-sameLists [] (y ∷ ys) = false
-sameLists (x ∷ xs) [] = false
-sameLists (x ∷ xs) (y ∷ ys) = both (sameList x y) (sameLists xs ys)
-
-abbrev all : List Bool → Bool
-all [] = true
-all (b ∷ bs) = both b (all bs)
 
 -- keys of one byte at the front, records of 1 to 505 bytes
 abbrev usual : Measures

@@ -3,13 +3,10 @@ use mathlib.Core.Path.{_≡_, refl}
 use mathlib.Core.Bool.{Bool, true, false}
 use mathlib.Core.List.{List, [], _∷_}
 use Prim.Native.Nat.{ℕ, _+_, _-_, _*_}
+use Rattle.fields.specs.Table.{all}
 use Rattle.fields.specs.Choice.{both, no}
 use Rattle.measures.specs.Sizes.{anyBelow, permittedSize}
 use Rattle.measures.specs.Judgement.{fine}
-
-unfoldable pub allTrue : List Bool → Bool
-allTrue [] = true
-allTrue (b ∷ bs) = both b (allTrue bs)
 
 -- an area of n data intervals, key of 8 bytes at the front, records up to the most
 unfoldable pub area : ℕ → ℕ → ℕ → Bool
@@ -21,7 +18,7 @@ largest = 18446744073709551615
 
 unfoldable pub edges : Bool
 edges =
-    allTrue
+    all
     (area 512 505 2
     ∷ no (area 512 506 2)
     ∷ area 8192 60 1
@@ -53,5 +50,5 @@ edges =
     ∷ [])
 
 pub both-sides : edges ≡ true
-unfolding edges allTrue area fine permittedSize anyBelow
+unfolding edges area fine permittedSize anyBelow
 both-sides = refl

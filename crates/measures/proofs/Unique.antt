@@ -1,14 +1,13 @@
--- For each public function: any two results that its contract allows are equal.
-use Prim.Native.Nat.{ℕ}
+-- For each public function: any two results that its contract allows are equal, buffers too. `Learnt` is the contract as a caller reads it.
 use mathlib.Core.Path.{_≡_}
-use mathlib.Core.Bool.{Bool}
 use Rattle.fields.proofs.Choices.{agree}
-use Rattle.measures.specs.Sizes.{permittedSize}
-use Rattle.measures.specs.Judgement.{judgedOf}
+use mathlib.Core.Bool.{Bool}
 use Rattle.measures.specs.declared.Judged.{Judged}
+use Rattle.measures.proofs.permitted.Reads as permitted
+use Rattle.measures.proofs.judge.Reads as judge
 
-pub unique-permitted : (size : ℕ) (r s : Bool) → r ≡ permittedSize size → s ≡ permittedSize size → r ≡ s
-unique-permitted size r s = agree
+pub unique-permitted : (κs : _) (args : _) (r s : Bool) (e f : _) → permitted.Learnt κs args r e → permitted.Learnt κs args s f → r ≡ s
+unique-permitted κs args r s e f p q = agree p q
 
-pub unique-judge : (size offset key most length : ℕ) (r s : Judged) → r ≡ judgedOf size offset key most length → s ≡ judgedOf size offset key most length → r ≡ s
-unique-judge size offset key most length r s = agree
+pub unique-judge : (κs : _) (args : _) (r s : Judged) (e f : _) → judge.Learnt κs args r e → judge.Learnt κs args s f → r ≡ s
+unique-judge κs args r s e f p q = agree p q

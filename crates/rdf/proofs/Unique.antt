@@ -1,30 +1,31 @@
--- For each public function: any two results that its contract allows are equal.
-use Prim.Native.Nat.{ℕ, _+_, _*_, _/_, _%_}
+-- For each public function: any two results that its contract allows are equal, buffers too. `Learnt` is the contract as a caller reads it.
 use mathlib.Core.Path.{_≡_}
-use mathlib.Core.Bool.{Bool}
-use mathlib.Core.List.{List}
-use lib.Dec.{eqb}
 use Rattle.fields.proofs.Choices.{agree}
-use Rattle.interval.specs.Reading.{rdfs}
-use Rattle.rdf.specs.Control.{controlOf}
-use Rattle.rdf.specs.Front.{frontOf}
+use Prim.Native.Nat.{ℕ}
+use mathlib.Core.Bool.{Bool}
 use Rattle.rdf.specs.declared.Control.{Control}
 use Rattle.rdf.specs.declared.Front.{Front}
+use Rattle.rdf.proofs.take_apart.Reads as take-apart
+use Rattle.rdf.proofs.put_together.Reads as put-together
+use Rattle.rdf.proofs.is_busy.Reads as is-busy
+use Rattle.rdf.proofs.below_flag.Reads as below-flag
+use Rattle.rdf.proofs.with_flag.Reads as with-flag
+use Rattle.rdf.proofs.group_at.Reads as group-at
 
-pub unique-take-apart : (control : ℕ) (r s : Control) → r ≡ controlOf control → s ≡ controlOf control → r ≡ s
-unique-take-apart control r s = agree
+pub unique-take-apart : (κs : _) (args : _) (r s : Control) (e f : _) → take-apart.Learnt κs args r e → take-apart.Learnt κs args s f → r ≡ s
+unique-take-apart κs args r s e f p q = agree p q
 
-pub unique-put-together : (paired count r s : ℕ) → r ≡ paired * 64 + count * 8 → s ≡ paired * 64 + count * 8 → r ≡ s
-unique-put-together paired count r s = agree
+pub unique-put-together : (κs : _) (args : _) (r s : ℕ) (e f : _) → put-together.Learnt κs args r e → put-together.Learnt κs args s f → r ≡ s
+unique-put-together κs args r s e f p q = agree p q
 
-pub unique-is-busy : (field : ℕ) (r s : Bool) → r ≡ eqb (field / 32768 % 2) 1 → s ≡ eqb (field / 32768 % 2) 1 → r ≡ s
-unique-is-busy field r s = agree
+pub unique-is-busy : (κs : _) (args : _) (r s : Bool) (e f : _) → is-busy.Learnt κs args r e → is-busy.Learnt κs args s f → r ≡ s
+unique-is-busy κs args r s e f p q = agree p q
 
-pub unique-below-flag : (field r s : ℕ) → r ≡ field % 32768 → s ≡ field % 32768 → r ≡ s
-unique-below-flag field r s = agree
+pub unique-below-flag : (κs : _) (args : _) (r s : ℕ) (e f : _) → below-flag.Learnt κs args r e → below-flag.Learnt κs args s f → r ≡ s
+unique-below-flag κs args r s e f p q = agree p q
 
-pub unique-with-flag : (busy unused r s : ℕ) → r ≡ busy * 32768 + unused → s ≡ busy * 32768 + unused → r ≡ s
-unique-with-flag busy unused r s = agree
+pub unique-with-flag : (κs : _) (args : _) (r s : ℕ) (e f : _) → with-flag.Learnt κs args r e → with-flag.Learnt κs args s f → r ≡ s
+unique-with-flag κs args r s e f p q = agree p q
 
-pub unique-group-at : (b : List ℕ) (p n least most : ℕ) (r s : Front) → r ≡ frontOf least most (rdfs b p n) → s ≡ frontOf least most (rdfs b p n) → r ≡ s
-unique-group-at b p n least most r s = agree
+pub unique-group-at : (κs : _) (args : _) (r s : Front) (e f : _) → group-at.Learnt κs args r e → group-at.Learnt κs args s f → r ≡ s
+unique-group-at κs args r s e f p q = agree (p .0) (q .0)

@@ -4,12 +4,9 @@ use mathlib.Core.Path.{_≡_, refl}
 use mathlib.Core.Bool.{Bool, true}
 use mathlib.Core.List.{List, [], _∷_}
 use lib.Dec.{eqb}
+use Rattle.fields.specs.Table.{all}
 use Rattle.fields.specs.Choice.{both, no}
 use Rattle.room.specs.Room.{sum, rdfCount, push, groups, need, fits}
-
-abbrev all : List Bool → Bool
-all [] = true
-all (b ∷ bs) = both b (all bs)
 
 -- records of these lengths take so many RDFs, and so many bytes in all
 abbrev takes : List ℕ → ℕ → ℕ → Bool

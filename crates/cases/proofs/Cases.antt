@@ -1,0 +1,101 @@
+-- Document 01's starred cases, S = 512, as one table of what the definitions give beside what the document says.
+use Prim.Native.Nat.{ℕ, _-_}
+use mathlib.Core.Path.{_≡_, refl}
+use mathlib.Core.Bool.{Bool, true}
+use mathlib.Core.List.{List, [], _∷_, map}
+use lib.ListN.{length, drop, replicate}
+use lib.Dec.{eqb}
+use Rattle.fields.specs.Choice.{pick, both}
+use Rattle.fields.specs.Bytes.{part, number, digits}
+use Rattle.fields.specs.Order.{common}
+use Rattle.fields.specs.Table.{all, sameList}
+use Rattle.room.specs.Room.{sum, rdfCount, push, groups, need, fits}
+use Rattle.interval.specs.Records.{concat}
+use Rattle.interval.specs.Layout.{groupBytes, groupsBytes, layout, form}
+use Rattle.interval.specs.Reading.{unusedField}
+use Rattle.index.specs.Bounds.{cutSeparator}
+use Rattle.index.specs.Meaning.{Entry, Meaning}
+use Rattle.index.specs.Pieces.{Piece, piecesSize, lastChars}
+use Rattle.index.specs.Layout.{pieceBytes, piecesBytes, freeBytes, header, trailer}
+use Rattle.index.specs.Form.{packed, entriesSize, entrySize, indexSize, indexBytes}
+use Rattle.index.specs.Search.{leadsTo}
+use Rattle.fields.specs.Order.{orderOf}
+use Rattle.division.specs.Division.{gap, fitting, better, bestTo, bestCut, byCut, divisionOf, counts, parts}
+use Rattle.division.specs.Changed.{swap}
+
+-- records of these lengths, of any content
+abbrev records : List ℕ → List (List ℕ)
+records ls = map (λ (l : ℕ). replicate {A = ℕ} l 1) ls
+
+-- in the writer's form they end in these bytes
+abbrev endsIn : List ℕ → List ℕ → Bool
+endsIn ls e = sameList (drop (512 - length e) (form 512 (records ls))) e
+
+-- with the change made they stay, and so much space is unused
+abbrev staysWith : List ℕ → ℕ → Bool
+staysWith ls u = both (sameList (parts 512 ls 0) (length ls ∷ [])) (eqb (unusedField (form 512 (records ls))) u)
+
+-- with the change made at a place they are divided into parts of so many records
+abbrev divides : List ℕ → ℕ → List ℕ → Bool
+divides ls at cs = sameList (parts 512 ls at) cs
+
+abbrev inserted : List ℕ → ℕ → ℕ → List ℕ
+inserted ls at l = swap at 0 (l ∷ []) ls
+
+abbrev updated : List ℕ → ℕ → ℕ → List ℕ
+updated ls at l = swap at 1 (l ∷ []) ls
+
+abbrev entry : List ℕ → ℕ → Entry
+entry s n = record { sep = s; num = n }
+
+abbrev meaning : List ℕ → List Entry → Meaning
+meaning fs es = record { kept = replicate 12 0; spare = 0; free = fs; entries = es }
+
+-- the writer's index record has these bytes from place p on
+abbrev has : Meaning → ℕ → List ℕ → Bool
+has m p xs = sameList (part (indexBytes 1 512 m) p (length xs)) xs
+
+-- F and L of each entry
+abbrev compressed : List Piece → List ℕ
+compressed [] = []
+compressed (p ∷ ps) = p .front ∷ length (p .chars) ∷ compressed ps
+
+abbrev cut : List ℕ
+cut = cutSeparator (0xC1 ∷ 0xF1 ∷ 0xF2 ∷ 0xF3 ∷ []) (0xC2 ∷ 0xF0 ∷ 0xF0 ∷ 0xF0 ∷ [])
+
+abbrev nested : List Entry
+nested = entry (0x41 ∷ 0x42 ∷ []) 0 ∷ entry (0x41 ∷ []) 1 ∷ entry [] 2 ∷ []
+
+pub table : Bool
+table =
+    all
+    (endsIn [] (0x00 ∷ 0x00 ∷ 0x01 ∷ 0xFC ∷ [])
+    ∷ endsIn (100 ∷ []) (0x00 ∷ 0x00 ∷ 0x64 ∷ 0x00 ∷ 0x64 ∷ 0x01 ∷ 0x95 ∷ [])
+    ∷ endsIn (100 ∷ 100 ∷ 100 ∷ []) (0x08 ∷ 0x00 ∷ 0x03 ∷ 0x40 ∷ 0x00 ∷ 0x64 ∷ 0x01 ∷ 0x2C ∷ 0x00 ∷ 0xCA ∷ [])
+    ∷ endsIn (100 ∷ 100 ∷ 80 ∷ []) (0x00 ∷ 0x00 ∷ 0x50 ∷ 0x08 ∷ 0x00 ∷ 0x02 ∷ 0x40 ∷ 0x00 ∷ 0x64 ∷ 0x01 ∷ 0x18 ∷ 0x00 ∷ 0xDB ∷ [])
+    ∷ endsIn (505 ∷ []) (0x00 ∷ 0x01 ∷ 0xF9 ∷ 0x01 ∷ 0xF9 ∷ 0x00 ∷ 0x00 ∷ [])
+    -- four of 100, then 99 or 101 at the end, or 93 in the middle
+    ∷ staysWith (inserted (replicate 4 100) 4 99) 0
+    ∷ divides (inserted (replicate 4 100) 4 101) 4 (3 ∷ 2 ∷ [])
+    ∷ staysWith (inserted (replicate 4 100) 2 93) 0
+    -- five of 99, the third updated to 97 or 98
+    ∷ staysWith (updated (replicate 5 99) 2 97) 0
+    ∷ divides (updated (replicate 5 99) 2 98) 2 (2 ∷ 3 ∷ [])
+    -- 400 between 250 and 240, and before both
+    ∷ divides (inserted (250 ∷ 240 ∷ []) 1 400) 1 (1 ∷ 1 ∷ 1 ∷ [])
+    ∷ divides (inserted (250 ∷ 240 ∷ []) 0 400) 0 (1 ∷ 2 ∷ [])
+    -- two intervals, the second free; and after a cut
+    ∷ has (meaning (1 ∷ []) (entry [] 0 ∷ [])) 18 (0x00 ∷ 0x19 ∷ 0x01 ∷ 0xF6 ∷ 0x01 ∷ 0xF6 ∷ 0x01 ∷ [])
+    ∷ has (meaning [] (entry cut 0 ∷ entry [] 1 ∷ [])) 18 (0x00 ∷ 0x18 ∷ 0x01 ∷ 0xF2 ∷ 0x01 ∷ 0xF2 ∷ [])
+    ∷ has (meaning [] (entry cut 0 ∷ entry [] 1 ∷ [])) 498 (0x00 ∷ 0x00 ∷ 0x01 ∷ 0xC1 ∷ 0x00 ∷ 0x01 ∷ 0x00 ∷ [])
+    -- separators 41 42, 41 and none: F and L of each, and where three keys go
+    ∷ sameList (compressed (packed [] nested)) (0 ∷ 2 ∷ 1 ∷ 0 ∷ 0 ∷ 0 ∷ [])
+    ∷ eqb (leadsTo (0x41 ∷ 0x42 ∷ 0x99 ∷ 0x99 ∷ []) nested) 0
+    ∷ eqb (leadsTo (0x41 ∷ 0x43 ∷ 0x00 ∷ 0x00 ∷ []) nested) 1
+    ∷ eqb (leadsTo (0x42 ∷ 0x00 ∷ 0x00 ∷ 0x00 ∷ []) nested) 2
+    ∷ [])
+
+-- every case comes out as document 01 has it
+pub cases : table ≡ true
+unfolding table number digits orderOf common sum rdfCount push groups need fits concat groupBytes groupsBytes layout form cutSeparator piecesSize lastChars pieceBytes piecesBytes freeBytes header trailer packed entriesSize entrySize indexSize indexBytes Rattle.index.specs.Layout.layout leadsTo gap fitting better bestTo bestCut byCut divisionOf counts parts swap
+cases = refl
