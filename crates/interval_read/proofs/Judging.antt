@@ -27,12 +27,12 @@ use Rattle.interval_read.proofs.Keys.{empty-below, ascend-cons}
 use Rattle.room.proofs.Laws.{sum-cons}
 
 -- keys by their places are the keys of the records
-from-more : (offset key : ℕ) (ci : List ℕ) (at l : ℕ) (ls : List ℕ)
+pub from-more : (offset key : ℕ) (ci : List ℕ) (at l : ℕ) (ls : List ℕ)
     → keysFrom offset key ci at (l ∷ ls) ≡ part ci (at + offset) key ∷ keysFrom offset key ci (at + l) ls
 unfolding keysFrom
 from-more offset key ci at l ls = refl
 
-keys-are : (m : Measures) (ci : List ℕ) (at : ℕ) (ls : List ℕ) → m .offset + m .key ≤ m .least → allWithin (m .least) (m .most) ls ≡ true
+pub keys-are : (m : Measures) (ci : List ℕ) (at : ℕ) (ls : List ℕ) → m .offset + m .key ≤ m .least → allWithin (m .least) (m .most) ls ≡ true
     → keysFrom (m .offset) (m .key) ci at ls ≡ keysOf m (cut (drop at ci) ls)
 keys-are m ci at [] k h = unfold keysFrom cut in refl
 keys-are m ci at (l ∷ ls) k h =

@@ -1,0 +1,78 @@
+-- Ascending keys are above a bound if the first is, and at most one if the last is.
+use Prim.Native.Nat.{ℕ, zero, suc, _+_, _-_, _≤_, _<_}
+use mathlib.Core.Path.{_≡_, refl, _∙_, sym, ap}
+use mathlib.Core.Bool.{Bool, true, false}
+use mathlib.Core.List.{List, [], _∷_, map}
+use lib.ListN.{length}
+use native.Mathlib.Omega.{arith}
+use Rattle.fields.specs.Choice.{both, no}
+use Rattle.fields.specs.Bytes.{part}
+use Rattle.fields.specs.Order.{less}
+use Rattle.fields.proofs.Choices.{both-split, false-true}
+use Rattle.fields.proofs.Orders.{less-trans}
+use Rattle.room.specs.Room.{sum}
+use Rattle.room.proofs.Laws.{sum-cons}
+use Rattle.interval.specs.Records.{ascendFrom, above, upTo}
+use Rattle.interval_read.specs.Verdict.{lastStart}
+use Rattle.interval_read.specs.Walk.{keysFrom}
+use Rattle.interval_read.proofs.Keys.{empty-below, ascend-cons}
+use Rattle.interval_read.proofs.Judging.{from-more}
+
+-- above a bound that is below the first
+ascend-above : (low k : List ℕ) (ks : List (List ℕ)) → less low k ≡ true → ascendFrom k ks ≡ true → above low ks ≡ true
+unfolding above ascendFrom
+ascend-above low k [] h a = refl
+ascend-above low k (x ∷ xs) h a =
+    let s = both-split (less k x) (ascendFrom x xs) a in
+    let l : less low x ≡ true = less-trans low k x h (s .0) in
+    rw l (ascend-above low x xs l (s .1))
+
+pub above-first : (low k : List ℕ) (ks : List (List ℕ)) → ascendFrom k ks ≡ true → above low (k ∷ ks) ≡ less low k
+unfolding above
+above-first low k ks a = go (less low k) refl
+  where
+    go : (b : Bool) → less low k ≡ b → both b (above low ks) ≡ b
+    go true e = ascend-above low k ks e a
+    go false e = refl
+
+-- the last of some keys
+unfoldable pub lastKey : List ℕ → List (List ℕ) → List ℕ
+lastKey k [] = k
+lastKey k (x ∷ xs) = lastKey x xs
+
+over-last : (high k : List ℕ) (ks : List (List ℕ)) → ascendFrom k ks ≡ true → less high k ≡ true → less high (lastKey k ks) ≡ true
+unfolding lastKey ascendFrom
+over-last high k [] a h = h
+over-last high k (x ∷ xs) a h =
+    let s = both-split (less k x) (ascendFrom x xs) a in
+    over-last high x xs (s .1) (less-trans high k x h (s .0))
+
+pub up-to-last : (high k : List ℕ) (ks : List (List ℕ)) → ascendFrom k ks ≡ true → upTo high (k ∷ ks) ≡ no (less high (lastKey k ks))
+unfolding upTo lastKey ascendFrom
+up-to-last high k [] a = go (less high k)
+  where
+    go : (b : Bool) → both (no b) true ≡ no b
+    go true = refl
+    go false = refl
+up-to-last high k (x ∷ xs) a =
+    let s = both-split (less k x) (ascendFrom x xs) a in
+    go (less high k) refl (up-to-last high x xs (s .1)) (λ h. over-last high x xs (s .1) (less-trans high k x h (s .0)))
+  where
+    go : (b : Bool) → less high k ≡ b → upTo high (x ∷ xs) ≡ no (less high (lastKey x xs)) → (less high k ≡ true → less high (lastKey x xs) ≡ true)
+        → both (no b) (upTo high (x ∷ xs)) ≡ no (less high (lastKey x xs))
+    go true e i f = rw (f e)
+    go false e i f = i
+
+-- by place: the last key of records of these lengths
+pub last-from : (offset key : ℕ) (ci : List ℕ) (at l : ℕ) (ls : List ℕ)
+    → lastKey (part ci (at + offset) key) (keysFrom offset key ci (at + l) ls) ≡ part ci (at + lastStart (l ∷ ls) + offset) key
+last-from offset key ci at l [] = unfold lastKey keysFrom lastStart in (let e : at + 0 + offset ≡ at + offset = omega arith in rw e)
+last-from offset key ci at l (k ∷ ls) =
+    let e : at + l + lastStart (k ∷ ls) + offset ≡ at + lastStart (l ∷ k ∷ ls) + offset = omega (arith, start-more l k ls) in
+    rw (from-more offset key ci (at + l) k ls) (more (part ci (at + offset) key) (part ci (at + l + offset) key) (keysFrom offset key ci (at + l + k) ls) ∙ last-from offset key ci (at + l) k ls ∙ rw e)
+  where
+    start-more : (l k : ℕ) (ls : List ℕ) → lastStart (l ∷ k ∷ ls) ≡ l + lastStart (k ∷ ls)
+    start-more l k ls = unfold lastStart in refl
+
+    more : (p q : List ℕ) (r : List (List ℕ)) → lastKey p (q ∷ r) ≡ lastKey q r
+    more p q r = unfold lastKey in refl
