@@ -5,3 +5,4 @@ pub mod Gather
 pub mod Parts
 pub mod Vectors
 pub mod Unique
+pub mod Starting

@@ -3,6 +3,7 @@ use Prim.Native.Nat.{ℕ, _+_, _≤_, _<_}
 use mathlib.Core.Bool.{Bool, true, false}
 use mathlib.Core.List.{List, [], _∷_}
 use lib.ListN.{length, getD, take}
+use lib.Dec.{eqb}
 use Rattle.fields.specs.Choice.{pick, both, either}
 use Rattle.fields.specs.Order.{orderOf, less}
 use Rattle.fields.specs.declared.Order.{Order}
@@ -11,6 +12,8 @@ use Rattle.measures.specs.declared.Measures.{Measures}
 use Rattle.interval.specs.Records.{concat, keyOf}
 use Rattle.interval_find.specs.declared.Found.{Found}
 use Rattle.interval_find.specs.declared.Found.the-variants.{At, Gap}
+use Rattle.interval_find.specs.declared.Started.{Started}
+use Rattle.interval_find.specs.declared.Started.the-variants.{Here, Nothing}
 
 -- two keys are the same
 abbrev pub isSame : Order → Bool
@@ -48,3 +51,19 @@ allBelow high (k ∷ ks) = both (less k high) (allBelow high ks)
 abbrev pub Within : ℕ → ℕ → Found → Type 0
 Within many bytes (At i start len) = (i < many) × (start + len ≤ bytes)
 Within many bytes (Gap i start) = (i ≤ many) × (start ≤ bytes)
+
+-- the records that begin at a place, if the first of all begins at `from`: one or none, as no record is empty
+unfoldable pub startingAt : ℕ → ℕ → List (List ℕ) → List (List ℕ)
+startingAt place from [] = []
+startingAt place from (r ∷ rs) =
+    pick (eqb from place) (r ∷ startingAt place (from + length r) rs) (startingAt place (from + length r) rs)
+
+-- the length of the record that begins there
+abbrev pub startedOf : List (List ℕ) → Started
+startedOf [] = Nothing
+startedOf (r ∷ rs) = Here (length r)
+
+-- it ends within so many bytes
+abbrev pub Ends : ℕ → ℕ → Started → Type 0
+Ends bytes place (Here len) = place + len ≤ bytes
+Ends bytes place Nothing = Unit {0}

@@ -5,7 +5,7 @@ ghost use Prim.Native.Nat.{_+_, _-_, _≤_, _<_};
 ghost use lib.ListN.{length, replicate};
 ghost use Rattle.fields.specs.Bytes.{splice};
 ghost use Rattle.interval.specs.Reading.{displacement, rdfsAt, rdfsMany, recordsIn, Readable};
-ghost use Rattle.interval_find.specs.Search.{placeOf, Within};
+ghost use Rattle.interval_find.specs.Search.{placeOf, Within, startingAt, startedOf, Ends};
 ghost use Rattle.interval_find.specs.Steps.{Ready, Stepped};
 use fields::Order;
 use measures::Measures;
@@ -132,6 +132,37 @@ pub fn find(ci: &[u8], m: Measures, key: &[u8]) -> Found
             Order::Greater => return Found::Gap { ordinal, start: at },
         }
         ordinal += 1;
+        c = next;
+    }
+}
+
+// The record that begins at a place, or that none does.
+pub enum Started {
+    Here { length: usize },
+    Nothing,
+}
+
+// Whether a record begins at a place of the interval, and how long it is.
+pub fn record_at(ci: &[u8], m: Measures, place: usize) -> Started
+    requires { ⌜ Readable m (now ci) ⌝ }
+    ensures is { λ r. ⌜ r ≡ startedOf (startingAt place 0 (recordsIn (now (ci .entry)))) ⌝ }
+    ensures ends { λ r. ⌜ Ends (length (now (ci .entry))) place r ⌝ }
+{
+    let rdfs = rdfs_of(ci);
+    let p = rdfs.at;
+    let mut c = Place {
+        at: 0,
+        left: rdfs.many,
+        len: 0,
+        more: 0,
+    };
+    loop {
+        let Step::Record { at, len, next } = step_on(ci, p, m.least, m.most, c) else {
+            return Started::Nothing;
+        };
+        if at == place {
+            return Started::Here { length: len };
+        }
         c = next;
     }
 }
