@@ -1,3 +1,5 @@
 pub mod Content
 pub mod Soundness
 pub mod Reading
+pub mod Layout
+pub mod Roles

@@ -1,0 +1,12 @@
+pub mod Lowest
+pub mod Filling
+pub mod Unsound
+pub mod Sounding
+pub mod Intervals
+pub mod Ascending
+pub mod Parts
+pub mod Laying
+pub mod Roles
+pub mod Placing
+pub mod Leading
+pub mod Example

@@ -1,0 +1,165 @@
+-- The intervals as parts of the lent bytes: their lengths, and what a store of one interval does to each.
+use Prim.Native.Nat.{ℕ, _+_, _-_, _*_, _≤_, _<_}
+use mathlib.Core.Path.{_≡_, refl, _∙_, ap}
+use mathlib.Core.Bool.{Bool, true, false}
+use mathlib.Core.List.{List, _++_, append-assoc}
+use lib.ListN.{length, take, drop, length-append, length-drop}
+use lib.Seq.{length-take-le, take-at, drop-at, take-append-le, drop-append-add, drop-append-le, drop-drop, take-take}
+use lib.Dec.{ltb}
+use native.Mathlib.Omega.{arith}
+use native.Mathlib.Nat.{mul-le-mul-right}
+use borrow.Author.Tests.{ltb-true, ltb-false}
+use Rattle.fields.specs.Bytes.{Octets, part, splice}
+use Rattle.fields.proofs.Splices.{length-mid, length-splice}
+use Rattle.fields.proofs.Orders.{octets-drop}
+use Rattle.measures.specs.declared.Measures.{Measures}
+use Rattle.measures.specs.Judgement.{Fits, measures}
+use Rattle.measures.proofs.Sizes.{permitted-range}
+use Rattle.interval.proofs.Keys.{drop-take}
+use Rattle.index.proofs.Filling.{octets-part, octets-take, octets-append}
+use Rattle.area.specs.Content.{indexIn, dataIn}
+use Rattle.area.specs.Layout.{Lent}
+
+-- Measures and a length that are not refused, and bytes: the area is lent as the laws ask.
+pub fits-lent : (size offset key most n : ℕ) (area : List ℕ) → Fits size offset key most (length area) n → Octets area
+    → Lent (measures size offset key most) n area
+fits-lent size offset key most n area f o =
+    let r = permitted-range size (f .size-permitted) in
+    record {
+      octets = o;
+      long = f .bytes;
+      few = f .few;
+      large = omega (arith, r .0);
+      small = r .1;
+      key-some = f .key-some;
+      key-most = f .key-most;
+      key-inside = omega arith;
+    }
+
+-- ---- where each interval ends, and its length
+
+module _ (m : Measures) (n : ℕ) (area : List ℕ) (long : length area ≡ (n + 1) * m .size) where
+  -- Every data interval ends within the area.
+  pub data-inside : (k : ℕ) → k < n → (k + 1) * m .size + m .size ≤ length area
+  data-inside k h =
+      let l : k + 2 ≤ n + 1 = omega arith in
+      omega (arith, mul-le-mul-right (m .size) l)
+
+  -- The index interval has the size that the measures give,
+  pub length-index : length (indexIn m area) ≡ m .size
+  length-index = length-mid area 0 (m .size) (omega arith)
+
+  -- and so has each data interval.
+  pub length-data : (k : ℕ) → k < n → length (dataIn m area k) ≡ m .size
+  length-data k h = length-mid area ((k + 1) * m .size) (m .size) (data-inside k h)
+
+-- Both are bytes where the area is.
+pub octets-index : (m : Measures) (area : List ℕ) → Octets area → Octets (indexIn m area)
+octets-index m area o = octets-part area 0 (m .size) o
+
+-- The same of a data interval.
+pub octets-data : (m : Measures) (area : List ℕ) (k : ℕ) → Octets area → Octets (dataIn m area k)
+octets-data m area k o = octets-part area ((k + 1) * m .size) (m .size) o
+
+-- ---- parts of bytes in which something was stored
+
+-- the part that was stored
+pub part-here : (b : List ℕ) (a s : ℕ) (new : List ℕ) → a ≤ length b → length new ≡ s → part (splice b a new) a s ≡ new
+unfolding splice
+part-here b a s new h l =
+    let t : length (take a b) ≡ a = length-take-le a b h in
+    rw (drop-at (take a b) (new ++ drop (a + length new) b) a t) (take-at new (drop (a + length new) b) s l)
+
+-- a part that ends before it
+pub part-left : (b : List ℕ) (a : ℕ) (new : List ℕ) (p s : ℕ) → a ≤ length b → p + s ≤ a → part (splice b a new) p s ≡ part b p s
+unfolding splice
+part-left b a new p s h l =
+    let t : length (take a b) ≡ a = length-take-le a b h in
+    let d : s ≤ length (drop p (take a b)) = simp length-drop (omega arith) in
+    let r : List ℕ = new ++ drop (a + length new) b in
+    rw (drop-append-le p (take a b) r (omega arith), take-append-le s (drop p (take a b)) r d, drop-take p a b, take-take s (a - p) (drop p b) (omega arith))
+
+-- a part that begins after it
+pub part-right : (b : List ℕ) (a : ℕ) (new : List ℕ) (p s : ℕ) → a ≤ length b → a + length new ≤ p → part (splice b a new) p s ≡ part b p s
+unfolding splice
+part-right b a new p s h l =
+    let x : List ℕ = take a b ++ new in
+    let e : length x ≡ a + length new = length-append (take a b) new ∙ rw (length-take-le a b h) in
+    let q : p ≡ length x + (p - length x) = omega arith in
+    let f : a + length new + (p - length x) ≡ p = omega arith in
+    let i : drop p (x ++ drop (a + length new) b) ≡ drop p b =
+    ap (λ (y : ℕ). drop y (x ++ drop (a + length new) b)) q ∙ drop-append-add x (drop (a + length new) b) (p - length x) ∙ drop-drop (p - length x) (a + length new) b ∙ rw f in
+    rw (← append-assoc (take a b) new (drop (a + length new) b), i)
+
+-- Bytes stored among bytes are bytes.
+pub octets-store : (b : List ℕ) (a : ℕ) (new : List ℕ) → Octets b → Octets new → Octets (splice b a new)
+unfolding splice
+octets-store b a new o p =
+    octets-append (take a b) (new ++ drop (a + length new) b) (octets-take a b o) (octets-append new (drop (a + length new) b) p (octets-drop (a + length new) b o))
+
+-- ---- an area in which one interval was stored
+
+module _ (m : Measures) (n : ℕ) (area : List ℕ) (long : length area ≡ (n + 1) * m .size) (new : List ℕ) (size : length new ≡ m .size) where
+  -- Data interval k is stored.
+  module _ (k : ℕ) (inside : k < n) where
+    -- It is then the new bytes.
+    pub data-splice-here : dataIn m (splice area ((k + 1) * m .size) new) k ≡ new
+    data-splice-here = part-here area ((k + 1) * m .size) (m .size) new (omega (arith, data-inside m n area long k inside)) size
+
+    -- Every other data interval is as it was.
+    pub data-splice-other : (j : ℕ) → (j ≡ k → ⊥) → dataIn m (splice area ((k + 1) * m .size) new) j ≡ dataIn m area j
+    data-splice-other j d = go (ltb j k) refl
+      where
+        at : (k + 1) * m .size ≤ length area
+        at = omega (arith, data-inside m n area long k inside)
+
+        go : (t : Bool) → ltb j k ≡ t → dataIn m (splice area ((k + 1) * m .size) new) j ≡ dataIn m area j
+        go true e =
+            let l : j + 2 ≤ k + 1 = omega (arith, ltb-true j k e) in
+            part-left area ((k + 1) * m .size) new ((j + 1) * m .size) (m .size) at (omega (arith, mul-le-mul-right (m .size) l))
+        go false e =
+            let l : k + 2 ≤ j + 1 = omega (arith, ltb-false j k e) in
+            part-right area ((k + 1) * m .size) new ((j + 1) * m .size) (m .size) at (omega (arith, mul-le-mul-right (m .size) l))
+
+    -- So is the index record.
+    pub data-splice-index : indexIn m (splice area ((k + 1) * m .size) new) ≡ indexIn m area
+    data-splice-index = part-left area ((k + 1) * m .size) new 0 (m .size) (omega (arith, data-inside m n area long k inside)) (omega arith)
+
+    -- And the area's length.
+    pub data-splice-length : length (splice area ((k + 1) * m .size) new) ≡ length area
+    data-splice-length = length-splice area ((k + 1) * m .size) new (omega (arith, data-inside m n area long k inside))
+
+  -- The index record is stored: it is then the new bytes,
+  pub index-splice-here : indexIn m (splice area 0 new) ≡ new
+  index-splice-here = part-here area 0 (m .size) new (omega arith) size
+
+  -- and every data interval is as it was,
+  pub index-splice-data : (j : ℕ) → dataIn m (splice area 0 new) j ≡ dataIn m area j
+  index-splice-data j = part-right area 0 new ((j + 1) * m .size) (m .size) (omega arith) (omega arith)
+
+  -- and the area's length.
+  pub index-splice-length : length (splice area 0 new) ≡ length area
+  index-splice-length = length-splice area 0 new (omega arith)
+
+-- An area that was lent as the laws ask still is, after bytes of one interval's size were stored as an interval.
+module _ (m : Measures) (n : ℕ) (area : List ℕ) (lent : Lent m n area) (new : List ℕ) (size : length new ≡ m .size) (o : Octets new) where
+  lent-stored : (a : ℕ) → length (splice area a new) ≡ length area → Lent m n (splice area a new)
+  lent-stored a e =
+      record {
+        octets = octets-store area a new (lent .octets) o;
+        long = e ∙ lent .long;
+        few = lent .few;
+        large = lent .large;
+        small = lent .small;
+        key-some = lent .key-some;
+        key-most = lent .key-most;
+        key-inside = lent .key-inside;
+      }
+
+  -- as a data interval,
+  pub lent-data : (k : ℕ) → k < n → Lent m n (splice area ((k + 1) * m .size) new)
+  lent-data k h = lent-stored ((k + 1) * m .size) (data-splice-length m n area (lent .long) new size k h)
+
+  -- or as the index interval.
+  pub lent-index : Lent m n (splice area 0 new)
+  lent-index = lent-stored 0 (index-splice-length m n area (lent .long) new size)

@@ -1,0 +1,63 @@
+-- A whole area said by the two grammars alone: document 01, 'The area we lend', 'Data interval', 'Index record'. Nothing here reads.
+use Prim.Native.Nat.{ℕ, _+_, _*_, _≤_}
+use mathlib.Core.Path.{_≡_}
+use mathlib.Core.Bool.{true}
+use mathlib.Core.List.{List, [], _∷_}
+use lib.ListN.{length}
+use Rattle.fields.specs.Bytes.{Octets}
+use Rattle.measures.specs.declared.Measures.{Measures}
+use Rattle.interval.specs.Records.{keysOf, lengthsFine, ascending, above, upTo}
+use Rattle.interval.specs.Layout.{LaidOut as IntervalLaidOut}
+use Rattle.index.specs.Bounds.{bound}
+use Rattle.index.specs.Meaning.{Meaning}
+use Rattle.index.specs.Rules.{keepsRules}
+use Rattle.index.specs.Layout.{LaidOut as IndexLaidOut}
+use Rattle.area.specs.Content.{Filled, Content, indexIn, dataIn, meaningOf}
+use Rattle.area.specs.Reading.{width}
+
+-- what refusal 1 leaves: bytes, n + 1 intervals of them, and measures that are fine
+pub record Lent (m : Measures) (n : ℕ) (area : List ℕ) : Type 0 where
+  pub octets : Octets area
+  pub long : length area ≡ (n + 1) * m .size
+  pub few : n ≤ 256
+  pub large : 31 ≤ m .size
+  pub small : m .size ≤ 32768
+  pub key-some : 1 ≤ m .key
+  pub key-most : m .key ≤ 255
+  pub key-inside : m .offset + m .key ≤ m .least
+
+-- the index interval is laid out with this meaning, which keeps all rules
+pub record IndexInterval (m : Measures) (n : ℕ) (ix : Meaning) (ib : List ℕ) : Type 0 where
+  pub laid : IndexLaidOut width (m .size) ix ib
+  pub rules : keepsRules (m .size) (m .key) n [] [] ix ≡ true
+
+-- a free interval is laid out with no record
+abbrev pub FreeInterval : Measures → List ℕ → Type 0
+FreeInterval m ci = IntervalLaidOut (m .size) [] ci
+
+-- An interval in use is laid out with its records: lengths that the measures allow, keys that strictly ascend, each above the bound before (low,
+-- [] where there is none) and at most the entry's own (high).
+pub record UsedInterval (m : Measures) (low high : List ℕ) (rs : List (List ℕ)) (ci : List ℕ) : Type 0 where
+  pub laid : IntervalLaidOut (m .size) rs ci
+  pub lengths : lengthsFine m rs ≡ true
+  pub ascend : ascending (keysOf m rs) ≡ true
+  pub after : above low (keysOf m rs) ≡ true
+  pub within : upTo high (keysOf m rs) ≡ true
+
+-- all free intervals
+abbrev pub FreeIntervals : Measures → List ℕ → List ℕ → Type 0
+FreeIntervals m area [] = Unit {0}
+FreeIntervals m area (k ∷ ks) = FreeInterval m (dataIn m area k) × FreeIntervals m area ks
+
+-- all intervals in use, each entry's bound being the one before for the next
+abbrev pub UsedIntervals : Measures → List ℕ → List ℕ → List Filled → Type 0
+UsedIntervals m area low [] = Unit {0}
+UsedIntervals m area low (f ∷ fs) =
+    UsedInterval m low (bound (m .key) (f .sep)) (f .records) (dataIn m area (f .num))
+    × UsedIntervals m area (bound (m .key) (f .sep)) fs
+
+-- the area holds c: its index interval by the index grammar, each data interval by the interval grammar
+pub record AreaLaidOut (m : Measures) (n : ℕ) (area : List ℕ) (c : Content) : Type 0 where
+  pub index : IndexInterval m n (meaningOf c) (indexIn m area)
+  pub free : FreeIntervals m area (c .free)
+  pub used : UsedIntervals m area [] (c .filled)

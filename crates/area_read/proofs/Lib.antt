@@ -1,0 +1,5 @@
+pub mod Places
+pub mod Lows
+pub mod Entries
+pub mod Whole
+pub mod Unique

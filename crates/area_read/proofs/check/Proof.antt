@@ -1,0 +1,102 @@
+use mathlib.Core.Path.{_≡_, _∙_, sym}
+use native.Mathlib.Omega.{arith}
+use borrow.Author.Needs.{needs}
+use Rattle.area.specs.Content.{indexIn}
+use Rattle.index_read.proofs.Answers.{Judged, answer-sound, answer-unsound}
+use Rattle.area_read.proofs.Places.{length-index}
+use Rattle.area_read.proofs.Whole.{frees, index-damaged, data-damaged, intact}
+use borrow.Author.Needs.{needs}
+use Rattle.area_read.proofs.check.Statement.{statement}
+use Rattle.area_read.proofs.check.Tie as tie
+
+told : (k : tie.After-known-told) → Judged (k .before .before .before .before .before .before .args .m .key) (k .before .before .before .before .before .before .args .n) (indexIn (k .before .before .before .before .before .before .args .m) (k .before .before .before .before .before .before .args .area .now)) (k .before .free .given .0 .0) (k .before .free .given .0 .1 .0)
+told k =
+    let a = k .before .before .before .before .before .before .args in
+    answer-sound (a .m .key) (a .n) (indexIn (a .m) (a .area .now)) (k .before .free .given .0 .0) (k .before .free .given .0 .1 .0) (sym (k .before .before .before .check .ensures) ∙ k .before .free .given .1)
+
+slice-aggregate-check : tie.Need-slice-aggregate-check
+slice-aggregate-check c =
+    let s = c .before .before in
+    sym (length-index (s .args .m) (s .args .n) (s .args .area .now) (s .pre))
+
+check-requires : tie.Need-check-requires
+check-requires c κs =
+    let s = c .before .before in
+    let z = length-index (s .args .m) (s .args .n) (s .args .area .now) (s .pre) in
+    (omega (arith, z, s .pre .large), omega (arith, z, s .pre .small), s .pre .key-some, s .pre .key-most, s .pre .few)
+
+enum-known-free : tie.Need-enum-known-free
+enum-known-free c = search needs
+
+enum-told : tie.Need-enum-told
+enum-told c = search needs
+
+returns : tie.Need-returns
+returns c =
+    let a = c .before .before .before .before .before .args in
+    index-damaged (a .m) (a .n) (a .area .now) (answer-unsound (a .m .key) (a .n) (indexIn (a .m) (a .area .now)) (sym (c .before .before .check .ensures) ∙ c .enum-told .given .1))
+
+slice-aggregate-free-worst : tie.Need-slice-aggregate-free-worst
+slice-aggregate-free-worst c =
+    let s = c .before .before .before .before .before .before .before in
+    sym (length-index (s .args .m) (s .args .n) (s .args .area .now) (s .pre))
+
+free-worst-requires : tie.Need-free-worst-requires
+free-worst-requires c κs =
+    let k = c .before in
+    let s = k .before .before .before .before .before .before in
+    let f = frees (s .args .m .key) (s .args .n) (indexIn (s .args .m) (s .args .area .now)) (told k .sound) (k .before .free .given .0 .0) (told k .free-is) in
+    (s .pre, f .lie, f .small)
+
+slice-aggregate-used-worst : tie.Need-slice-aggregate-used-worst
+slice-aggregate-used-worst c =
+    let s = c .before .before .before .before .before .before .before .before .before in
+    sym (length-index (s .args .m) (s .args .n) (s .args .area .now) (s .pre))
+
+used-worst-requires : tie.Need-used-worst-requires
+used-worst-requires c κs =
+    let k = c .before .before .before in
+    let s = k .before .before .before .before .before .before in
+    (s .pre, length-index (s .args .m) (s .args .n) (s .args .area .now) (s .pre), told k .sound, told k .entries-is)
+
+add-t17 : tie.Need-add-t17
+add-t17 c = search needs
+
+returns-2 : tie.Need-returns-2
+returns-2 c =
+    let k = c .before .before .before .before .before .before .before in
+    let s = k .before .before .before .before .before .before in
+    let a = s .args in
+    let f = frees (a .m .key) (a .n) (indexIn (a .m) (a .area .now)) (told k .sound) (k .before .free .given .0 .0) (told k .free-is) in
+    let u = c .before .before .before .used-worst in
+    let w = rw (f .are) at (c .before .before .before .before .before .free-worst .ensures) in
+    let e = rw w at (u .ensures .0) in
+    data-damaged (a .m) (a .n) (a .area .now) (told k .sound) (u .result .worst) (u .result .records) e (c .before .if1 .taken)
+
+returns-3 : tie.Need-returns-3
+returns-3 c =
+    let k = c .before .before .before .before .before .before in
+    let s = k .before .before .before .before .before .before in
+    let a = s .args in
+    let f = frees (a .m .key) (a .n) (indexIn (a .m) (a .area .now)) (told k .sound) (k .before .free .given .0 .0) (told k .free-is) in
+    let u = c .before .before .used-worst in
+    let w = rw (f .are) at (c .before .before .before .before .free-worst .ensures) in
+    let e = rw w at (u .ensures .0) in
+    intact (a .m) (a .n) (a .area .now) (told k .sound) (u .result .worst) (u .result .records) e (c .if1 .left) (u .ensures .1) (k .before .free .given .0 .0) (told k .free-is)
+
+pub check-spec : {M : Type 1} → statement M
+check-spec =
+    tie.close
+    (tie.spec
+    slice-aggregate-check
+    check-requires
+    enum-known-free
+    enum-told
+    returns
+    slice-aggregate-free-worst
+    free-worst-requires
+    slice-aggregate-used-worst
+    used-worst-requires
+    add-t17
+    returns-2
+    returns-3)

@@ -1,0 +1,1 @@
+// Planning a change, and making its stores.

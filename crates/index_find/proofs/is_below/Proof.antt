@@ -1,0 +1,42 @@
+use lib.Seq.{length-take-le}
+use Rattle.fields.proofs.Answers.{not-less}
+use Rattle.index_find.proofs.Finding.{below-is}
+use Rattle.fields.specs.Order.{isLess}
+use denote.Ref.{now}
+use lib.ListN.{take}
+use mathlib.Core.Bool.{true, false}
+use mathlib.Core.Path.{sym, ap}
+use borrow.Author.Needs.{needs}
+use Rattle.index_find.proofs.is_below.Statement.{statement}
+use Rattle.index_find.proofs.is_below.Tie as tie
+
+slice-aggregate-compare : tie.Need-slice-aggregate-compare
+slice-aggregate-compare c = sym (length-take-le _ _ (c .before .before .before .pre .0))
+
+slice-aggregate-compare-2 : tie.Need-slice-aggregate-compare-2
+slice-aggregate-compare-2 c = sym (length-take-le _ _ (c .before .before .before .before .pre .1))
+
+compare-requires : tie.Need-compare-requires
+compare-requires c κs = search needs
+
+enum-told : tie.Need-enum-told
+enum-told c = search needs
+
+returns : tie.Need-returns
+returns c = let a = c .before .before .before .before .before .before .args in
+    below-is (take (a .len) (now (a .buf))) (take (a .len) (now (a .key))) (c .before .compare .result) false (c .before .compare .ensures) (not-less (c .before .compare .result) (c .match .keys2))
+
+returns-2 : tie.Need-returns-2
+returns-2 c = let a = c .before .before .before .before .before .before .before .args in
+    below-is (take (a .len) (now (a .buf))) (take (a .len) (now (a .key))) (c .before .before .compare .result) true (c .before .before .compare .ensures) (ap isLess (c .enum-told .given .1))
+
+pub is-below-spec : {M : Type 1} → statement M
+is-below-spec =
+    tie.close
+    (tie.spec
+    slice-aggregate-compare
+    slice-aggregate-compare-2
+    compare-requires
+    enum-told
+    returns
+    returns-2)

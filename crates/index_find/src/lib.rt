@@ -1,0 +1,74 @@
+// Where a key leads in a sound index record, and its free numbers.
+ghost use mathlib.Core.Path.{_≡_};
+ghost use Prim.Native.Nat.{_+_, _*_, _≤_, _<_};
+ghost use lib.ListN.{length, getD, take};
+ghost use Rattle.fields.specs.Order.{less};
+ghost use Rattle.index.specs.Reading.{freeCount, numbersAt};
+ghost use Rattle.index_read.specs.Check.{width};
+ghost use Rattle.index_find.specs.Locate.{Readable, Leads};
+use fields::Order;
+use index_read::Parsed;
+
+// The entry that a key leads to: its place among the entries, from 0, and the number of its interval.
+pub struct Located {
+    pub ordinal: usize,
+    pub number: usize,
+}
+
+// Whether the first len bytes of buf are below those of key.
+pub(crate) fn is_below(buf: &[u8], key: &[u8], len: usize) -> bool
+    requires { ⌜ (len ≤ length (now buf)) × (len ≤ length (now key)) ⌝ }
+    ensures { λ r. ⌜ r ≡ less (take len (now (buf .entry))) (take len (now (key .entry))) ⌝ }
+{
+    let Order::Less = fields::compare(&buf[..len], &key[..len]) else {
+        return false;
+    };
+    true
+}
+
+// The first entry whose separator is not below as many bytes of the key, in a sound index record of n intervals. Such a
+// record's entries can all be taken apart, and the empty separator of the last stops every key, so the loop never runs out.
+pub fn locate(ib: &[u8], n: usize, key: &[u8]) -> Located
+    requires { ⌜ Readable (now ib) n (now key) ⌝ }
+    ensures { λ r. ⌜ Leads (now (ib .entry)) n (now (key .entry)) r ⌝ }
+{
+    let last = fields::read_two(ib, 20);
+    let mut buf = [0u8; 255];
+    let mut len = 0;
+    let mut r = ib.len() - 7;
+    let mut i = 0;
+    while i < n {
+        let Parsed::Of {
+            front,
+            len: l,
+            at,
+            number,
+        } = index_read::piece_at(ib, index_read::WIDTH, r, last, len, key.len())
+        else {
+            break;
+        };
+        let z = at + l;
+        fields::copy(&mut buf, front, &ib[at..z]);
+        len = front + l;
+        if !is_below(&buf, key, len) {
+            return Located {
+                ordinal: i,
+                number: number,
+            };
+        }
+        r = at;
+        i += 1;
+    }
+    Located {
+        ordinal: 0,
+        number: 0,
+    }
+}
+
+// A free number, by its place among them from 0.
+pub fn free_at(ib: &[u8], i: usize) -> usize
+    requires { ⌜ (i < freeCount width (now ib)) × (24 + width * freeCount width (now ib) ≤ length (now ib)) ⌝ }
+    ensures { λ r. ⌜ r ≡ getD (numbersAt width (now (ib .entry)) 24 (freeCount width (now (ib .entry)))) i 0 ⌝ }
+{
+    fields::read_pointer(ib, 24 + index_read::WIDTH * i, index_read::WIDTH)
+}

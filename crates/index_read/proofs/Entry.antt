@@ -1,0 +1,261 @@
+-- Laws of one entry: how it is taken apart, and the buffer that holds its bound.
+use Prim.Native.Nat.{ℕ, suc, _+_, _-_, _≤_, _<_, min}
+use mathlib.Core.Path.{_≡_, refl, _∙_, sym, ap}
+use mathlib.Core.Bool.{Bool, true, false}
+use mathlib.Core.List.{List, [], _∷_, _++_, append-assoc}
+use lib.ListN.{length, getD, take, drop, replicate, length-append, length-replicate, length-take, length-drop, drop-of-length-le}
+use lib.Seq.{length-take-le, take-add, drop-drop, take-take, take-at, take-append-le, getD-take, drop-cons}
+use lib.Dec.{leb, ltb}
+use native.Mathlib.Omega.{arith}
+use native.Mathlib.Numerals.{add-one}
+use borrow.Author.Tests.{le-leb, lt-leb, leb-true, leb-false, lt-ltb, le-ltb}
+use Rattle.fields.specs.Choice.{pick, both}
+use Rattle.fields.specs.Bytes.{Octets, part, number, splice}
+use Rattle.fields.specs.Order.{orderOf, isLess, less}
+use Rattle.fields.specs.declared.Order.{Order}
+use Rattle.fields.specs.declared.Order.the-variants.{Less, Same, Greater}
+use Rattle.fields.proofs.Choices.{both-split}
+use Rattle.fields.proofs.Splices.{splice-after, length-mid}
+use Rattle.fields.proofs.Orders.{octets-drop, andThen, order-prefix, order-front}
+use Rattle.index.specs.Bounds.{bound}
+use Rattle.index.specs.Pieces.{Piece, pieceSize}
+use Rattle.index.specs.Reading.{lengthAt, pieceAt, piecesAt}
+use Rattle.index.proofs.Filling.{octets-take, length-bound}
+use Rattle.index_read.specs.declared.Parsed.the-variants.{Of, Bad}
+use Rattle.index_read.specs.Parsing.{frontAt, charsAt, parses, parsedOf}
+use Rattle.index_read.specs.Walk.{someLow, above}
+
+-- ---- an entry taken apart
+
+-- What it means that the entry which ends at place r was taken apart.
+pub record Good (w : ℕ) (ib : List ℕ) (r edge len K f l at num : ℕ) : Type 0 where
+  pub front-is : f ≡ frontAt w ib r
+  pub len-is : l ≡ lengthAt w ib r
+  pub at-is : at ≡ charsAt w ib r
+  pub num-is : num ≡ number w ib (r - w)
+  pub room : edge + (w + 2 + l) ≤ r
+  pub front : f ≤ len
+  pub fits : f + l ≤ K
+
+pub of-bad : {f l at num : ℕ} → Of f l at num ≡ Bad → ⊥
+of-bad e = let z : _≡_ {A = ℕ} 0 1 = cc in omega arith
+
+pub bad-of : {f l at num : ℕ} → Bad ≡ Of f l at num → ⊥
+bad-of e = of-bad (sym e)
+
+pub off : (t : Bool) → (t ≡ true → ⊥) → t ≡ false
+off true h = absurd (h refl)
+off false h = refl
+
+module _ (w : ℕ) (ib : List ℕ) (r edge len K : ℕ) where
+  abbrev L : ℕ
+  L = lengthAt w ib r
+
+  abbrev F : ℕ
+  F = frontAt w ib r
+
+  parses-apart : parses w ib r edge len K ≡ true → (edge + (w + 2 + L) ≤ r) × (F ≤ len) × (F + L ≤ K)
+  unfolding parses
+  parses-apart h =
+      let a = both-split (leb (edge + (w + 2 + L)) r) (both (leb F len) (leb (F + L) K)) h in
+      let b = both-split (leb F len) (leb (F + L) K) (a .1) in
+      (leb-true (edge + (w + 2 + L)) r (a .0), leb-true F len (b .0), leb-true (F + L) K (b .1))
+
+  pub parses-joined : edge + (w + 2 + L) ≤ r → F ≤ len → F + L ≤ K → parses w ib r edge len K ≡ true
+  unfolding parses
+  parses-joined h i j = rw (le-leb (edge + (w + 2 + L)) r h, le-leb F len i, le-leb (F + L) K j)
+
+  parsed-off : (parses w ib r edge len K ≡ true → ⊥) → Bad ≡ parsedOf w ib r edge len K
+  unfolding parsedOf
+  parsed-off h = sym (rw (off (parses w ib r edge len K) h))
+
+  -- the three ways out
+  pub no-room : (l : ℕ) → l ≡ L → r < edge + (w + 2 + l) → Bad ≡ parsedOf w ib r edge len K
+  no-room l e h = parsed-off (λ p. omega (arith, parses-apart p .0))
+
+  pub no-room-at-all : r < edge + (w + 2) → Bad ≡ parsedOf w ib r edge len K
+  no-room-at-all h = parsed-off (λ p. omega (arith, parses-apart p .0))
+
+  pub no-front : (f : ℕ) → f ≡ F → len < f → Bad ≡ parsedOf w ib r edge len K
+  no-front f e h = parsed-off (λ p. omega (arith, parses-apart p .1))
+
+  pub no-fit : (f l : ℕ) → f ≡ F → l ≡ L → K < f + l → Bad ≡ parsedOf w ib r edge len K
+  no-fit f l e g h = parsed-off (λ p. omega (arith, parses-apart p .2))
+
+  -- and the way on
+  pub parsed-on : (f l num : ℕ) → f ≡ F → l ≡ L → num ≡ number w ib (r - w) → edge + (w + 2 + l) ≤ r → f ≤ len → f + l ≤ K
+      → Of f l (r - (w + 2 + l)) num ≡ parsedOf w ib r edge len K
+  unfolding parsedOf
+  parsed-on f l num e g n h i j = rw (e, g, n) (sym (rw (parses-joined (rw g at h) (rw e at i) (rw (e, g) at j))))
+
+  -- what a good answer says
+  pub good : (f l at num : ℕ) → parsedOf w ib r edge len K ≡ Of f l at num → Good w ib r edge len K f l at num
+  unfolding parsedOf
+  good f l at num = go (parses w ib r edge len K) refl
+    where
+      go : (t : Bool) → parses w ib r edge len K ≡ t → pick t (Of F L (charsAt w ib r) (number w ib (r - w))) Bad ≡ Of f l at num → Good w ib r edge len K f l at num
+      go true p h =
+          let a1 : f ≡ F = cc in
+          let a2 : l ≡ L = cc in
+          let a3 : at ≡ charsAt w ib r = cc in
+          let a4 : num ≡ number w ib (r - w) = cc in
+          let q = parses-apart p in
+          record { front-is = a1; len-is = a2; at-is = a3; num-is = a4; room = omega (arith, q .0); front = omega (arith, q .1); fits = omega (arith, q .2) }
+      go false p h = absurd (bad-of h)
+
+-- ---- the bytes that a piece takes
+
+-- Whether a piece stays right of e shows from its L, also where its bytes aren't all there: it then reaches past the left end.
+pub size-test : (w : ℕ) (b : List ℕ) (r e : ℕ) → r ≤ length b → leb (e + pieceSize w (pieceAt w b r)) r ≡ leb (e + (w + 2 + lengthAt w b r)) r
+size-test w b r e h = go (leb (e + (w + 2 + n)) r) refl
+  where
+    n : ℕ
+    n = lengthAt w b r
+
+    long : length (pieceAt w b r .chars) ≡ min n (length b - (r - (w + 2 + n)))
+    long = length-take n (drop (r - (w + 2 + n)) b) ∙ rw (length-drop (r - (w + 2 + n)) b)
+
+    go : (t : Bool) → leb (e + (w + 2 + n)) r ≡ t → leb (e + pieceSize w (pieceAt w b r)) r ≡ t
+    go true q = le-leb (e + pieceSize w (pieceAt w b r)) r (omega (arith, long, leb-true (e + (w + 2 + n)) r q))
+    go false q = lt-leb (e + pieceSize w (pieceAt w b r)) r (omega (arith, long, leb-false (e + (w + 2 + n)) r q))
+
+module _ (w : ℕ) (ib : List ℕ) (r edge len K f l at num : ℕ) (g : Good w ib r edge len K f l at num) (inside : r ≤ length ib) where
+  -- its bytes are there
+  pub chars-inside : at + l ≤ length ib
+  chars-inside = omega (arith, g .at-is, g .len-is, g .room)
+
+  pub chars-length : length (part ib at l) ≡ l
+  chars-length = length-mid ib at l chars-inside
+
+  pub piece-is : pieceAt w ib r ≡ record { front = f; chars = part ib at l; num = num }
+  piece-is = rw (g .front-is, g .at-is, g .len-is, g .num-is)
+
+  pub size-is : pieceSize w (pieceAt w ib r) ≡ w + 2 + l
+  size-is = ap (λ (p : Piece). pieceSize w p) piece-is ∙ rw chars-length
+
+  pub place-is : r - pieceSize w (pieceAt w ib r) ≡ at
+  place-is = omega (arith, size-is, g .at-is, g .len-is)
+
+-- the pieces from r on: the first, and the others
+pub pieces-next : (w : ℕ) (ib : List ℕ) (r left : ℕ) → 0 < left
+    → piecesAt w ib r left ≡ pieceAt w ib r ∷ piecesAt w ib (r - pieceSize w (pieceAt w ib r)) (left - 1)
+unfolding piecesAt
+pieces-next w ib r left h =
+    let e : left ≡ suc (left - 1) = omega arith in
+    ap (λ (z : ℕ). piecesAt w ib r z) e
+
+-- ---- the buffer that holds a bound
+
+-- The front of what follows a separator's bound is a front of the separator.
+pub held-front : (K : ℕ) (buf ref : List ℕ) (f : ℕ) → take K buf ≡ bound K ref → length ref ≤ K → f ≤ length ref → take f buf ≡ take f ref
+unfolding bound
+held-front K buf ref f h k l =
+    let k' : f ≤ K = omega arith in
+    sym (take-take f K buf k') ∙ ap (λ (x : List ℕ). take f x) h ∙ take-append-le f ref _ l
+
+-- A buffer that was renewed holds the bound of the new separator, and is as long as before.
+module _ (K : ℕ) (buf chars new : List ℕ) (f l : ℕ) (fits : f + l ≤ K) (whole : K ≤ length buf) (long : length chars ≡ l)
+    (is : new ≡ bound K (take f buf ++ chars) ++ drop K buf) where
+  next-length : length (take f buf ++ chars) ≡ f + l
+  next-length = omega (arith, length-append (take f buf) chars, length-take-le f buf (omega arith), long)
+
+  bound-length : length (bound K (take f buf ++ chars)) ≡ K
+  bound-length = length-bound K (take f buf ++ chars) (omega (arith, next-length))
+
+  pub renewed-held : take K new ≡ bound K (take f buf ++ chars)
+  renewed-held = rw is (take-at (bound K (take f buf ++ chars)) (drop K buf) K bound-length)
+
+  pub renewed-front : take (f + l) new ≡ take f buf ++ chars
+  unfolding bound
+  renewed-front =
+      rw is
+      (ap (λ (x : List ℕ). take (f + l) x) (append-assoc (take f buf ++ chars) _ (drop K buf)) ∙ take-at (take f buf ++ chars) _ (f + l) next-length)
+
+  pub renewed-length : length new ≡ length buf
+  renewed-length = ap length is ∙ omega (arith, length-append (bound K (take f buf ++ chars)) (drop K buf), bound-length, length-drop K buf)
+
+-- The two stores that renew it.
+pub renewed-by : (buf ib b1 b2 : List ℕ) (f l at K : ℕ) → f + l ≤ K → K ≤ length buf → at + l ≤ length ib → b1 ≡ splice buf f (take (at + l - at) (drop at ib))
+    → b2 ≡ splice b1 (f + l) (replicate (K - (f + l)) 255) → b2 ≡ bound K (take f buf ++ part ib at l) ++ drop K buf
+unfolding bound splice
+renewed-by buf ib b1 b2 f l at K h i j e g =
+    let z : at + l - at ≡ l = omega arith in
+    let n : length (part ib at l) ≡ l = length-mid ib at l j in
+    let m : length {A = ℕ} (replicate (K - (f + l)) 255) ≡ K - (f + l) = length-replicate (K - (f + l)) 255 in
+    let t : length (take f buf) ≡ f = length-take-le f buf (omega arith) in
+    let x : List ℕ = part ib at l ++ replicate (K - (f + l)) 255 in
+    let s : b2 ≡ splice buf f x = g ∙ rw (e, z) (splice-after buf f (f + l) (part ib at l) (replicate (K - (f + l)) 255) (omega arith) (omega arith)) in
+    let k : f + length x ≡ K = omega (arith, length-append (part ib at l) (replicate (K - (f + l)) 255)) in
+    let v : length (take f buf ++ part ib at l) ≡ f + l = omega (arith, length-append (take f buf) (part ib at l)) in
+    s ∙ rw (k, v) (simp append-assoc)
+
+-- ---- the order of the next bound
+
+-- X'FF' all the way is above whatever has a lower byte, and above nothing else.
+order-top : (t : List ℕ) → Octets t → orderOf t (replicate (length t) 255) ≡ pick (someLow t) Less Same
+unfolding orderOf someLow
+order-top [] o = refl
+order-top (x ∷ xs) o = go (ltb x 255) refl (order-top xs (λ i. o (suc i)))
+  where
+    go : (s : Bool) → ltb x 255 ≡ s → orderOf xs (replicate (length xs) 255) ≡ pick (someLow xs) Less Same
+        → pick s Less (pick (ltb 255 x) Greater (orderOf xs (replicate (length xs) 255))) ≡ pick (pick s true (someLow xs)) Less Same
+    go true e i = refl
+    go false e i = rw (le-ltb 255 x (omega (arith, o 0)), i)
+
+module _ (buf ib : List ℕ) (f l at K : ℕ) (h : f + l ≤ K) (i : K ≤ length buf) (j : at + l ≤ length ib) (o : Octets buf) where
+  abbrev tail : List ℕ
+  tail = part buf (f + l) (K - (f + l))
+
+  old : take K buf ≡ take f buf ++ (part buf f l ++ tail)
+  old =
+      let e : K ≡ f + (l + (K - (f + l))) = omega arith in
+      ap (λ (z : ℕ). take z buf) e ∙ take-add f (l + (K - (f + l))) buf ∙ ap (λ (z : List ℕ). take f buf ++ z) (take-add l (K - (f + l)) (drop f buf) ∙ rw drop-drop)
+
+  new : bound K (take f buf ++ part ib at l) ≡ take f buf ++ (part ib at l ++ replicate (length tail) 255)
+  unfolding bound
+  new =
+      let e1 : length (take f buf) ≡ f = length-take-le f buf (omega arith) in
+      let e2 : length (part ib at l) ≡ l = length-mid ib at l j in
+      let e3 : length tail ≡ K - (f + l) = length-mid buf (f + l) (K - (f + l)) (omega arith) in
+      rw (length-append, e1, e2, e3, append-assoc)
+
+  rising : less (take K buf) (bound K (take f buf ++ part ib at l)) ≡ isLess (andThen (orderOf (part buf f l) (part ib at l)) (pick (someLow tail) Less Same))
+  rising =
+      let e2 : length (part buf f l) ≡ length (part ib at l) = length-mid buf f l (omega arith) ∙ sym (length-mid ib at l j) in
+      rw (old, new, order-prefix (take f buf), order-front (part buf f l) (part ib at l) tail (replicate (length tail) 255) e2, order-top tail (octets-take (K - (f + l)) (drop (f + l) buf) (octets-drop (f + l) buf o)))
+
+  module _ (first : Bool) (no-first : first ≡ false) (x : Order) (is : x ≡ orderOf (take (f + l - f) (drop f buf)) (take (at + l - at) (drop at ib))) where
+    above-by : above first K buf (take f buf ++ part ib at l) ≡ isLess (andThen x (pick (someLow tail) Less Same))
+    above-by =
+        let e1 : f + l - f ≡ l = omega arith in
+        let e2 : at + l - at ≡ l = omega arith in
+        rw (no-first, rising, is, e1, e2)
+
+    pub above-less : x ≡ Less → true ≡ above first K buf (take f buf ++ part ib at l)
+    above-less e = sym (above-by ∙ rw e)
+
+    pub above-greater : x ≡ Greater → false ≡ above first K buf (take f buf ++ part ib at l)
+    above-greater e = sym (above-by ∙ rw e)
+
+    pub above-same : x ≡ Same → (t : Bool) → t ≡ someLow (take (K - (f + l)) (drop (f + l) buf)) → t ≡ above first K buf (take f buf ++ part ib at l)
+    above-same e t q = q ∙ sym (above-by ∙ rw e (go (someLow tail)))
+      where
+        go : (u : Bool) → isLess (pick u Less Same) ≡ u
+        go true = refl
+        go false = refl
+
+pub last-is : (P : List ℕ) (len : ℕ) → (len ≡ 0 → ⊥) → getD P (len - 1) 0 ≡ getD (take len P) (len - 1) 0
+last-is P len h = sym (getD-take len P (len - 1) 0 (omega arith))
+
+-- some byte below X'FF' in the bytes from place i on
+pub low-here : (t : List ℕ) (i : ℕ) → i < length t → getD t i 0 < 255 → someLow (drop i t) ≡ true
+unfolding someLow
+low-here t i h l = rw (drop-cons t i 0 h, lt-ltb (getD t i 0) 255 l)
+
+pub low-on : (t : List ℕ) (i : ℕ) → i < length t → 255 ≤ getD t i 0 → someLow (drop i t) ≡ someLow (drop (i + 1) t)
+unfolding someLow
+low-on t i h l = rw (add-one i, drop-cons t i 0 h, le-ltb (getD t i 0) 255 l)
+
+pub low-none : (t : List ℕ) (i : ℕ) → length t ≤ i → someLow (drop i t) ≡ false
+unfolding someLow
+low-none t i h = rw (drop-of-length-le t h)

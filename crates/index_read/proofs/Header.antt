@@ -1,0 +1,159 @@
+-- Laws of the header: its values, the base RBA, and the displacements as far as they show before the walk.
+use Prim.Native.Nat.{ℕ, zero, suc, _+_, _-_, _*_, _/_, _%_, _^_, _≤_, _<_}
+use mathlib.Core.Path.{_≡_, refl, _∙_, sym}
+use mathlib.Core.Bool.{Bool, true, false}
+use mathlib.Core.List.{List}
+use lib.ListN.{length, getD, drop}
+use lib.Seq.{getD-take, getD-drop}
+use lib.Dec.{eqb, leb, ltb}
+use native.Mathlib.Omega.{arith}
+use native.Mathlib.Nat.{mul-le-mul, mul-div-le}
+use borrow.Author.Tests.{eq-eqb, lt-ltb, le-leb, eqb-true, ltb-true, leb-true}
+use Rattle.fields.specs.Choice.{pick}
+use Rattle.fields.specs.Bytes.{part, number}
+use Rattle.fields.proofs.Choices.{both-split}
+use Rattle.index.specs.Rules.{baseFine}
+use Rattle.index.specs.Reading.{unusedAt, lastAt, sectionAt, freeCount, frame}
+use Rattle.index.proofs.Sounding.{Framed, frame-apart}
+use Rattle.index_read.specs.declared.Places.the-variants.{At, Nowhere}
+use Rattle.index_read.specs.Walk.{liesWell, placesOf}
+use Rattle.index_read.proofs.Entry.{off}
+
+-- ---- header values, RDF and CIDF
+
+-- the pointer indicator, by a shift
+pub shifted : (w : ℕ) → w ≤ 4 → 1 * 2 ^ w % 18446744073709551616 ≡ 2 ^ w
+shifted zero h = refl
+shifted (suc zero) h = refl
+shifted (suc (suc zero)) h = refl
+shifted (suc (suc (suc zero))) h = refl
+shifted (suc (suc (suc (suc zero)))) h = refl
+shifted (suc (suc (suc (suc (suc w))))) h = absurd (omega arith)
+
+pub power-some : (w : ℕ) → 1 ≤ 2 ^ w
+power-some zero = omega arith
+power-some (suc w) = omega (arith, power-some w)
+
+pub frame-off : (w : ℕ) (ib : List ℕ) → (Framed w ib → ⊥) → false ≡ frame w ib
+frame-off w ib h = sym (off (frame w ib) (λ p. h (frame-apart w ib p)))
+
+pub frame-last : (w : ℕ) (ib : List ℕ) (x : ℕ) → number 2 ib 0 ≡ length ib - 7 → getD ib 2 0 ≡ w + 2 → getD ib 3 0 ≡ 2 ^ w - 1 → getD ib 16 0 ≡ 1
+    → getD ib (length ib - 7) 0 ≡ 0 → number 2 ib (length ib - 6) ≡ length ib - 7 → number 2 ib (length ib - 4) ≡ length ib - 7 → x ≡ number 2 ib (length ib - 2)
+    → eqb x 0 ≡ frame w ib
+unfolding frame
+frame-last w ib x a b c d e f g h =
+    sym
+    (rw
+    (eq-eqb (number 2 ib 0) (length ib - 7) a, eq-eqb (getD ib 2 0) (w + 2) b, eq-eqb (getD ib 3 0) (2 ^ w - 1) c, eq-eqb (getD ib 16 0) 1 d, eq-eqb (getD ib (length ib - 7) 0) 0 e, eq-eqb (number 2 ib (length ib - 6)) (length ib - 7) f, eq-eqb (number 2 ib (length ib - 4)) (length ib - 7) g, h))
+
+-- ---- the base
+
+kept-at : (b : List ℕ) (i : ℕ) → i < 12 → getD (part b 4 12) i 0 ≡ getD b (4 + i) 0
+kept-at b i h = getD-take 12 (drop 4 b) i 0 h ∙ getD-drop 4 b i 0
+
+-- The base RBA is the first four of the kept bytes.
+pub base-kept : (b : List ℕ) → number 4 (part b 4 12) 0 ≡ number 4 b 4
+unfolding number
+base-kept b = rw (kept-at b 0 (omega arith), kept-at b 1 (omega arith), kept-at b 2 (omega arith), kept-at b 3 (omega arith))
+
+pub base-is : (b : List ℕ) (n x : ℕ) → x ≡ number 4 b 4 → leb (x + n * length b) 4294967296 ≡ baseFine (length b) n (part b 4 12)
+base-is b n x e = rw (e, base-kept b)
+
+pub product-small : (n s : ℕ) → n ≤ 256 → s ≤ 32768 → n * s ≤ 8388608
+product-small n s h k = let m : n * s ≤ 256 * 32768 = mul-le-mul h k in omega arith
+
+-- ---- the displacements
+
+pub record Lies (w n : ℕ) (ib : List ℕ) : Type 0 where
+  pub section : sectionAt ib ≡ lastAt ib
+  pub unused : 24 + w * freeCount w ib ≡ unusedAt ib
+  pub some : freeCount w ib < n
+  pub order : unusedAt ib ≤ lastAt ib
+  pub inside : lastAt ib ≤ length ib - 7
+
+pub lies-apart : (w n : ℕ) (ib : List ℕ) → liesWell w n ib ≡ true → Lies w n ib
+unfolding liesWell
+lies-apart w n ib h =
+    let a = both-split (eqb (sectionAt ib) (lastAt ib)) _ h in
+    let b = both-split (eqb (24 + w * freeCount w ib) (unusedAt ib)) _ (a .1) in
+    let c = both-split (ltb (freeCount w ib) n) _ (b .1) in
+    let d = both-split (leb (unusedAt ib) (lastAt ib)) (leb (lastAt ib) (length ib - 7)) (c .1) in
+    record {
+      section = eqb-true _ _ (a .0);
+      unused = eqb-true _ _ (b .0);
+      some = ltb-true _ _ (c .0);
+      order = leb-true _ _ (d .0);
+      inside = leb-true _ _ (d .1);
+    }
+
+pub lies-joined : (w n : ℕ) (ib : List ℕ) → Lies w n ib → liesWell w n ib ≡ true
+unfolding liesWell
+lies-joined w n ib l =
+    rw
+    (eq-eqb (sectionAt ib) (lastAt ib) (l .section), eq-eqb (24 + w * freeCount w ib) (unusedAt ib) (l .unused), lt-ltb (freeCount w ib) n (l .some), le-leb (unusedAt ib) (lastAt ib) (l .order), le-leb (lastAt ib) (length ib - 7) (l .inside))
+
+pub no-place : (w n : ℕ) (ib : List ℕ) → (Lies w n ib → ⊥) → Nowhere ≡ placesOf w n ib
+unfolding placesOf
+no-place w n ib h = sym (rw (off (liesWell w n ib) (λ p. h (lies-apart w n ib p))))
+
+-- The count as the code has it.
+pub count-is : (w u : ℕ) (ib : List ℕ) → u ≡ unusedAt ib → (u - 24) / w ≡ freeCount w ib
+count-is w u ib e = rw e
+
+pub count-small : (w u : ℕ) → w * ((u - 24) / w) ≤ u
+count-small w u = omega (arith, mul-div-le (u - 24) w)
+
+-- the tests that fail, each by what it says of the fields
+module _ (w n : ℕ) (ib : List ℕ) (u e : ℕ) (u-is : u ≡ unusedAt ib) (e-is : e ≡ lastAt ib) where
+  c-is : (u - 24) / w ≡ freeCount w ib
+  c-is = count-is w u ib u-is
+
+  pub no-section : (x : ℕ) → x ≡ sectionAt ib → (x ≡ e → ⊥) → Nowhere ≡ placesOf w n ib
+  no-section x q h = no-place w n ib (λ l. h (q ∙ l .section ∙ sym e-is))
+
+  pub no-header : u < 24 → Nowhere ≡ placesOf w n ib
+  no-header h = no-place w n ib (λ l. omega (arith, l .unused))
+
+  pub no-number : (24 + w * ((u - 24) / w) ≡ u → ⊥) → Nowhere ≡ placesOf w n ib
+  no-number h = no-place w n ib (λ l. h (rw c-is (l .unused ∙ sym u-is)))
+
+  pub no-entry : n ≤ (u - 24) / w → Nowhere ≡ placesOf w n ib
+  no-entry h = no-place w n ib (λ l. omega (arith, l .some, c-is))
+
+  pub no-gap : e < u → Nowhere ≡ placesOf w n ib
+  no-gap h = no-place w n ib (λ l. omega (arith, l .order))
+
+  pub no-space : length ib - 7 < e → Nowhere ≡ placesOf w n ib
+  no-space h = no-place w n ib (λ l. omega (arith, l .inside))
+
+  pub some-place : (x : ℕ) → x ≡ sectionAt ib → x ≡ e → 24 + w * ((u - 24) / w) ≡ u → (u - 24) / w < n → u ≤ e → e ≤ length ib - 7
+      → At ((u - 24) / w) e ≡ placesOf w n ib
+  unfolding placesOf
+  some-place x q a b c d f =
+      let l : Lies w n ib = record {
+        section = sym q ∙ a ∙ e-is;
+        unused = rw (c-is, u-is) at b;
+        some = omega (arith, c-is);
+        order = omega arith;
+        inside = omega arith;
+      } in
+      sym (rw (lies-joined w n ib l, c-is, e-is))
+
+-- and what a good answer says
+pub place-good : (w n : ℕ) (ib : List ℕ) (c e : ℕ) → placesOf w n ib ≡ At c e → Lies w n ib × (c ≡ freeCount w ib) × (e ≡ lastAt ib)
+unfolding placesOf
+place-good w n ib c e = go (liesWell w n ib) refl
+  where
+    go : (t : Bool) → liesWell w n ib ≡ t → pick t (At (freeCount w ib) (lastAt ib)) Nowhere ≡ At c e → Lies w n ib × (c ≡ freeCount w ib) × (e ≡ lastAt ib)
+    go true p h =
+        let a1 : c ≡ freeCount w ib = cc in
+        let a2 : e ≡ lastAt ib = cc in
+        (lies-apart w n ib p, a1, a2)
+    go false p h = absurd (let z : _≡_ {A = ℕ} 0 1 = cc in omega arith)
+
+pub place-bad : (w n : ℕ) (ib : List ℕ) → placesOf w n ib ≡ Nowhere → Lies w n ib → ⊥
+unfolding placesOf
+place-bad w n ib h l = go (rw (lies-joined w n ib l) at h)
+  where
+    go : At (freeCount w ib) (lastAt ib) ≡ Nowhere → ⊥
+    go h = let z : _≡_ {A = ℕ} 0 1 = cc in omega arith

@@ -1,0 +1,10 @@
+pub mod Entry
+pub mod Header
+pub mod Next
+pub mod Chain
+pub mod Marking
+pub mod Stepping
+pub mod Walking
+pub mod Judging
+pub mod Answers
+pub mod Unique

@@ -1,0 +1,205 @@
+-- Marks find exactly whether each number below n is named once, and no other: a mark is a count, 0 or 1, so that no argument by pigeonholes is needed.
+use mathlib.Core.Path.{_≡_, refl, sym, ap, _∙_, subst}
+use mathlib.Core.Bool.{Bool, true, false}
+use mathlib.Core.List.{List, [], _∷_, _++_}
+use mathlib.Core.Logic.{_⊎_, inl, inr, ⊎-elim}
+use Prim.Native.Nat.{ℕ, zero, suc, _+_, _-_, _*_, _<_, _≤_}
+use native.Mathlib.Nat.{not-suc-le-zero, le-of-suc-le-suc, eq-or-lt-of-le, mul-suc}
+use native.Mathlib.Numerals.{add-one}
+use native.Mathlib.Decide.{ℕ-discrete, decLt}
+use native.Mathlib.Omega.{arith}
+use lib.Dec.{eqb, ltb}
+use lib.ListN.{length, getD, set, length-set, length-replicate, replicate, getD-replicate, List·getD-eq-default}
+use lib.Seq.{getD-set-same, getD-set-other}
+use borrow.Author.Tests.{lt-ltb, le-ltb, eq-eqb, ne-eqb, ltb-true, ltb-false, eqb-true, eqb-false}
+use Rattle.fields.specs.Choice.{pick, both}
+use Rattle.fields.proofs.Choices.{false-true, both-false}
+use Rattle.index.specs.Meaning.{count, below, once, namedOnce}
+use Rattle.index.specs.Reading.{numbersAt}
+use Rattle.index.proofs.Naming.{count-same, count-other}
+use Rattle.fields.specs.Bytes.{number}
+use Rattle.index_read.specs.declared.Marks.{Marks}
+use Rattle.index_read.specs.Walk.{marking, seenAfter, allSeen, freeAll}
+
+record Sane (m : List ℕ) : Type 0 where
+  whole : length m ≡ 256
+  small : (k : ℕ) → getD m k 0 ≤ 1
+
+record Kept (n : ℕ) (m xs r : List ℕ) : Type 0 where
+  all : below n xs ≡ true
+  sum : (k : ℕ) → getD r k 0 ≡ getD m k 0 + count k xs
+  sane : Sane r
+
+abbrev Twice : ℕ → List ℕ → List ℕ → Type 0
+Twice n m xs = (k : ℕ) × (k < n) × (2 ≤ getD m k 0 + count k xs)
+
+record Says (n : ℕ) (m xs : List ℕ) (ok : Bool) (r : List ℕ) : Type 0 where
+  good : ok ≡ true → Kept n m xs r
+  bad : ok ≡ false → (below n xs ≡ false) ⊎ Twice n m xs
+
+mark-at : (m : List ℕ) (x : ℕ) (xs : List ℕ) → Sane m → x < 256 → getD m x 0 ≡ 0 → (k : ℕ)
+    → getD (set m x 1) k 0 + count k xs ≡ getD m k 0 + count k (x ∷ xs)
+mark-at m x xs s h z k = elim (ℕ-discrete x k) [ yes e ↦ same e | no d ↦ other d ]
+  where
+    same : x ≡ k → getD (set m x 1) k 0 + count k xs ≡ getD m k 0 + count k (x ∷ xs)
+    same e = rw (← e, getD-set-same m x 1 0 (subst (λ (w : ℕ). x < w) (sym (s .whole)) h), z, count-same x x xs refl) (omega arith)
+
+    other : (x ≡ k → ⊥) → getD (set m x 1) k 0 + count k xs ≡ getD m k 0 + count k (x ∷ xs)
+    other d = rw (getD-set-other m x k 1 0 (λ p. d (sym p)), count-other k x xs d)
+
+mark-sane : (m : List ℕ) (x : ℕ) → Sane m → x < 256 → Sane (set m x 1)
+mark-sane m x s h = record { whole = length-set m x 1 ∙ s .whole; small = λ k. elim (ℕ-discrete x k) [ yes e ↦ same k e | no d ↦ other k d ] }
+  where
+    same : (k : ℕ) → x ≡ k → getD (set m x 1) k 0 ≤ 1
+    same k e = rw (← e, getD-set-same m x 1 0 (subst (λ (w : ℕ). x < w) (sym (s .whole)) h)) (omega arith)
+
+    other : (k : ℕ) → (x ≡ k → ⊥) → getD (set m x 1) k 0 ≤ 1
+    other k d = rw (getD-set-other m x k 1 0 (λ p. d (sym p))) (s .small k)
+
+below-cons : (n x : ℕ) (xs : List ℕ) → x < n → below n (x ∷ xs) ≡ below n xs
+unfolding below
+below-cons n x xs h = rw (lt-ltb x n h)
+
+below-big : (n x : ℕ) (xs : List ℕ) → n ≤ x → below n (x ∷ xs) ≡ false
+unfolding below
+below-big n x xs h = rw (le-ltb x n h)
+
+step : (n : ℕ) (m : List ℕ) (x : ℕ) (xs : List ℕ) (ok : Bool) (r : List ℕ) → n ≤ 256 → Sane m → (b₁ b₂ : Bool) → ltb x n ≡ b₁ → eqb (getD m x 0) 0 ≡ b₂
+    → (x < n → getD m x 0 ≡ 0 → Says n (set m x 1) xs ok r) → Says n m (x ∷ xs) (both b₁ (both b₂ ok)) r
+step n m x xs ok r hn s true true e₁ e₂ ih =
+    let l : x < n = ltb-true x n e₁ in
+    let z : getD m x 0 ≡ 0 = eqb-true (getD m x 0) 0 e₂ in
+    let l′ : x < 256 = omega arith in
+    record {
+      good = λ o.
+          let g = ih l z .good o in
+          record { all = below-cons n x xs l ∙ g .all; sum = λ k. g .sum k ∙ mark-at m x xs s l′ z k; sane = g .sane };
+      bad = λ o. ⊎-elim (λ b. inl (below-cons n x xs l ∙ b)) (λ t. inr (t .0, t .1, subst (λ (w : ℕ). 2 ≤ w) (mark-at m x xs s l′ z (t .0)) (t .2))) (ih l z .bad o);
+    }
+step n m x xs ok r hn s true false e₁ e₂ ih =
+    let l : x < n = ltb-true x n e₁ in
+    let z : getD m x 0 ≡ 0 → ⊥ = eqb-false (getD m x 0) 0 e₂ in
+    record { good = λ o. absurd (false-true o); bad = λ o. inr (x, l, rw (count-same x x xs refl) (omega (arith, z))) }
+step n m x xs ok r hn s false b₂ e₁ e₂ ih = record { good = λ o. absurd (false-true o); bad = λ o. inl (below-big n x xs (ltb-false x n e₁)) }
+
+says : (n : ℕ) (m xs : List ℕ) → n ≤ 256 → Sane m → Says n m xs (marking n m xs) (seenAfter m xs)
+unfolding marking seenAfter below count
+says n m [] hn s = record { good = λ o. record { all = refl; sum = λ k. omega arith; sane = s }; bad = λ o. absurd (false-true (sym o)) }
+says n m (x ∷ xs) hn s =
+    step n m x xs (marking n (set m x 1) xs) (seenAfter (set m x 1) xs) hn s (ltb x n) (eqb (getD m x 0) 0) refl refl (λ l z. says n (set m x 1) xs hn (mark-sane m x s (omega arith)))
+
+le-or-lt : (m k : ℕ) → (m ≤ k) ⊎ (k < m)
+le-or-lt m k = elim (decLt k m) [ yes h ↦ inr h | no h ↦ inl (omega arith) ]
+
+abbrev zeros : List ℕ
+zeros = replicate 256 0
+
+zero-at : (k : ℕ) → getD zeros k 0 ≡ 0
+zero-at k = ⊎-elim (λ (h : 256 ≤ k). List·getD-eq-default zeros 0 h) (λ (h : k < 256). getD-replicate 256 k 0 0 h) (le-or-lt 256 k)
+
+empty-sane : Sane zeros
+empty-sane = record { whole = length-replicate {A = ℕ} 256 0; small = λ k. rw (zero-at k) (omega arith) }
+
+once-not : (xs : List ℕ) (n k : ℕ) → k < n → 2 ≤ count k xs → once xs n ≡ false
+unfolding once
+once-not xs zero k h t = absurd (not-suc-le-zero h)
+once-not xs (suc n) k h t =
+    ⊎-elim (λ (p : k ≡ n). rw (← p, ne-eqb (count k xs) 1 (omega arith))) (λ (l : k < n). rw (once-not xs n k l t) (both-false (eqb (count n xs) 1))) (eq-or-lt-of-le (le-of-suc-le-suc h))
+
+seen-once : (s xs : List ℕ) (n : ℕ) → ((k : ℕ) → getD s k 0 ≡ count k xs) → ((k : ℕ) → getD s k 0 ≤ 1) → allSeen s n ≡ once xs n
+unfolding allSeen once
+seen-once s xs zero e l = refl
+seen-once s xs (suc n) e l = rw (← e n, seen-once s xs n e l) (go (getD s n 0) (l n) (once xs n))
+  where
+    go : (v : ℕ) → v ≤ 1 → (b : Bool) → pick (eqb v 0) false b ≡ both (eqb v 1) b
+    go zero h b = refl
+    go (suc zero) h b = refl
+    go (suc (suc v)) h b = absurd (omega arith)
+
+from-empty : (k : ℕ) (v : ℕ) → getD zeros k 0 + v ≡ v
+from-empty k v = rw (zero-at k) (omega arith)
+
+pub named-by-marks : (n : ℕ) (xs : List ℕ) → n ≤ 256 → both (marking n (replicate 256 0) xs) (allSeen (seenAfter (replicate 256 0) xs) n) ≡ namedOnce n xs
+unfolding namedOnce
+named-by-marks n xs hn = go (marking n zeros xs) (says n zeros xs hn empty-sane)
+  where
+    go : (t : Bool) → Says n zeros xs t (seenAfter zeros xs) → both t (allSeen (seenAfter zeros xs) n) ≡ both (below n xs) (once xs n)
+    go true s =
+        let g = s .good refl in
+        rw (g .all) (seen-once (seenAfter zeros xs) xs n (λ k. g .sum k ∙ from-empty k (count k xs)) (g .sane .small))
+    go false s =
+        ⊎-elim (λ (b : below n xs ≡ false). rw b) (λ (t : Twice n zeros xs). rw (once-not xs n (t .0) (t .1) (subst (λ (w : ℕ). 2 ≤ w) (from-empty (t .0) (count (t .0) xs)) (t .2)), both-false (below n xs)))
+        (s .bad refl)
+
+-- one list of numbers after another
+pub marking-append : (n : ℕ) (m xs ys : List ℕ) → marking n m (xs ++ ys) ≡ both (marking n m xs) (marking n (seenAfter m xs) ys)
+unfolding marking seenAfter
+marking-append n m [] ys = refl
+marking-append n m (x ∷ xs) ys = rw (marking-append n (set m x 1) xs ys) (go (ltb x n) (eqb (getD m x 0) 0))
+  where
+    go : (a b : Bool) → both a (both b (both (marking n (set m x 1) xs) (marking n (seenAfter (set m x 1) xs) ys))) ≡ both (both a (both b (marking n (set m x 1) xs))) (marking n (seenAfter (set m x 1) xs) ys)
+    go true true = refl
+    go true false = refl
+    go false b = refl
+
+pub seen-append : (m xs ys : List ℕ) → seenAfter m (xs ++ ys) ≡ seenAfter (seenAfter m xs) ys
+unfolding seenAfter
+seen-append m [] ys = refl
+seen-append m (x ∷ xs) ys = seen-append (set m x 1) xs ys
+
+-- ---- the walk over the free numbers
+
+module _ (w n : ℕ) (m : Marks) (ib : List ℕ) (at left x : ℕ) (more : 0 < left) (is : x ≡ number w ib at) where
+  there : numbersAt w ib at left ≡ x ∷ numbersAt w ib (at + w) (left - 1)
+  unfolding numbersAt
+  there =
+      let e : left ≡ suc (left - 1) = omega arith in
+      ap (λ (z : ℕ). numbersAt w ib at z) e ∙ rw is
+
+  pub mark-big : n ≤ x → false ≡ marking n (m .seen) (numbersAt w ib at left)
+  unfolding marking
+  mark-big g = sym (rw (there, le-ltb x n g))
+
+  pub mark-again : x < n → (getD (m .seen) x 0 ≡ 0 → ⊥) → false ≡ marking n (m .seen) (numbersAt w ib at left)
+  unfolding marking
+  mark-again g z = sym (rw (there, lt-ltb x n g, ne-eqb (getD (m .seen) x 0) 0 z))
+
+  pub mark-on : x < n → getD (m .seen) x 0 ≡ 0 → marking n (m .seen) (numbersAt w ib at left) ≡ marking n (set (m .seen) x 1) (numbersAt w ib (at + w) (left - 1))
+  unfolding marking
+  mark-on g z = rw (there, lt-ltb x n g, eq-eqb (getD (m .seen) x 0) 0 z)
+
+  pub free-on : freeAll m (numbersAt w ib at left) ≡ freeAll (record { seen = set (m .seen) x 1; used = m .used; free = m .free + 1 }) (numbersAt w ib (at + w) (left - 1))
+  unfolding seenAfter
+  free-on =
+      let a : m .free + suc (length (numbersAt w ib (at + w) (left - 1))) ≡ m .free + 1 + length (numbersAt w ib (at + w) (left - 1)) = omega arith in
+      rw (there, a)
+
+pub mark-end : (w n : ℕ) (m : Marks) (ib : List ℕ) (at left : ℕ) → left ≡ 0 → true ≡ marking n (m .seen) (numbersAt w ib at left)
+unfolding marking numbersAt
+mark-end w n m ib at left h = sym (rw h)
+
+pub free-end : (w : ℕ) (m : Marks) (ib : List ℕ) (at left : ℕ) → left ≡ 0 → m ≡ freeAll m (numbersAt w ib at left)
+unfolding seenAfter numbersAt
+free-end w m ib at left h = let a : m .free + 0 ≡ m .free = omega arith in rw (h, a)
+
+-- one number less to come
+pub one-less : (w left : ℕ) → 0 < left → w * left ≡ w + w * (left - 1)
+one-less w left h =
+    let e : left ≡ suc (left - 1) = omega arith in
+    ap (λ (z : ℕ). w * z) e ∙ omega (arith, mul-suc w (left - 1))
+
+-- ---- the last loop
+
+pub seen-more : (s : List ℕ) (i : ℕ) → (getD s i 0 ≡ 0 → ⊥) → allSeen s i ≡ true → allSeen s (i + 1) ≡ true
+unfolding allSeen
+seen-more s i z h = rw (add-one i, ne-eqb (getD s i 0) 0 z, h)
+
+pub seen-not : (s : List ℕ) (i n : ℕ) → i < n → getD s i 0 ≡ 0 → allSeen s n ≡ false
+unfolding allSeen
+seen-not s i zero h z = absurd (not-suc-le-zero h)
+seen-not s i (suc n) h z =
+    ⊎-elim (λ (p : i ≡ n). rw (← p, eq-eqb (getD s i 0) 0 z)) (λ (l : i < n). rw (seen-not s i n l z) (two (eqb (getD s n 0) 0))) (eq-or-lt-of-le (le-of-suc-le-suc h))
+  where
+    two : (b : Bool) → pick b false false ≡ false
+    two true = refl
+    two false = refl

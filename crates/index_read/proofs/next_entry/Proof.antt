@@ -1,0 +1,103 @@
+use Rattle.index_read.proofs.Entry.{Good, good, chars-inside}
+use Rattle.index_read.proofs.Next.{entry-unparsed, entry-low, entry-high, entry-on}
+use Rattle.index_read.specs.Parsing.{parsedOf}
+use Rattle.index_read.specs.declared.Parsed.the-variants.{Of}
+use borrow.Author.Tests.{not-true, not-false}
+use denote.Ref.{now}
+use lib.ListN.{length}
+use native.Mathlib.Omega.{arith}
+use Prim.Native.Nat.{_+_, _≤_}
+use mathlib.Core.Path.{_≡_, sym, _∙_}
+use borrow.Author.Needs.{needs}
+use Rattle.index_read.proofs.next_entry.Statement.{statement}
+use Rattle.index_read.proofs.next_entry.Tie as tie
+
+-- what the entry that was taken apart says
+parsed : (c : tie.After-known-told)
+    → parsedOf (c .before .before .before .before .before .before .args .by .width) (now (c .before .before .before .before .before .before .args .ib)) (c .before .before .before .before .before .before .args .r) (c .before .before .before .before .before .before .args .by .edge) (c .before .before .before .before .before .before .args .len) (c .before .before .before .before .before .before .args .by .key)
+    ≡ Of (c .before .front .given .0 .0) (c .before .front .given .0 .1 .0) (c .before .front .given .0 .1 .1 .0) (c .before .front .given .0 .1 .1 .1 .0)
+parsed c = sym (c .before .before .before .piece-at .ensures) ∙ c .before .front .given .1
+
+goods : (c : tie.After-known-told)
+    → Good (c .before .before .before .before .before .before .args .by .width) (now (c .before .before .before .before .before .before .args .ib)) (c .before .before .before .before .before .before .args .r) (c .before .before .before .before .before .before .args .by .edge) (c .before .before .before .before .before .before .args .len) (c .before .before .before .before .before .before .args .by .key)
+    (c .before .front .given .0 .0) (c .before .front .given .0 .1 .0) (c .before .front .given .0 .1 .1 .0) (c .before .front .given .0 .1 .1 .1 .0)
+goods c = good _ _ _ _ _ _ _ _ _ _ (parsed c)
+
+insides : (c : tie.After-known-told) → c .before .front .given .0 .1 .1 .0 + c .before .front .given .0 .1 .0 ≤ length (now (c .before .before .before .before .before .before .args .ib))
+insides c = chars-inside _ _ _ _ _ _ _ _ _ _ (goods c) (c .before .before .before .before .before .before .pre .2)
+
+piece-at-requires : tie.Need-piece-at-requires
+piece-at-requires c κs = search needs
+
+enum-known-front : tie.Need-enum-known-front
+enum-known-front c = search needs
+
+enum-told : tie.Need-enum-told
+enum-told c = search needs
+
+returns : tie.Need-returns
+returns c = let a = c .before .before .before .before .before .args in
+    (entry-unparsed (a .by .width) (now (a .ib)) (a .r) (a .by .edge) (a .len) (a .by .key) (a .first) (now (a .buf)) (sym (c .before .before .piece-at .ensures) ∙ c .enum-told .given .1), tt)
+
+ascends-requires : tie.Need-ascends-requires
+ascends-requires c κs = let q = c .before in
+    (goods q .fits, c .before .before .before .before .before .before .before .pre .4, insides q)
+
+same-length : tie.Need-same-length
+same-length c = search needs
+
+returns-2 : tie.Need-returns-2
+returns-2 c = let a = c .before .before .before .before .before .before .before .before .before .args in
+    let p = c .before .before .before .before .before .before .before .before .before .pre in
+    let q = c .before .before .before in
+    let h = c .before .before .before .before .front .given .0 in
+    (entry-low (a .by .width) (now (a .ib)) (a .r) (a .by .edge) (a .len) (a .by .key) (a .first) (now (a .buf)) (h .0) (h .1 .0) (h .1 .1 .0) (h .1 .1 .1 .0) (parsed q) (p .2) (p .4) (sym (not-true _ (c .if1 .taken)) ∙ c .before .ascends .ensures), tt)
+
+renew-requires : tie.Need-renew-requires
+renew-requires c κs = let q = c .before .before .before .before in
+    (goods q .fits, c .before .before .before .before .before .before .before .before .before .before .pre .4, insides q)
+
+add-last-of : tie.Need-add-last-of
+add-last-of c = omega (arith, goods (c .before .before .before .before .before .before .before .before) .fits)
+
+last-of-requires : tie.Need-last-of-requires
+last-of-requires c κs = omega (arith, goods (c .before .before .before .before .before .before .before .before) .fits, c .before .before .before .before .before .before .before .before .before .before .before .before .before .before .pre .4, c .before .before .before .renew .kept .0)
+
+same-length-2 : tie.Need-same-length-2
+same-length-2 c = search needs
+
+returns-3 : tie.Need-returns-3
+returns-3 c = let a = c .before .before .before .before .before .before .before .before .before .before .before .before .before .before .before .before .args in
+    let p = c .before .before .before .before .before .before .before .before .before .before .before .before .before .before .before .before .pre in
+    let q = c .before .before .before .before .before .before .before .before .before .before in
+    let h = c .before .before .before .before .before .before .before .before .before .before .before .front .given .0 in
+    (entry-high (a .by .width) (now (a .ib)) (a .r) (a .by .edge) (a .len) (a .by .key) (a .first) (now (a .buf)) (h .0) (h .1 .0) (h .1 .1 .0) (h .1 .1 .1 .0) (parsed q) (p .2) (p .4) (c .before .before .before .before .before .renew .last .0) (c .before .before .before .before .before .renew .ensures) (sym (c .before .last-of .ensures) ∙ c .if2 .taken), tt)
+
+same-length-3 : tie.Need-same-length-3
+same-length-3 c = search needs
+
+returns-4 : tie.Need-returns-4
+returns-4 c = let a = c .before .before .before .before .before .before .before .before .before .before .before .before .before .before .before .before .args in
+    let p = c .before .before .before .before .before .before .before .before .before .before .before .before .before .before .before .before .pre in
+    let q = c .before .before .before .before .before .before .before .before .before .before in
+    let h = c .before .before .before .before .before .before .before .before .before .before .before .front .given .0 in
+    (entry-on (a .by .width) (now (a .ib)) (a .r) (a .by .edge) (a .len) (a .by .key) (a .first) (now (a .buf)) (h .0) (h .1 .0) (h .1 .1 .0) (h .1 .1 .1 .0) (parsed q) (p .2) (p .4) (c .before .before .before .before .before .renew .last .0) (c .before .before .before .before .before .renew .ensures) (sym (not-false _ (c .before .before .before .before .before .before .before .if1 .left)) ∙ c .before .before .before .before .before .before .before .before .ascends .ensures) (λ z. c .if2 .left (c .before .last-of .ensures ∙ z)), c .before .before .before .before .before .renew .ensures)
+
+pub next-entry-spec : {M : Type 1} → statement M
+next-entry-spec =
+    tie.close
+    (tie.spec
+    piece-at-requires
+    enum-known-front
+    enum-told
+    returns
+    ascends-requires
+    same-length
+    returns-2
+    renew-requires
+    add-last-of
+    last-of-requires
+    same-length-2
+    returns-3
+    same-length-3
+    returns-4)

@@ -1,0 +1,90 @@
+use Rattle.index_read.proofs.Header.{count-small, no-section, no-header, no-number, no-entry, no-gap, no-space, some-place}
+use denote.Ref.{now}
+use native.Mathlib.Omega.{arith}
+use borrow.Author.Needs.{needs}
+use Rattle.index_read.proofs.placed.Statement.{statement}
+use Rattle.index_read.proofs.placed.Tie as tie
+
+read-two-requires : tie.Need-read-two-requires
+read-two-requires c κs = search needs
+
+read-two-requires-2 : tie.Need-read-two-requires-2
+read-two-requires-2 c κs = search needs
+
+read-two-requires-3 : tie.Need-read-two-requires-3
+read-two-requires-3 c κs = search needs
+
+returns : tie.Need-returns
+returns c = let a = c .before .before .before .before .before .args in
+    let u = c .before .before .before .read-two in
+    let e = c .before .before .read-two2 in
+    let x = c .before .read-two3 in
+    no-section (a .w) (a .n) (now (a .ib)) (u .result) (e .result) (u .ensures .0) (e .ensures .0) (x .result) (x .ensures .0) (c .if1 .taken)
+
+returns-2 : tie.Need-returns-2
+returns-2 c = let a = c .before .before .before .before .before .before .args in
+    let u = c .before .before .before .before .read-two in
+    let e = c .before .before .before .read-two2 in
+    no-header (a .w) (a .n) (now (a .ib)) (u .result) (e .result) (u .ensures .0) (e .ensures .0) (c .if2 .taken)
+
+div-free : tie.Need-div-free
+div-free c = search needs
+
+mul-if3 : tie.Need-mul-if3
+mul-if3 c = omega (arith, count-small (c .before .before .before .before .before .before .args .w) (c .before .before .before .before .read-two .result), c .before .before .before .before .read-two .ensures .1)
+
+add-if3 : tie.Need-add-if3
+add-if3 c = omega (arith, count-small (c .before .before .before .before .before .before .args .w) (c .before .before .before .before .read-two .result), c .before .before .before .before .read-two .ensures .1)
+
+returns-3 : tie.Need-returns-3
+returns-3 c = let a = c .before .before .before .before .before .before .before .args in
+    let u = c .before .before .before .before .before .read-two in
+    let e = c .before .before .before .before .read-two2 in
+    no-number (a .w) (a .n) (now (a .ib)) (u .result) (e .result) (u .ensures .0) (e .ensures .0) (c .if3 .taken)
+
+returns-4 : tie.Need-returns-4
+returns-4 c = let a = c .before .before .before .before .before .before .before .before .args in
+    let u = c .before .before .before .before .before .before .read-two in
+    let e = c .before .before .before .before .before .read-two2 in
+    no-entry (a .w) (a .n) (now (a .ib)) (u .result) (e .result) (u .ensures .0) (e .ensures .0) (c .if4 .taken)
+
+returns-5 : tie.Need-returns-5
+returns-5 c = let a = c .before .before .before .before .before .before .before .before .before .args in
+    let u = c .before .before .before .before .before .before .before .read-two in
+    let e = c .before .before .before .before .before .before .read-two2 in
+    no-gap (a .w) (a .n) (now (a .ib)) (u .result) (e .result) (u .ensures .0) (e .ensures .0) (c .if5 .taken)
+
+sub-if6 : tie.Need-sub-if6
+sub-if6 c = search needs
+
+returns-6 : tie.Need-returns-6
+returns-6 c = let a = c .before .before .before .before .before .before .before .before .before .before .args in
+    let u = c .before .before .before .before .before .before .before .before .read-two in
+    let e = c .before .before .before .before .before .before .before .read-two2 in
+    no-space (a .w) (a .n) (now (a .ib)) (u .result) (e .result) (u .ensures .0) (e .ensures .0) (c .if6 .taken)
+
+returns-7 : tie.Need-returns-7
+returns-7 c = let a = c .before .before .before .before .before .before .before .before .before .before .args in
+    let u = c .before .before .before .before .before .before .before .before .read-two in
+    let e = c .before .before .before .before .before .before .before .read-two2 in
+    let x = c .before .before .before .before .before .before .read-two3 in
+    some-place (a .w) (a .n) (now (a .ib)) (u .result) (e .result) (u .ensures .0) (e .ensures .0) (x .result) (x .ensures .0) (c .before .before .before .before .before .if1 .left) (c .before .before .before .if3 .left) (c .before .before .if4 .left) (c .before .if5 .left) (c .if6 .left)
+
+pub placed-spec : {M : Type 1} → statement M
+placed-spec =
+    tie.close
+    (tie.spec
+    read-two-requires
+    read-two-requires-2
+    read-two-requires-3
+    returns
+    returns-2
+    div-free
+    mul-if3
+    add-if3
+    returns-3
+    returns-4
+    returns-5
+    sub-if6
+    returns-6
+    returns-7)

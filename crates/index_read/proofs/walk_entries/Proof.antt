@@ -1,0 +1,158 @@
+use Rattle.index_read.specs.Walk.{entryOf}
+use Rattle.index_read.specs.declared.Parsed.the-variants.{Of}
+use Rattle.index_read.proofs.Entry.{Good}
+use Rattle.index_read.proofs.Walking.{State, start, bad-entry, fits, too-big, again, onward, not-there, there, marks-end}
+use Rattle.index.specs.Bounds.{bound}
+use Rattle.fields.specs.Bytes.{part}
+use Rattle.fields.proofs.Choices.{false-true}
+use lib.Dec.{eqb}
+use denote.Ref.{now}
+use lib.ListN.{take, drop}
+use native.Mathlib.Omega.{arith}
+use mathlib.Core.List.{_++_}
+use mathlib.Core.Path.{_≡_, sym, _∙_}
+use borrow.Author.Needs.{needs}
+use Rattle.index_read.proofs.walk_entries.Statement.{statement}
+use Rattle.index_read.proofs.walk_entries.Tie as tie
+
+abbrev Inv-loop : tie.InvT-loop
+Inv-loop ib count by m₀ buf₀ len₀ r₀ left₀ m buf len r left = State (by .width) (by .key) (by .n) (by .edge) ib count m₀ m buf len r left
+
+abbrev μ-loop : tie.MeasureT-loop
+μ-loop ib count by m₀ buf₀ len₀ r₀ left₀ m buf len r left = left
+
+-- what the next entry says
+entry : (c : tie.After-known-told Inv-loop μ-loop)
+    → entryOf (c .before .before .before .before .before .before .before .before .before .args .by .width) (now (c .before .before .before .before .before .before .before .before .before .args .ib)) (c .before .before .before .before .before .before .before .loop .r) (c .before .before .before .before .before .before .before .before .before .args .by .edge) (c .before .before .before .before .before .before .before .loop .len) (c .before .before .before .before .before .before .before .before .before .args .by .key) (eqb (c .before .before .before .before .before .before .before .loop .left) (c .before .before .before .before .before .before .before .before .before .args .count)) (c .before .before .before .before .before .before .before .loop .buf)
+    ≡ Of (c .before .front .given .0 .0) (c .before .front .given .0 .1 .0) (c .before .front .given .0 .1 .1 .0) (c .before .front .given .0 .1 .1 .1 .0)
+entry c = sym (c .before .before .before .before .next-entry .ensures .0) ∙ c .before .front .given .1
+
+goods : (c : tie.After-known-told Inv-loop μ-loop)
+    → Good (c .before .before .before .before .before .before .before .before .before .args .by .width) (now (c .before .before .before .before .before .before .before .before .before .args .ib)) (c .before .before .before .before .before .before .before .loop .r) (c .before .before .before .before .before .before .before .before .before .args .by .edge) (c .before .before .before .before .before .before .before .loop .len) (c .before .before .before .before .before .before .before .before .before .args .by .key)
+    (c .before .front .given .0 .0) (c .before .front .given .0 .1 .0) (c .before .front .given .0 .1 .1 .0) (c .before .front .given .0 .1 .1 .1 .0)
+goods c =
+    let a = c .before .before .before .before .before .before .before .before .before .args in
+    let o = c .before .before .before .before .before .before .before .loop in
+    let h = c .before .front .given .0 in
+    fits (a .by .width) (a .by .key) (a .by .n) (a .by .edge) (now (a .ib)) (a .count) (a .marks) (o .m) (o .buf) (o .len) (o .r) (o .left) (o .inv) (c .before .before .before .before .before .before .loop-test .taken) (c .before .before .before .before .before .before .before .before .before .pre .4) (h .0) (h .1 .0) (h .1 .1 .0) (h .1 .1 .1 .0) (entry c)
+
+renewed : (c : tie.After-known-told Inv-loop μ-loop)
+    → c .before .before .before .before .next-entry .last .0 ≡ bound (c .before .before .before .before .before .before .before .before .before .args .by .key) (take (c .before .front .given .0 .0) (c .before .before .before .before .before .before .before .loop .buf) ++ part (now (c .before .before .before .before .before .before .before .before .before .args .ib)) (c .before .front .given .0 .1 .1 .0) (c .before .front .given .0 .1 .0)) ++ drop (c .before .before .before .before .before .before .before .before .before .args .by .key) (c .before .before .before .before .before .before .before .loop .buf)
+renewed c = rw (c .before .front .given .1) at (c .before .before .before .before .next-entry .ensures .1)
+
+sub-r : tie.Need-sub-r Inv-loop μ-loop
+sub-r c = search needs
+
+loop-holds : tie.Need-loop-holds Inv-loop μ-loop
+loop-holds c = let a = c .before .args in
+    let p = c .before .pre in
+    start (a .by .width) (a .by .key) (a .by .n) (a .by .edge) (now (a .ib)) (a .count) (a .marks) (p .5) (p .7)
+
+slice-aggregate-next-entry : tie.Need-slice-aggregate-next-entry Inv-loop μ-loop
+slice-aggregate-next-entry c = sym (c .before .before .loop .inv .whole)
+
+next-entry-requires : tie.Need-next-entry-requires Inv-loop μ-loop
+next-entry-requires c κs = let p = c .before .before .before .before .pre in
+    (p .0, p .1, c .before .before .loop .inv .inside, p .3, c .before .before .loop .inv .holds .whole)
+
+enum-known-front : tie.Need-enum-known-front Inv-loop μ-loop
+enum-known-front c = search needs
+
+enum-told : tie.Need-enum-told Inv-loop μ-loop
+enum-told c = search needs
+
+judged-requires : tie.Need-judged-requires Inv-loop μ-loop
+judged-requires c κs = search needs
+
+returns : tie.Need-returns Inv-loop μ-loop
+returns c = let a = c .before .before .before .before .before .before .before .before .before .args in
+    let o = c .before .before .before .before .before .before .before .loop in
+    rw (c .judged .ensures) (bad-entry (a .by .width) (a .by .key) (a .by .n) (a .by .edge) (now (a .ib)) (a .count) (a .marks) (o .m) (o .buf) (o .len) (o .r) (o .left) (o .inv) (c .before .before .before .before .before .before .loop-test .taken) (c .before .before .before .before .before .before .before .before .before .pre .4) (sym (c .before .before .before .before .next-entry .ensures .0) ∙ c .before .enum-told .given .1), λ z. absurd (false-true z))
+
+judged-requires-2 : tie.Need-judged-requires-2 Inv-loop μ-loop
+judged-requires-2 c κs = search needs
+
+returns-2 : tie.Need-returns-2 Inv-loop μ-loop
+returns-2 c = let a = c .before .before .before .before .before .before .before .before .before .before .before .before .args in
+    let o = c .before .before .before .before .before .before .before .before .before .before .loop in
+    let h = c .before .before .before .before .front .given .0 in
+    rw (c .judged2 .ensures) (too-big (a .by .width) (a .by .key) (a .by .n) (a .by .edge) (now (a .ib)) (a .count) (a .marks) (o .m) (o .buf) (o .len) (o .r) (o .left) (o .inv) (c .before .before .before .before .before .before .before .before .before .loop-test .taken) (c .before .before .before .before .before .before .before .before .before .before .before .before .pre .4) (h .0) (h .1 .0) (h .1 .1 .0) (h .1 .1 .1 .0) (entry (c .before .before .before)) (c .before .if1 .taken), λ z. absurd (false-true z))
+
+element-copy-out-if2 : tie.Need-element-copy-out-if2 Inv-loop μ-loop
+element-copy-out-if2 c = omega (arith, c .before .before .before .before .before .before .before .before .before .before .before .pre .6)
+
+judged-requires-3 : tie.Need-judged-requires-3 Inv-loop μ-loop
+judged-requires-3 c κs = search needs
+
+returns-3 : tie.Need-returns-3 Inv-loop μ-loop
+returns-3 c = let a = c .before .before .before .before .before .before .before .before .before .before .before .before .before .before .args in
+    let o = c .before .before .before .before .before .before .before .before .before .before .before .before .loop in
+    let h = c .before .before .before .before .before .before .front .given .0 in
+    rw (c .judged3 .ensures) (again (a .by .width) (a .by .key) (a .by .n) (a .by .edge) (now (a .ib)) (a .count) (a .marks) (o .m) (o .buf) (o .len) (o .r) (o .left) (o .inv) (c .before .before .before .before .before .before .before .before .before .before .before .loop-test .taken) (c .before .before .before .before .before .before .before .before .before .before .before .before .before .before .pre .4) (h .0) (h .1 .0) (h .1 .1 .0) (h .1 .1 .1 .0) (entry (c .before .before .before .before .before)) (c .before .if2 .taken), λ z. absurd (false-true z))
+
+element-write-m : tie.Need-element-write-m Inv-loop μ-loop
+element-write-m c = omega (arith, c .before .before .before .before .before .before .before .before .before .before .before .before .before .pre .6)
+
+add-m : tie.Need-add-m Inv-loop μ-loop
+add-m c = omega (arith, c .before .before .before .before .before .before .before .before .before .before .before .loop .inv .counts)
+
+add-len : tie.Need-add-len Inv-loop μ-loop
+add-len c = omega (arith, goods (c .before .before .before .before) .fits, c .before .before .before .before .before .before .before .before .before .before .before .before .before .pre .5)
+
+sub-left : tie.Need-sub-left Inv-loop μ-loop
+sub-left c = omega arith
+
+loop-less : tie.Need-loop-less Inv-loop μ-loop
+loop-less c = omega arith
+
+loop-again : tie.Need-loop-again Inv-loop μ-loop
+loop-again c = let a = c .before .before .before .before .before .before .before .before .before .before .before .before .before .args in
+    let o = c .before .before .before .before .before .before .before .before .before .before .before .loop in
+    let h = c .before .before .before .before .before .front .given .0 in
+    onward (a .by .width) (a .by .key) (a .by .n) (a .by .edge) (now (a .ib)) (a .count) (a .marks) (o .m) (o .buf) (o .len) (o .r) (o .left) (o .inv) (c .before .before .before .before .before .before .before .before .before .before .loop-test .taken) (c .before .before .before .before .before .before .before .before .before .before .before .before .before .pre .4) (h .0) (h .1 .0) (h .1 .1 .0) (h .1 .1 .1 .0) (entry (c .before .before .before .before)) (c .before .before .before .before .before .before .before .before .next-entry .last .0) (renewed (c .before .before .before .before)) (c .before .before .if1 .left) (c .if2 .left)
+
+judged-requires-4 : tie.Need-judged-requires-4 Inv-loop μ-loop
+judged-requires-4 c κs = search needs
+
+returns-4 : tie.Need-returns-4 Inv-loop μ-loop
+returns-4 c = let a = c .before .before .before .before .before .before .args in
+    let o = c .before .before .before .before .loop in
+    rw (c .judged4 .ensures) (not-there (a .by .width) (a .by .key) (a .by .n) (a .by .edge) (now (a .ib)) (a .count) (a .marks) (o .m) (o .buf) (o .len) (o .r) (o .left) (o .inv) (omega arith) (c .before .if3 .taken), λ z. absurd (false-true z))
+
+judged-requires-5 : tie.Need-judged-requires-5 Inv-loop μ-loop
+judged-requires-5 c κs = search needs
+
+returns-5 : tie.Need-returns-5 Inv-loop μ-loop
+returns-5 c = let a = c .before .before .before .before .before .before .args in
+    let o = c .before .before .before .before .loop in
+    rw (c .judged5 .ensures) (there (a .by .width) (a .by .key) (a .by .n) (a .by .edge) (now (a .ib)) (a .count) (a .marks) (o .m) (o .buf) (o .len) (o .r) (o .left) (o .inv) (omega arith) (c .before .if3 .left), λ z. marks-end (a .by .width) (a .by .key) (a .by .n) (a .by .edge) (now (a .ib)) (a .count) (a .marks) (o .m) (o .buf) (o .len) (o .r) (o .left) (o .inv) (omega arith))
+
+pub walk-entries-spec : {M : Type 1} → statement M
+walk-entries-spec =
+    tie.close
+    (tie.spec
+    Inv-loop
+    μ-loop
+    sub-r
+    loop-holds
+    slice-aggregate-next-entry
+    next-entry-requires
+    enum-known-front
+    enum-told
+    judged-requires
+    returns
+    judged-requires-2
+    returns-2
+    element-copy-out-if2
+    judged-requires-3
+    returns-3
+    element-write-m
+    add-m
+    add-len
+    sub-left
+    loop-less
+    loop-again
+    judged-requires-4
+    returns-4
+    judged-requires-5
+    returns-5)

@@ -1,0 +1,418 @@
+// The index record, read and judged in one walk.
+ghost use mathlib.Core.Path.{_≡_};
+ghost use mathlib.Core.Bool.{true};
+ghost use mathlib.Core.List.{[], _++_};
+ghost use Prim.Native.Nat.{_+_, _-_, _*_, _≤_, _<_, _^_};
+ghost use lib.ListN.{length, getD, take, drop};
+ghost use Rattle.fields.specs.Bytes.{part, number};
+ghost use Rattle.index.specs.Bounds.{bound};
+ghost use Rattle.index.specs.Rules.{baseFine};
+ghost use Rattle.index.specs.Reading.{numbersAt, piecesAt, frame};
+ghost use Rattle.index_read.specs.Check.{indexOf};
+ghost use Rattle.index_read.specs.Parsing.{parsedOf};
+ghost use Rattle.index_read.specs.Walk.{placesOf, someLow, above, entryOf, Renewed, marking, allSeen, fineFrom, pieceNumbers, emptyMarks, freeAll, usedAll};
+use fields::Order;
+
+// The bytes of a pointer and of a free number.
+pub const WIDTH: usize = 1;
+
+// Which interval numbers were met, and how many of them as free and by entries.
+pub(crate) struct Marks {
+    pub seen: [u8; 256],
+    pub used: usize,
+    pub free: usize,
+}
+
+// The marks after a walk, and whether all that it met kept the rules.
+pub(crate) struct Marked {
+    pub ok: bool,
+    pub marks: Marks,
+}
+
+// One entry taken apart: F, L, the place of its characters, its pointer.
+pub enum Parsed {
+    Of {
+        front: usize,
+        len: usize,
+        at: usize,
+        number: usize,
+    },
+    Bad,
+}
+
+// What the displacements say: how many free numbers there are, and where the entries begin.
+pub(crate) enum Places {
+    At { free: usize, last: usize },
+    Nowhere,
+}
+
+// What the entries are judged by: the bytes of a pointer, where the last of them must begin, how many intervals there
+// are, the key's length.
+pub(crate) struct Limits {
+    pub width: usize,
+    pub edge: usize,
+    pub n: usize,
+    pub key: usize,
+}
+
+// What the check of an index record answers.
+pub enum Index {
+    Sound { free: usize, entries: usize },
+    Unsound,
+}
+
+pub(crate) fn wide(x: u8) -> usize
+    ensures { λ r. ⌜ (r ≡ x) × (r < 256) ⌝ }
+{
+    x as usize
+}
+
+// The entry that ends at place r. It must not begin left of `edge`; F is at most the `len` bytes of the separator
+// before it, and the separator that F and L make has at most `key` bytes. F and L are bytes, so their sum may reach 510.
+pub fn piece_at(ib: &[u8], w: usize, r: usize, edge: usize, len: usize, key: usize) -> Parsed
+    requires { ⌜ (1 ≤ w) × (w ≤ 4) × (r ≤ length (now ib)) × (edge < 65536) ⌝ }
+    ensures { λ x. ⌜ x ≡ parsedOf w (now (ib .entry)) r edge len key ⌝ }
+{
+    if r < edge + (w + 2) {
+        return Parsed::Bad;
+    }
+    let l = wide(ib[r - (w + 1)]);
+    if r < edge + (w + 2 + l) {
+        return Parsed::Bad;
+    }
+    let f = wide(ib[r - (w + 2)]);
+    if len < f {
+        return Parsed::Bad;
+    }
+    if key < f + l {
+        return Parsed::Bad;
+    }
+    let number = fields::read_pointer(ib, r - w, w);
+    Parsed::Of {
+        front: f,
+        len: l,
+        at: r - (w + 2 + l),
+        number: number,
+    }
+}
+
+// Puts the bound of the next separator into the first `key` bytes of buf: F bytes stay, L characters are copied over
+// what follows them, X'FF' after.
+pub fn renew(buf: &mut [u8], front: usize, ib: &[u8], at: usize, len: usize, key: usize)
+    requires { ⌜ (front + len ≤ key) × (key ≤ length (now buf)) × (at + len ≤ length (now ib)) ⌝ }
+    ensures { λ _. ⌜ now (buf .exit) ≡ bound key (take front (now (buf .entry)) ++ part (now (ib .entry)) at len) ++ drop key (now (buf .entry)) ⌝ }
+{
+    let z = at + len;
+    fields::copy(buf, front, &ib[at..z]);
+    let e = front + len;
+    fields::fill(buf, e, key, 255);
+}
+
+// Whether some byte is below X'FF'.
+pub(crate) fn some_low(t: &[u8]) -> bool
+    ensures { λ r. ⌜ r ≡ someLow (now (t .entry)) ⌝ }
+{
+    let mut i = 0;
+    while i < t.len() {
+        if t[i] < 255 {
+            return true;
+        }
+        i += 1;
+    }
+    false
+}
+
+// Whether the bound of the next separator is above the one in buf. They begin with the same F bytes; where the L characters
+// are the same too, X'FF' follows in the new bound, and any lower byte in the old one makes that the smaller.
+pub(crate) fn ascends(
+    buf: &[u8],
+    first: bool,
+    front: usize,
+    ib: &[u8],
+    at: usize,
+    len: usize,
+    key: usize,
+) -> bool
+    requires { ⌜ (front + len ≤ key) × (key ≤ length (now buf)) × (at + len ≤ length (now ib)) ⌝ }
+    ensures { λ r. ⌜ r ≡ above first key (now (buf .entry)) (take front (now (buf .entry)) ++ part (now (ib .entry)) at len) ⌝ }
+{
+    if first {
+        return true;
+    }
+    let e = front + len;
+    let z = at + len;
+    let o = fields::compare(&buf[front..e], &ib[at..z]);
+    match o {
+        Order::Less => true,
+        Order::Same => some_low(&buf[e..key]),
+        Order::Greater => false,
+    }
+}
+
+// The last of the first len bytes, 0 where there is none.
+pub(crate) fn last_of(buf: &[u8], len: usize) -> u8
+    requires { ⌜ len ≤ length (now buf) ⌝ }
+    ensures { λ r. ⌜ r ≡ getD (take len (now (buf .entry))) (len - 1) 0 ⌝ }
+{
+    if len == 0 {
+        return 0;
+    }
+    buf[len - 1]
+}
+
+// The entry that ends at place r, with every rule on its separator: the place, F, the length, the order of the bounds, the
+// last byte. buf holds the bound before it and then its own.
+pub(crate) fn next_entry(
+    buf: &mut [u8],
+    first: bool,
+    ib: &[u8],
+    r: usize,
+    len: usize,
+    by: Limits,
+) -> Parsed
+    requires { ⌜ (1 ≤ by .width) × (by .width ≤ 4) × (r ≤ length (now ib)) × (by .edge < 65536) × (by .key ≤ length (now buf)) ⌝ }
+    ensures { λ x. ⌜ (x ≡ entryOf (by .width) (now (ib .entry)) r (by .edge) len (by .key) first (now (buf .entry))) × Renewed (by .key) (now (ib .entry)) (now (buf .entry)) (now (buf .exit)) x ⌝ }
+{
+    let key = by.key;
+    let Parsed::Of {
+        front,
+        len: l,
+        at,
+        number,
+    } = piece_at(ib, by.width, r, by.edge, len, key)
+    else {
+        return Parsed::Bad;
+    };
+    if !ascends(buf, first, front, ib, at, l, key) {
+        return Parsed::Bad;
+    }
+    renew(buf, front, ib, at, l, key);
+    if last_of(buf, front + l) == 255 {
+        return Parsed::Bad;
+    }
+    Parsed::Of {
+        front: front,
+        len: l,
+        at: at,
+        number: number,
+    }
+}
+
+// No number met yet: a mark for each that an area of the most intervals has.
+pub(crate) fn fresh() -> Marks
+    ensures { λ r. ⌜ r ≡ emptyMarks ⌝ }
+{
+    Marks {
+        seen: [0u8; 256],
+        used: 0,
+        free: 0,
+    }
+}
+
+// A walk's way out.
+pub(crate) fn judged(ok: bool, marks: Marks) -> Marked
+    ensures { λ r. ⌜ r ≡ record { ok = ok; marks = marks } ⌝ }
+{
+    Marked {
+        ok: ok,
+        marks: marks,
+    }
+}
+
+// Marks each of the free numbers; refuses one that is not below n, or is marked already.
+pub(crate) fn walk_free(marks: Marks, ib: &[u8], w: usize, count: usize, n: usize) -> Marked
+    requires { ⌜ (1 ≤ w) × (w ≤ 4) × (24 + w * count ≤ length (now ib)) × (n ≤ 256) × (marks .free + count < 2 ^ 64) ⌝ }
+    ensures sound { λ r. ⌜ r .ok ≡ marking n (marks .seen) (numbersAt w (now (ib .entry)) 24 count) ⌝ }
+    ensures marks { λ r. ⌜ (r .ok ≡ true → r .marks ≡ freeAll marks (numbersAt w (now (ib .entry)) 24 count)) ⌝ }
+{
+    let mut m = marks;
+    let mut at = 24;
+    let mut left = count;
+    while 0 < left {
+        let number = fields::read_pointer(ib, at, w);
+        if n <= number {
+            return judged(false, m);
+        }
+        if m.seen[number] != 0 {
+            return judged(false, m);
+        }
+        m.seen[number] = 1;
+        m.free = m.free + 1;
+        at += w;
+        left -= 1;
+    }
+    judged(true, m)
+}
+
+// Walks `count` entries from the RDF leftwards and marks their numbers. The last must begin at the edge and have an
+// empty separator.
+pub(crate) fn walk_entries(marks: Marks, ib: &[u8], count: usize, by: Limits) -> Marked
+    requires { ⌜ (1 ≤ by .width) × (by .width ≤ 4) × (7 ≤ length (now ib)) × (by .edge < 65536) × (1 ≤ by .key) × (by .key ≤ 255) × (by .n ≤ 256) × (marks .used + count < 2 ^ 64) ⌝ }
+    ensures sound { λ r. ⌜ r .ok ≡ fineFrom (by .width) (by .key) (by .n) (by .edge) (now (ib .entry)) (marks .seen) [] [] (length (now (ib .entry)) - 7) count ⌝ }
+    ensures marks { λ r. ⌜ (r .ok ≡ true → r .marks ≡ usedAll marks (pieceNumbers (piecesAt (by .width) (now (ib .entry)) (length (now (ib .entry)) - 7) count))) ⌝ }
+{
+    let mut m = marks;
+    let mut buf = [255u8; 255];
+    let mut len = 0;
+    let mut r = ib.len() - 7;
+    let mut left = count;
+    while 0 < left {
+        let Parsed::Of {
+            front,
+            len: l,
+            at,
+            number,
+        } = next_entry(&mut buf, left == count, ib, r, len, by)
+        else {
+            return judged(false, m);
+        };
+        if by.n <= number {
+            return judged(false, m);
+        }
+        if m.seen[number] != 0 {
+            return judged(false, m);
+        }
+        m.seen[number] = 1;
+        m.used = m.used + 1;
+        len = front + l;
+        r = at;
+        left -= 1;
+    }
+    if r != by.edge {
+        return judged(false, m);
+    }
+    judged(len == 0, m)
+}
+
+// Whether each number below n is marked.
+pub(crate) fn all_seen(marks: Marks, n: usize) -> bool
+    requires { ⌜ n ≤ 256 ⌝ }
+    ensures { λ r. ⌜ r ≡ allSeen (marks .seen) n ⌝ }
+{
+    let mut i = 0;
+    while i < n {
+        if marks.seen[i] == 0 {
+            return false;
+        }
+        i += 1;
+    }
+    true
+}
+
+// Whether header values, RDF and CIDF are as they must be. The pointer indicator has a bit for each byte of a pointer.
+pub(crate) fn framed(ib: &[u8], w: usize) -> bool
+    requires { ⌜ (31 ≤ length (now ib)) × (1 ≤ w) × (w ≤ 4) ⌝ }
+    ensures { λ r. ⌜ r ≡ frame w (now (ib .entry)) ⌝ }
+{
+    let size = ib.len();
+    if fields::read_two(ib, 0) != size - 7 {
+        return false;
+    }
+    if wide(ib[2]) != w + 2 {
+        return false;
+    }
+    if wide(ib[3]) != (1 << w) - 1 {
+        return false;
+    }
+    if ib[16] != 1 {
+        return false;
+    }
+    if ib[size - 7] != 0 {
+        return false;
+    }
+    if fields::read_two(ib, size - 6) != size - 7 {
+        return false;
+    }
+    if fields::read_two(ib, size - 4) != size - 7 {
+        return false;
+    }
+    fields::read_two(ib, size - 2) == 0
+}
+
+// The base RBA.
+pub fn base_of(ib: &[u8]) -> usize
+    requires { ⌜ 8 ≤ length (now ib) ⌝ }
+    ensures { λ r. ⌜ (r ≡ number 4 (now (ib .entry)) 4) × (r < 4294967296) ⌝ }
+{
+    fields::read_four(ib, 4)
+}
+
+// Whether n intervals from the base on stay within the addresses of four bytes.
+pub(crate) fn base_fine(ib: &[u8], n: usize) -> bool
+    requires { ⌜ (8 ≤ length (now ib)) × (length (now ib) ≤ 32768) × (n ≤ 256) ⌝ }
+    ensures { λ r. ⌜ r ≡ baseFine (length (now (ib .entry))) n (part (now (ib .entry)) 4 12) ⌝ }
+{
+    base_of(ib) + n * ib.len() <= 4294967296
+}
+
+// Whether the displacements are in order, as far as that shows before the walk: the unused space begins past the free numbers,
+// which leave one interval at least to an entry, and ends where the entries begin.
+pub(crate) fn placed(ib: &[u8], w: usize, n: usize) -> Places
+    requires { ⌜ (31 ≤ length (now ib)) × (1 ≤ w) × (w ≤ 4) ⌝ }
+    ensures { λ r. ⌜ r ≡ placesOf w n (now (ib .entry)) ⌝ }
+{
+    let unused = fields::read_two(ib, 18);
+    let last = fields::read_two(ib, 20);
+    if fields::read_two(ib, 22) != last {
+        return Places::Nowhere;
+    }
+    if unused < 24 {
+        return Places::Nowhere;
+    }
+    let free = (unused - 24) / w;
+    if 24 + w * free != unused {
+        return Places::Nowhere;
+    }
+    if n <= free {
+        return Places::Nowhere;
+    }
+    if last < unused {
+        return Places::Nowhere;
+    }
+    if ib.len() - 7 < last {
+        return Places::Nowhere;
+    }
+    Places::At {
+        free: free,
+        last: last,
+    }
+}
+
+// Whether an index record of n intervals with keys of `key` bytes is sound; with the numbers of free intervals and of entries.
+pub fn check(ib: &[u8], key: usize, n: usize) -> Index
+    requires { ⌜ (31 ≤ length (now ib)) × (length (now ib) ≤ 32768) × (1 ≤ key) × (key ≤ 255) × (n ≤ 256) ⌝ }
+    ensures { λ r. ⌜ r ≡ indexOf key n (now (ib .entry)) ⌝ }
+{
+    if !framed(ib, WIDTH) {
+        return Index::Unsound;
+    }
+    if !base_fine(ib, n) {
+        return Index::Unsound;
+    }
+    let Places::At { free, last } = placed(ib, WIDTH, n) else {
+        return Index::Unsound;
+    };
+    let f = walk_free(fresh(), ib, WIDTH, free, n);
+    if !f.ok {
+        return Index::Unsound;
+    }
+    let by = Limits {
+        width: WIDTH,
+        edge: last,
+        n: n,
+        key: key,
+    };
+    let e = walk_entries(f.marks, ib, n - free, by);
+    if !e.ok {
+        return Index::Unsound;
+    }
+    let spare = e.marks.free;
+    let used = e.marks.used;
+    if !all_seen(e.marks, n) {
+        return Index::Unsound;
+    }
+    Index::Sound {
+        free: spare,
+        entries: used,
+    }
+}
