@@ -1,1 +1,0 @@
-// Planning a change, and making its stores.
