@@ -26,14 +26,14 @@ use Rattle.area.proofs.Unsound.{listed-free, free-listed, listed-used, 
 
 -- ---- every interval has a role
 
-once-each : (xs : List ℕ) (n k : ℕ) → once xs n ≡ true → k < n → count k xs ≡ 1
+pub once-each : (xs : List ℕ) (n k : ℕ) → once xs n ≡ true → k < n → count k xs ≡ 1
 unfolding once
 once-each xs zero k o h = absurd (omega arith)
 once-each xs (suc n) k o h =
     let s = both-split (eqb (count n xs) 1) (once xs n) o in
     ⊎-elim (λ (e : k ≡ n). rw e (eqb-true (count n xs) 1 (s .0))) (λ (l : k < n). once-each xs n k (s .1) l) (eq-or-lt-of-le (le-of-suc-le-suc h))
 
-count-among : (k : ℕ) (xs : List ℕ) → 1 ≤ count k xs → List·Memᴰ k xs
+pub count-among : (k : ℕ) (xs : List ℕ) → 1 ≤ count k xs → List·Memᴰ k xs
 unfolding count
 count-among k [] h = absurd (omega arith)
 count-among k (x ∷ xs) h = go (eqb x k) refl (λ (l : 1 ≤ count k xs). count-among k xs l) h

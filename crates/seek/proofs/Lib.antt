@@ -1,0 +1,3 @@
+pub mod Readables
+pub mod Addresses
+pub mod Unique

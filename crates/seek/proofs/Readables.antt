@@ -1,0 +1,66 @@
+-- Every data interval of a sound area can be read.
+use Prim.Native.Nat.{ℕ, zero, suc, _+_, _-_, _*_, _≤_, _<_}
+use mathlib.Core.Path.{_≡_, refl, _∙_, sym, ap}
+use mathlib.Core.Bool.{Bool, true, false}
+use mathlib.Core.List.{List, [], _∷_, _++_, List·Memᴰ, List·Memᴰ·head, List·Memᴰ·tail, List·Memᴰ·not-nil, List·Memᴰ·cases-cons, List·Memᴰ·append-cases}
+use mathlib.Core.Logic.{⊎-elim}
+use lib.ListN.{length}
+use lib.Dec.{eqb}
+use native.Mathlib.Omega.{arith}
+use Rattle.fields.specs.Choice.{both}
+use Rattle.fields.proofs.Choices.{both-split}
+use Rattle.measures.specs.declared.Measures.{Measures}
+use Rattle.interval.specs.Records.{keysOf, above, upTo}
+use Rattle.interval.specs.Reading.{recordsIn, sound, Readable}
+use Rattle.index.specs.Bounds.{bound}
+use Rattle.index.specs.Meaning.{Entry, Meaning, numbers, named, below, once, namedOnce}
+use Rattle.index.specs.Reading.{soundIndex}
+use Rattle.area.specs.Content.{Content, indexIn, dataIn, meaningOf}
+use Rattle.area.specs.Soundness.{soundFree, soundUsed}
+use Rattle.area.specs.Reading.{readArea, whole}
+use Rattle.area.proofs.Sounding.{Sound, AllFree, AllUsed, sound-apart, sound-rules}
+use Rattle.area.proofs.Roles.{once-each, count-among}
+use Rattle.area_read.specs.Measured.{Measured}
+use Rattle.area_read.proofs.Places.{length-data}
+use Rattle.seek.specs.Sought.{Whole}
+
+free-each : (m : Measures) (area : List ℕ) (ks : List ℕ) (k : ℕ) → AllFree m area ks → List·Memᴰ k ks → sound m (dataIn m area k) ≡ true
+unfolding soundFree
+free-each m area [] k a i = absurd (List·Memᴰ·not-nil i)
+free-each m area (x ∷ ks) k a i =
+    ⊎-elim (λ (q : k ≡ x). rw q (both-split (sound m (dataIn m area x)) (eqb (length (recordsIn (dataIn m area x))) 0) (a .0) .0))
+    (λ (j : List·Memᴰ k ks). free-each m area ks k (a .1) j)
+    (List·Memᴰ·cases-cons i)
+
+used-each : (m : Measures) (area low : List ℕ) (es : List Entry) (k : ℕ) → AllUsed m area low es → List·Memᴰ k (numbers es) → sound m (dataIn m area k) ≡ true
+unfolding soundUsed
+used-each m area low [] k a i = absurd (List·Memᴰ·not-nil i)
+used-each m area low (e ∷ es) k a i =
+    ⊎-elim
+    (λ (q : k ≡ e .num). rw q (both-split (sound m (dataIn m area (e .num))) (both (above low (keysOf m (recordsIn (dataIn m area (e .num))))) (upTo (bound (m .key) (e .sep)) (keysOf m (recordsIn (dataIn m area (e .num)))))) (a .0) .0))
+    (λ (j : List·Memᴰ k (numbers es)). used-each m area (bound (m .key) (e .sep)) es k (a .1) j)
+    (List·Memᴰ·cases-cons i)
+
+pub each-sound : (m : Measures) (n : ℕ) (area : List ℕ) (c : Content) → readArea m n area ≡ whole c → (k : ℕ) → k < n → sound m (dataIn m area k) ≡ true
+unfolding namedOnce
+each-sound m n area c r k h =
+    let s = sound-apart m n area c r in
+    let q = sound-rules m n area c s in
+    let o = both-split (below n (named (meaningOf c))) (once (named (meaningOf c)) n) (q .naming) in
+    ⊎-elim (λ (j : List·Memᴰ k (c .free)). free-each m area (c .free) k (s .free) j)
+    (λ (j : List·Memᴰ k (numbers (meaningOf c .entries))). used-each m area [] (meaningOf c .entries) k (s .used) j)
+    (List·Memᴰ·append-cases (c .free) (count-among k (named (meaningOf c)) (omega (arith, once-each (named (meaningOf c)) n k (o .1) h))))
+
+pub readable : (m : Measures) (n : ℕ) (area : List ℕ) → Measured m n area → Whole m n area → (k : ℕ) → k < n → Readable m (dataIn m area k)
+readable m n area o w k h =
+    let l = length-data m n area o k h in
+    record {
+      sized = omega (arith, o .large);
+      small = omega (arith, o .small);
+      keyed = o .key-some;
+      inside = o .inside;
+      stands = each-sound m n area (w .content) (w .reads) k h;
+    }
+
+pub index-readable : (m : Measures) (n : ℕ) (area : List ℕ) → Whole m n area → soundIndex 1 (m .key) n [] [] (indexIn m area) ≡ true
+index-readable m n area w = sound-apart m n area (w .content) (w .reads) .index
