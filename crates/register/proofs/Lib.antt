@@ -1,1 +1,5 @@
-pub mod Keys
+pub mod Measures
+pub mod Finding
+pub mod Addresses
+pub mod Ways
+pub mod Unique

@@ -1,47 +1,111 @@
-// The requests: what a depot may ask of a control area, and what it is answered.
+// The register: the requests that a depot may make of a control area. None of them asks anything of its caller; whatever is lent,
+// each answers, and a refusal leaves area and output byte for byte as they were.
 ghost use mathlib.Core.Path.{_≡_};
-ghost use Rattle.register.specs.Answers.{numberOf};
+ghost use mathlib.Core.List.{List, [], _∷_};
+ghost use Prim.Native.Nat.{ℕ, _+_, _≤_};
+ghost use lib.ListN.{length};
+ghost use Rattle.fields.specs.Bytes.{part};
+ghost use Rattle.answers.specs.declared.Answer.the-variants.{Absent};
+ghost use Rattle.answers.specs.Reading.{checkOf, getOf, getAtOf, handOut, Gives};
+use answers::Answer;
+use area_read::Checked;
+use interval_find::Found;
+use measures::Judged;
+use seek::Lying;
 
-// What an accepted change tells: how many intervals it wrote, the index record among them.
-pub struct Written {
-    pub count: usize,
-}
-
-// The kinds of answer, each with its own values. Document 01's number for each is given by `number`.
-pub enum Answer {
-    Done(Written),
-    Found(usize),
-    Intact { records: usize, free: usize },
-    Damaged(usize),
-    Short(usize),
-    Outside,
-    WrongLength,
-    Present,
-    Absent,
-    NoInterval,
-    NoRoom,
-    NoRecord,
-}
-
-// The number that a depot reads.
-pub fn number(answer: Answer) -> usize
-    ensures { λ r. ⌜ r ≡ numberOf answer ⌝ }
+// Whether the area is sound, with how many records and free intervals it has: refusals 1 and 2.
+pub fn check(area: &[u8], size: usize, offset: usize, key: usize, most: usize) -> Answer
+    ensures { λ r. ⌜ r ≡ checkOf size offset key most (now (area .entry)) ⌝ }
 {
-    match answer {
-        Answer::Done(_) => 0,
-        Answer::Found(_) => 0,
-        Answer::Intact {
-            records: _,
-            free: _,
-        } => 0,
-        Answer::Outside => 1,
-        Answer::Damaged(_) => 2,
-        Answer::WrongLength => 3,
-        Answer::Present => 4,
-        Answer::Absent => 5,
-        Answer::NoInterval => 6,
-        Answer::NoRoom => 7,
-        Answer::Short(_) => 8,
-        Answer::NoRecord => 9,
+    let Judged::Fine {
+        measures: m,
+        count: n,
+    } = measures::judge(size, offset, key, most, area.len())
+    else {
+        return Answer::Outside;
+    };
+    match area_read::check(area, m, n) {
+        Checked::Intact { records, free } => Answer::Intact { records, free },
+        Checked::Damaged { place } => Answer::Damaged(place),
     }
+}
+
+// A record of the area at the front of the output, or refusal 8 with the length that it needs.
+pub(crate) fn hand_out(area: &[u8], from: usize, bytes: usize, out: &mut [u8]) -> Answer
+    requires { ⌜ from + bytes ≤ length (now area) ⌝ }
+    ensures { λ r. ⌜ Gives (handOut Absent (part (now (area .entry)) from bytes ∷ []) (now (out .entry))) r (now (out .exit)) ⌝ }
+{
+    if out.len() < bytes {
+        return Answer::Short(bytes);
+    }
+    let to = from + bytes;
+    fields::copy(out, 0, &area[from..to]);
+    Answer::Found(bytes)
+}
+
+// The record with a key: refusals 1, 2, 3, 5, 8. Done writes it at the front of the output; later bytes of the output stay.
+pub fn get(
+    area: &[u8],
+    size: usize,
+    offset: usize,
+    key: usize,
+    most: usize,
+    wanted: &[u8],
+    out: &mut [u8],
+) -> Answer
+    ensures { λ r. ⌜ Gives (getOf size offset key most (now (area .entry)) (now (wanted .entry)) (now (out .entry))) r (now (out .exit)) ⌝ }
+{
+    let Judged::Fine {
+        measures: m,
+        count: n,
+    } = measures::judge(size, offset, key, most, area.len())
+    else {
+        return Answer::Outside;
+    };
+    if let Checked::Damaged { place } = area_read::check(area, m, n) {
+        return Answer::Damaged(place);
+    }
+    if wanted.len() != key {
+        return Answer::WrongLength;
+    }
+    let spot = seek::seek(area, m, n, wanted);
+    let number = spot.number;
+    let found = spot.found;
+    let Found::At {
+        ordinal: _,
+        start,
+        length,
+    } = found
+    else {
+        return Answer::Absent;
+    };
+    hand_out(area, (number + 1) * size + start, length, out)
+}
+
+// The record at an address: refusals 1, 2, 9, 8.
+pub fn get_at(
+    area: &[u8],
+    size: usize,
+    offset: usize,
+    key: usize,
+    most: usize,
+    address: u64,
+    out: &mut [u8],
+) -> Answer
+    ensures { λ r. ⌜ Gives (getAtOf size offset key most (now (area .entry)) address (now (out .entry))) r (now (out .exit)) ⌝ }
+{
+    let Judged::Fine {
+        measures: m,
+        count: n,
+    } = measures::judge(size, offset, key, most, area.len())
+    else {
+        return Answer::Outside;
+    };
+    if let Checked::Damaged { place } = area_read::check(area, m, n) {
+        return Answer::Damaged(place);
+    }
+    let Lying::Here { from, length } = seek::seek_at(area, m, n, address) else {
+        return Answer::NoRecord;
+    };
+    hand_out(area, from, length, out)
 }

@@ -1,8 +1,8 @@
 -- Document 01's number for each kind of answer, and the values that come back with it: 'What each number tells the depot'.
 use Prim.Native.Nat.{ℕ}
 use mathlib.Core.List.{List, [], _∷_}
-use Rattle.register.specs.declared.Answer.{Answer}
-use Rattle.register.specs.declared.Answer.the-variants.{Done, Found, Intact, Damaged, Short, Outside, WrongLength, Present, Absent, NoInterval, NoRoom, NoRecord}
+use Rattle.answers.specs.declared.Answer.{Answer}
+use Rattle.answers.specs.declared.Answer.the-variants.{Done, Found, Intact, Damaged, Short, Outside, WrongLength, Present, Absent, NoInterval, NoRoom, NoRecord}
 
 abbrev pub numberOf : Answer → ℕ
 numberOf (Done w) = 0

@@ -13,9 +13,9 @@ use Rattle.measures.specs.declared.Judged.the-variants.{Fine}
 use Rattle.measures.specs.declared.Judged.the-variants as judged
 use Rattle.area.specs.Content.{Content, recordsOf, baseOf}
 use Rattle.area.specs.Reading.{Reading, damaged, whole, readArea}
-use Rattle.register.specs.Records.{withKey, lyingAt}
-use Rattle.register.specs.declared.Answer.{Answer}
-use Rattle.register.specs.declared.Answer.the-variants.{Found, Intact, Damaged, Short, Outside, WrongLength, Absent, NoRecord}
+use Rattle.answers.specs.Records.{withKey, lyingAt}
+use Rattle.answers.specs.declared.Answer.{Answer}
+use Rattle.answers.specs.declared.Answer.the-variants.{Found, Intact, Damaged, Short, Outside, WrongLength, Absent, NoRecord}
 
 -- ---- check: 1, 2
 

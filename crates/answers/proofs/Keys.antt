@@ -22,7 +22,7 @@ use Rattle.interval.specs.Records.{keyOf, keysOf, ascending, above}
 use Rattle.interval_find.specs.Search.{placeOf, allBelow, isSame}
 use Rattle.interval_find.specs.declared.Found.the-variants.{At, Gap}
 use Rattle.interval_find.proofs.Search.{place-at, place-at-around, place-gap-around}
-use Rattle.register.specs.Records.{withKey}
+use Rattle.answers.specs.Records.{withKey}
 
 -- the same list is the same in the order
 pub same-same : (a : List ℕ) → sameList a a ≡ true

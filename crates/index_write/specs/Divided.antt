@@ -1,0 +1,34 @@
+-- What a division makes of the meaning of an index record: document 01, 'Dividing an interval'. One cut makes two parts, two cuts three.
+use Prim.Native.Nat.{ℕ, _+_, _-_}
+use mathlib.Core.Bool.{Bool}
+use mathlib.Core.List.{List, [], _∷_, _++_}
+use lib.ListN.{length, getD, take, drop}
+use Rattle.fields.specs.Choice.{pick}
+use Rattle.index.specs.Meaning.{Entry, Meaning}
+use Rattle.index.specs.Reading.{readIndex}
+
+-- The separators of the cuts: one where there are two parts, two where there are three.
+abbrev pub cuts : Bool → List ℕ → List ℕ → List (List ℕ)
+cuts three first second = pick three (first ∷ second ∷ []) (first ∷ [])
+
+-- The parts of an entry, one more than there are cuts. What lies left of a cut stays in the entry's interval and ends at the cut's separator. What
+-- lies right of it goes to the interval whose number stands at the right end of the free ones, and ends where the entry ended; the next cut divides that.
+unfoldable pub partsOf : List (List ℕ) → List ℕ → Entry → List Entry
+partsOf [] free e = e ∷ []
+partsOf (s ∷ seps) free e =
+    record { sep = s; num = e .num }
+    ∷ partsOf seps (take (length free - 1) free) (record { sep = e .sep; num = getD free (length free - 1) 0 })
+
+-- The meaning in which entry i (counted from 0) is so divided: for each cut one free number goes, from the right end; all else is as it was.
+unfoldable pub dividedAt : Meaning → ℕ → List (List ℕ) → Meaning
+dividedAt m i seps =
+    record {
+      kept = m .kept;
+      spare = m .spare;
+      free = take (length (m .free) - length seps) (m .free);
+      entries = take i (m .entries) ++ (partsOf seps (m .free) (getD (m .entries) i (record { sep = []; num = 0 })) ++ drop (i + 1) (m .entries));
+    }
+
+-- What an index record ib of n intervals means after that. w is the width of a pointer.
+abbrev pub newMeaning : ℕ → ℕ → List ℕ → ℕ → List (List ℕ) → Meaning
+newMeaning w n ib i seps = dividedAt (readIndex w n ib) i seps

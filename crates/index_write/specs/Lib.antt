@@ -1,0 +1,3 @@
+pub mod Divided
+pub mod Flat
+pub mod Prepared

@@ -1,0 +1,375 @@
+-- The records at an address: they are sought in the one interval that the address lies in.
+use Prim.Native.Nat.{ℕ, zero, suc, _+_, _-_, _*_, _/_, _%_, _≤_, _<_}
+use mathlib.Core.Path.{_≡_, refl, _∙_, sym, ap}
+use mathlib.Core.Bool.{Bool, true, false}
+use mathlib.Core.List.{List, [], _∷_, _++_, map, append-nil, List·Memᴰ, List·Memᴰ·not-nil, List·Memᴰ·cases-cons}
+use mathlib.Core.Logic.{⊎-elim}
+use lib.ListN.{length, take, drop, length-append, length-take}
+use lib.Seq.{drop-append-add, take-append-seam}
+use lib.Dec.{eqb, ltb, leb}
+use native.Mathlib.Omega.{arith}
+use native.Mathlib.Nat.{div-add-mod', mod-lt, mul-le-mul-right, add-mul, one-mul, eq-or-lt-of-le, zero-add}
+use native.Mathlib.Decide.{decLt}
+use borrow.Author.Tests.{eqb-true, eqb-false, eq-eqb, ne-eqb, ltb-true, ltb-false, leb-true, leb-false}
+use Rattle.fields.specs.Choice.{pick, both}
+use Rattle.fields.specs.Bytes.{part, number}
+use Rattle.fields.proofs.Choices.{both-split}
+use Rattle.measures.specs.declared.Measures.{Measures}
+use Rattle.interval.specs.Records.{concat, keysOf, ascending, above, upTo, allWithin, lengthsFine}
+use Rattle.interval.specs.Reading.{recordsIn, displacement, formSound, sound}
+use Rattle.interval.proofs.Backward.{read-lengths-fine, read-lengths, form-tests, read-concat}
+use Rattle.interval.proofs.Cutting.{sum-lengths}
+use Rattle.interval.proofs.Keys.{within-low, within-rest}
+use Rattle.interval_find.specs.Search.{startingAt, startedOf}
+use Rattle.interval_find.specs.declared.Started.{Started}
+use Rattle.interval_find.specs.declared.Started.the-variants as started
+use Rattle.index.specs.Bounds.{bound}
+use Rattle.index.specs.Meaning.{Entry, Meaning, numbers, named, count, below, once, namedOnce}
+use Rattle.index.proofs.Naming.{count-same, count-other, named-below, below-append}
+use Rattle.index.specs.Reading.{readIndex}
+use Rattle.area.specs.Content.{Content, Filled, indexIn, dataIn, fill, entriesOf, meaningOf, baseOf}
+use Rattle.area.specs.Soundness.{soundFree, soundUsed}
+use Rattle.area.specs.Reading.{readArea, whole}
+use Rattle.area.proofs.Sounding.{Sound, AllFree, AllUsed, sound-apart, sound-rules, sound-filled, sound-reads}
+use Rattle.area.proofs.Roles.{once-each, count-among}
+use Rattle.area_read.specs.Measured.{Measured}
+use Rattle.area_read.proofs.Places.{length-data}
+use Rattle.seek.specs.Sought.{Whole, soughtAt, lyingOf}
+use Rattle.seek.specs.declared.Lying.{Lying}
+use Rattle.seek.specs.declared.Lying.the-variants.{Here, Nowhere}
+use Rattle.seek.proofs.Readables.{each-sound}
+use Rattle.answers.specs.Records.{lyingAt}
+use Rattle.register.proofs.Finding.{part-part}
+use Rattle.index_read.proofs.Header.{base-kept}
+
+-- ---- one interval
+
+-- the same places, seen from another start
+starting-shift : (b place from : ℕ) (rs : List (List ℕ)) → startingAt (b + place) (b + from) rs ≡ startingAt place from rs
+unfolding startingAt
+starting-shift b place from [] = refl
+starting-shift b place from (r ∷ rs) =
+    let e : b + from + length r ≡ b + (from + length r) = omega arith in
+    rw (same, e, starting-shift b place (from + length r) rs)
+  where
+    same : eqb (b + from) (b + place) ≡ eqb from place
+    same = go (eqb from place) refl
+      where
+        go : (t : Bool) → eqb from place ≡ t → eqb (b + from) (b + place) ≡ t
+        go true h = eq-eqb (b + from) (b + place) (omega (arith, eqb-true from place h))
+        go false h = ne-eqb (b + from) (b + place) (λ z. eqb-false from place h (omega arith))
+
+starting-before : (place from : ℕ) (rs : List (List ℕ)) → place < from → startingAt place from rs ≡ []
+unfolding startingAt
+starting-before place from [] h = refl
+starting-before place from (r ∷ rs) h = rw (ne-eqb from place (omega arith)) (starting-before place (from + length r) rs (omega arith))
+
+starting-after : (least most place from : ℕ) (rs : List (List ℕ)) → 1 ≤ least → allWithin least most (map length rs) ≡ true → from + length (concat rs) ≤ place → startingAt place from rs ≡ []
+unfolding startingAt concat
+starting-after least most place from [] s w h = refl
+starting-after least most place from (r ∷ rs) s w h =
+    let l = within-low least most (length r) (map length rs) w in
+    let a = length-append r (concat rs) in
+    rw (ne-eqb from place (omega arith)) (starting-after least most place (from + length r) rs s (within-rest least most (length r) (map length rs) w) (omega arith))
+
+-- a sound interval holds fewer bytes of records than it has
+record Fine (m : Measures) (ci : List ℕ) : Type 0 where
+  lengths : lengthsFine m (recordsIn ci) ≡ true
+  bytes : length (concat (recordsIn ci)) + 4 ≤ length ci
+
+sound-fine : (m : Measures) (ci : List ℕ) → sound m ci ≡ true → Fine m ci
+unfolding sound
+sound-fine m ci h =
+    let f = both-split (formSound m ci) (ascending (keysOf m (recordsIn ci))) h .0 in
+    let t = form-tests m ci f in
+    record { lengths = read-lengths-fine m ci f; bytes = omega (arith, t .total, t .adds-up, sum-lengths (recordsIn ci), ap Rattle.room.specs.Room.sum (read-lengths m ci f)) }
+
+-- a free interval holds no record
+empty-free : (m : Measures) (ci : List ℕ) → soundFree m ci ≡ true → recordsIn ci ≡ []
+unfolding soundFree
+empty-free m ci f = go (recordsIn ci) (eqb-true (length (recordsIn ci)) 0 (both-split (sound m ci) (eqb (length (recordsIn ci)) 0) f .1))
+  where
+    go : (rs : List (List ℕ)) → length rs ≡ 0 → rs ≡ []
+    go [] h = refl
+    go (r ∷ rs) h = absurd (omega arith)
+
+-- ---- the address in an area
+
+below-apart : (n x : ℕ) (xs : List ℕ) → below n (x ∷ xs) ≡ true → (x < n) × (below n xs ≡ true)
+unfolding below
+below-apart n x xs h = let s = both-split (ltb x n) (below n xs) h in (ltb-true x n (s .0), s .1)
+
+count-zero : (q x : ℕ) (xs : List ℕ) → count q (x ∷ xs) ≡ 0 → (x ≡ q → ⊥) × (count q xs ≡ 0)
+unfolding count
+count-zero q x xs = go (eqb x q) refl
+  where
+    go : (b : Bool) → eqb x q ≡ b → pick b (count q xs + 1) (count q xs) ≡ 0 → (x ≡ q → ⊥) × (count q xs ≡ 0)
+    go true e h = absurd (omega arith)
+    go false e h = (eqb-false x q e, h)
+
+count-both : (k : ℕ) (xs ys : List ℕ) → count k (xs ++ ys) ≡ count k xs + count k ys
+unfolding count
+count-both k [] ys = omega arith
+count-both k (x ∷ xs) ys = go (eqb x k) (count-both k xs ys)
+  where
+    go : (b : Bool) → count k (xs ++ ys) ≡ count k xs + count k ys → pick b (count k (xs ++ ys) + 1) (count k (xs ++ ys)) ≡ pick b (count k xs + 1) (count k xs) + count k ys
+    go true i = omega arith
+    go false i = i
+
+-- an interval whose number is another does not reach the address
+module _ (m : Measures) (n : ℕ) (area : List ℕ) (o : Measured m n area) (base address q t : ℕ) (is : address ≡ base + q * m .size + t) (small : t < m .size) where
+  elsewhere : (k : ℕ) → k < n → sound m (dataIn m area k) ≡ true → (k ≡ q → ⊥) → startingAt address (base + k * m .size) (recordsIn (dataIn m area k)) ≡ []
+  elsewhere k h s d = go (decLt k q)
+    where
+      f : Fine m (dataIn m area k)
+      f = sound-fine m (dataIn m area k) s
+
+      go : Dec (k < q) → startingAt address (base + k * m .size) (recordsIn (dataIn m area k)) ≡ []
+      go (yes l) =
+          let c : (k + 1) * m .size ≤ q * m .size = mul-le-mul-right (m .size) (omega arith) in
+          starting-after (m .least) (m .most) address (base + k * m .size) (recordsIn (dataIn m area k)) (omega (arith, o .inside, o .key-some)) (f .lengths) (omega (arith, f .bytes, length-data m n area o k h, add-mul k 1 (m .size), one-mul (m .size)))
+      go (no l) =
+          let g : q < k = ⊎-elim (λ (e : q ≡ k). absurd (d (sym e))) (λ (e : q < k). e) (eq-or-lt-of-le (omega arith)) in
+          let i : q + 1 ≤ k = omega arith in
+          let c : (q + 1) * m .size ≤ k * m .size = mul-le-mul-right (m .size) i in
+          starting-before address (base + k * m .size) (recordsIn (dataIn m area k)) (omega (arith, add-mul q 1 (m .size), one-mul (m .size)))
+
+  here : startingAt address (base + q * m .size) (recordsIn (dataIn m area q)) ≡ startingAt t 0 (recordsIn (dataIn m area q))
+  here =
+      let e : base + q * m .size ≡ base + q * m .size + 0 = omega arith in
+      ap (λ (x : ℕ). startingAt x (base + q * m .size) (recordsIn (dataIn m area q))) is
+      ∙ ap (λ (x : ℕ). startingAt (base + q * m .size + t) x (recordsIn (dataIn m area q))) e
+      ∙ starting-shift (base + q * m .size) t 0 (recordsIn (dataIn m area q))
+
+  lying-cons : (e : Entry) (es : List Entry)
+      → lyingAt m base address (fill m area (e ∷ es)) ≡ startingAt address (base + e .num * m .size) (recordsIn (dataIn m area (e .num))) ++ lyingAt m base address (fill m area es)
+  unfolding lyingAt fill
+  lying-cons e es = refl
+
+  used-sound : (low : List ℕ) (e : Entry) → soundUsed m low (bound (m .key) (e .sep)) (dataIn m area (e .num)) ≡ true → sound m (dataIn m area (e .num)) ≡ true
+  unfolding soundUsed
+  used-sound low e h = both-split (sound m (dataIn m area (e .num))) (both (above low (keysOf m (recordsIn (dataIn m area (e .num))))) (upTo (bound (m .key) (e .sep)) (keysOf m (recordsIn (dataIn m area (e .num)))))) h .0
+
+  -- no entry has the number, or one has
+  lying-none : (low : List ℕ) (es : List Entry) → AllUsed m area low es → below n (numbers es) ≡ true → count q (numbers es) ≡ 0 → lyingAt m base address (fill m area es) ≡ []
+  lying-none low [] a b z = unfold lyingAt fill in refl
+  lying-none low (e ∷ es) a b z =
+      let s = below-apart n (e .num) (numbers es) b in
+      let k = count-zero q (e .num) (numbers es) z in
+      lying-cons e es ∙ rw (elsewhere (e .num) (s .0) (used-sound low e (a .0)) (k .0), lying-none (bound (m .key) (e .sep)) es (a .1) (s .1) (k .1))
+
+  lying-one : (low : List ℕ) (es : List Entry) → AllUsed m area low es → below n (numbers es) ≡ true → count q (numbers es) ≡ 1
+      → lyingAt m base address (fill m area es) ≡ startingAt t 0 (recordsIn (dataIn m area q))
+  lying-one low [] a b z = absurd (none z)
+    where
+      none : count q [] ≡ 1 → ⊥
+      none h = unfold count in omega arith
+  lying-one low (e ∷ es) a b z = go (eqb (e .num) q) refl (λ k. lying-one (bound (m .key) (e .sep)) es (a .1) (below-apart n (e .num) (numbers es) b .1) k)
+    where
+      go : (x : Bool) → eqb (e .num) q ≡ x
+          → (count q (numbers es) ≡ 1 → lyingAt m base address (fill m area es) ≡ startingAt t 0 (recordsIn (dataIn m area q)))
+          → lyingAt m base address (fill m area (e ∷ es)) ≡ startingAt t 0 (recordsIn (dataIn m area q))
+      go true h i =
+          let p : e .num ≡ q = eqb-true (e .num) q h in
+          let y : count q (numbers es) ≡ 0 = omega (arith, count-same q (e .num) (numbers es) p) in
+          lying-cons e es
+          ∙ rw (lying-none (bound (m .key) (e .sep)) es (a .1) (below-apart n (e .num) (numbers es) b .1) y, p) (append-nil (startingAt address (base + q * m .size) (recordsIn (dataIn m area q))) ∙ here)
+      go false h i =
+          let p : e .num ≡ q → ⊥ = eqb-false (e .num) q h in
+          let s = below-apart n (e .num) (numbers es) b in
+          lying-cons e es ∙ rw (elsewhere (e .num) (s .0) (used-sound low e (a .0)) p) (i (sym (count-other q (e .num) (numbers es) p) ∙ z))
+
+  free-empty : (ks : List ℕ) → AllFree m area ks → 1 ≤ count q ks → recordsIn (dataIn m area q) ≡ []
+  free-empty [] a z = absurd (none z)
+    where
+      none : 1 ≤ count q [] → ⊥
+      none h = unfold count in omega arith
+  free-empty (k ∷ ks) a z = go (eqb k q) refl (λ y. free-empty ks (a .1) y)
+    where
+      go : (x : Bool) → eqb k q ≡ x → (1 ≤ count q ks → recordsIn (dataIn m area q) ≡ []) → recordsIn (dataIn m area q) ≡ []
+      go true h i = rw (← eqb-true k q h) (empty-free m (dataIn m area k) (a .0))
+      go false h i = i (omega (arith, count-other q k ks (eqb-false k q h)))
+
+-- ---- the record that begins there
+
+record Begins (bytes : List ℕ) (place : ℕ) (r : List ℕ) (xs : List (List ℕ)) : Type 0 where
+  alone : xs ≡ []
+  is : r ≡ part bytes place (length r)
+  inside : place + length r ≤ length bytes
+
+part-behind : (xs ys : List ℕ) (a l : ℕ) → part (xs ++ ys) (length xs + a) l ≡ part ys a l
+part-behind xs ys a l = rw (drop-append-add xs ys a)
+
+begins-on : (x bytes : List ℕ) (place from : ℕ) (r : List ℕ) (xs : List (List ℕ)) → from + length x ≤ place → Begins bytes (place - (from + length x)) r xs → Begins (x ++ bytes) (place - from) r xs
+begins-on x bytes place from r xs h b =
+    let e : place - from ≡ length x + (place - (from + length x)) = omega arith in
+    record {
+      alone = b .alone;
+      is = rw e (b .is ∙ sym (part-behind x bytes (place - (from + length x)) (length r)));
+      inside = omega (arith, b .inside, length-append x bytes);
+    }
+
+starting-cons : (place from : ℕ) (x : List ℕ) (rs : List (List ℕ)) (b : Bool) → eqb from place ≡ b
+    → startingAt place from (x ∷ rs) ≡ pick b (x ∷ startingAt place (from + length x) rs) (startingAt place (from + length x) rs)
+unfolding startingAt
+starting-cons place from x rs b e = rw e
+
+starting-bytes : (least most place from : ℕ) (rs : List (List ℕ)) → 1 ≤ least → allWithin least most (map length rs) ≡ true → from ≤ place
+    → (r : List ℕ) (xs : List (List ℕ)) → startingAt place from rs ≡ r ∷ xs → Begins (concat rs) (place - from) r xs
+starting-bytes least most place from [] s w h r xs e = absurd (none e)
+  where
+    none : startingAt place from [] ≡ r ∷ xs → ⊥
+    none k = unfold startingAt in (let z : _≡_ {A = ℕ} 0 1 = cc in omega arith)
+starting-bytes least most place from (x ∷ rs) s w h r xs e =
+    go (eqb from place) refl (decLt place (from + length x)) (λ l k. starting-bytes least most place (from + length x) rs s (within-rest least most (length x) (map length rs) w) l r xs k)
+  where
+    lo : least ≤ length x
+    lo = within-low least most (length x) (map length rs) w
+
+    more : concat (x ∷ rs) ≡ x ++ concat rs
+    more = unfold concat in refl
+
+    go : (b : Bool) → eqb from place ≡ b → Dec (place < from + length x)
+        → (from + length x ≤ place → startingAt place (from + length x) rs ≡ r ∷ xs → Begins (concat rs) (place - (from + length x)) r xs) → Begins (concat (x ∷ rs)) (place - from) r xs
+    go true q d i =
+        let p : from ≡ place = eqb-true from place q in
+        let f : startingAt place (from + length x) rs ≡ [] = starting-before place (from + length x) rs (omega (arith, lo)) in
+        let k : x ∷ [] ≡ r ∷ xs = sym (starting-cons place from x rs true q ∙ rw f) ∙ e in
+        let z : place - from ≡ 0 = omega arith in
+        let rx : x ≡ r = cc in
+        let y : xs ≡ [] = cc in
+        record { alone = y; is = rw (more, z, ← rx) (sym (take-append-seam x (concat rs))); inside = rw (more, z, ← rx) (omega (arith, length-append x (concat rs))) }
+    go false q (yes d) i =
+        absurd (none (sym (starting-before place (from + length x) rs d) ∙ sym (starting-cons place from x rs false q) ∙ e))
+      where
+        none : [] ≡ r ∷ xs → ⊥
+        none k = let z : _≡_ {A = ℕ} 0 1 = cc in omega arith
+    go false q (no d) i =
+        let l : from + length x ≤ place = omega arith in
+        rw more (begins-on x (concat rs) place from r xs l (i l (sym (starting-cons place from x rs false q) ∙ e)))
+
+-- ---- what the search by address says of the reading
+
+count-out : (q n : ℕ) (xs : List ℕ) → below n xs ≡ true → n ≤ q → count q xs ≡ 0
+count-out q n [] b h = unfold count in refl
+count-out q n (x ∷ xs) b h =
+    let s = below-apart n x xs b in
+    count-other q x xs (omega (arith, s .0)) ∙ count-out q n xs (s .1) h
+
+zero-of : (a b : ℕ) → (b ≡ 1 → ⊥) → a + b ≡ 1 → b ≡ 0
+zero-of a zero d e = refl
+zero-of a (suc b) d e = absurd (d (omega arith))
+
+module _ (m : Measures) (n : ℕ) (area : List ℕ) (o : Measured m n area) (w : Whole m n area) (address : ℕ) where
+  s : Sound m n area (w .content)
+  s = sound-apart m n area (w .content) (w .reads)
+
+  abbrev base : ℕ
+  base = baseOf (w .content)
+
+  base-there : number 4 (indexIn m area) 4 ≡ baseOf (w .content)
+  unfolding readIndex
+  base-there = sym (base-kept (indexIn m area)) ∙ ap (λ (x : Meaning). number 4 (x .kept) 0) (sound-reads m n area (w .content) s)
+
+  entries : List Entry
+  entries = entriesOf (w .content .filled)
+
+  names : (below n (w .content .free) ≡ true) × (below n (numbers (entriesOf (w .content .filled))) ≡ true)
+  names =
+      let k = sound-rules m n area (w .content) s in
+      let b = sym (below-append n (w .content .free) (numbers (entriesOf (w .content .filled)))) ∙ named-below n (named (meaningOf (w .content))) (k .naming) in
+      both-split (below n (w .content .free)) (below n (numbers (entriesOf (w .content .filled)))) b
+
+  filled-is : lyingAt m base address (w .content .filled) ≡ lyingAt m base address (fill m area (entriesOf (w .content .filled)))
+  filled-is = ap (lyingAt m base address) (sound-filled m n area (w .content) s)
+
+  -- an address below the base
+  before-base : address < base → (es : List Entry) → lyingAt m base address (fill m area es) ≡ []
+  unfolding lyingAt fill
+  before-base h [] = refl
+  before-base h (e ∷ es) = rw (starting-before address (base + e .num * m .size) (recordsIn (dataIn m area (e .num))) (omega arith)) (before-base h es)
+
+  module _ (h : base ≤ address) where
+    q : ℕ
+    q = (address - base) / m .size
+
+    t : ℕ
+    t = (address - base) % m .size
+
+    is : address ≡ base + (address - base) / m .size * m .size + (address - base) % m .size
+    is = omega (arith, div-add-mod' (address - base) (m .size))
+
+    small : (address - base) % m .size < m .size
+    small = mod-lt (address - base) (omega (arith, o .large))
+
+    -- an interval that is none of the area's
+    behind : n ≤ (address - base) / m .size → lyingAt m base address (w .content .filled) ≡ []
+    behind l = filled-is ∙ lying-none m n area o base address ((address - base) / m .size) ((address - base) % m .size) is small [] (entriesOf (w .content .filled)) (s .used) (names .1) (count-out ((address - base) / m .size) n (numbers (entriesOf (w .content .filled))) (names .1) l)
+
+    -- one of them
+    within : (address - base) / m .size < n → lyingAt m base address (w .content .filled) ≡ startingAt ((address - base) % m .size) 0 (recordsIn (dataIn m area ((address - base) / m .size)))
+    unfolding namedOnce
+    within l =
+        let k = sound-rules m n area (w .content) s in
+        let z = both-split (below n (named (meaningOf (w .content)))) (once (named (meaningOf (w .content))) n) (k .naming) in
+        let e = once-each (named (meaningOf (w .content))) n ((address - base) / m .size) (z .1) l in
+        let c = count-both ((address - base) / m .size) (w .content .free) (numbers (entriesOf (w .content .filled))) in
+        filled-is ∙ go (eqb (count ((address - base) / m .size) (numbers (entriesOf (w .content .filled)))) 1) refl (omega arith)
+      where
+        go : (b : Bool) → eqb (count ((address - base) / m .size) (numbers (entriesOf (w .content .filled)))) 1 ≡ b
+            → count ((address - base) / m .size) (w .content .free) + count ((address - base) / m .size) (numbers (entriesOf (w .content .filled))) ≡ 1
+            → lyingAt m base address (fill m area (entriesOf (w .content .filled))) ≡ startingAt ((address - base) % m .size) 0 (recordsIn (dataIn m area ((address - base) / m .size)))
+        go true b k = lying-one m n area o base address ((address - base) / m .size) ((address - base) % m .size) is small [] (entriesOf (w .content .filled)) (s .used) (names .1) (eqb-true _ 1 b)
+        go false b k =
+            let y : count ((address - base) / m .size) (numbers (entriesOf (w .content .filled))) ≡ 0 = zero-of (count ((address - base) / m .size) (w .content .free)) (count ((address - base) / m .size) (numbers (entriesOf (w .content .filled)))) (eqb-false _ 1 b) k in
+            lying-none m n area o base address ((address - base) / m .size) ((address - base) % m .size) is small [] (entriesOf (w .content .filled)) (s .used) (names .1) y
+            ∙ rw (free-empty m n area o base address ((address - base) / m .size) ((address - base) % m .size) is small (w .content .free) (s .free) (omega arith)) (unfold startingAt in refl)
+
+-- what is told of an address is what lies there
+abbrev pub Lies : List ℕ → List (List ℕ) → Lying → Type 0
+Lies area rs (Here from len) = rs ≡ part area from len ∷ []
+Lies area rs Nowhere = rs ≡ []
+
+module _ (m : Measures) (n : ℕ) (area : List ℕ) (o : Measured m n area) (k : ℕ) (h : k < n) (sd : sound m (dataIn m area k) ≡ true) where
+  -- the record that begins at a place of an interval, as a part of the area
+  one-record : (place : ℕ) (rs : List (List ℕ)) → startingAt place 0 (recordsIn (dataIn m area k)) ≡ rs → (x : Started) → startedOf rs ≡ x
+      → Lies area rs (lyingOf ((k + 1) * m .size + place) x)
+  one-record place [] e started.Nothing y = refl
+  one-record place [] e (started.Here len) y = absurd (let z : _≡_ {A = ℕ} 0 1 = cc in omega arith)
+  one-record place (r ∷ rs) e started.Nothing y = absurd (let z : _≡_ {A = ℕ} 0 1 = cc in omega arith)
+  one-record place (r ∷ rs) e (started.Here len) y =
+      let f = sound-fine m (dataIn m area k) sd in
+      let b = starting-bytes (m .least) (m .most) place 0 (recordsIn (dataIn m area k)) (omega (arith, o .inside, o .key-some)) (f .lengths) (omega arith) r rs e in
+      let z : place - 0 ≡ place = omega arith in
+      let l : length r ≡ len = cc in
+      let i : r ≡ part (concat (recordsIn (dataIn m area k))) place len = rw (z, l) at (b .is) in
+      let c : concat (recordsIn (dataIn m area k)) ≡ take (displacement (dataIn m area k)) (dataIn m area k) = read-concat m (dataIn m area k) (form-of sd) in
+      let u : part (take (displacement (dataIn m area k)) (dataIn m area k)) place len ≡ part (dataIn m area k) place len = part-part (dataIn m area k) 0 (displacement (dataIn m area k)) place len (omega (arith, b .inside, ap length c, length-take-most (displacement (dataIn m area k)) (dataIn m area k))) ∙ ap (λ (x : ℕ). part (dataIn m area k) x len) (zero-add place) in
+      rw (b .alone, i, c, u) (ap (λ (v : List ℕ). v ∷ []) (part-part area ((k + 1) * m .size) (m .size) place len (omega (arith, b .inside, f .bytes, length-data m n area o k h))))
+    where
+      form-of : sound m (dataIn m area k) ≡ true → formSound m (dataIn m area k) ≡ true
+      form-of y = unfold sound in both-split (formSound m (dataIn m area k)) (ascending (keysOf m (recordsIn (dataIn m area k)))) y .0
+
+      length-take-most : (d : ℕ) (xs : List ℕ) → length (take d xs) ≤ d
+      length-take-most d xs = omega (arith, length-take d xs)
+
+pub sought-lies : (m : Measures) (n : ℕ) (area : List ℕ) (o : Measured m n area) (w : Whole m n area) (address : ℕ)
+    → Lies area (lyingAt m (baseOf (w .content)) address (w .content .filled)) (soughtAt m n area address)
+unfolding soughtAt
+sought-lies m n area o w address =
+    rw (base-there m n area o w address)
+    (go (ltb address (baseOf (w .content))) (leb n ((address - baseOf (w .content)) / m .size)) refl refl)
+  where
+    go : (a b : Bool) → ltb address (baseOf (w .content)) ≡ a → leb n ((address - baseOf (w .content)) / m .size) ≡ b
+        → Lies area (lyingAt m (baseOf (w .content)) address (w .content .filled))
+        (pick a Nowhere
+        (pick b Nowhere
+        (lyingOf (((address - baseOf (w .content)) / m .size + 1) * m .size + (address - baseOf (w .content)) % m .size)
+        (startedOf (startingAt ((address - baseOf (w .content)) % m .size) 0 (recordsIn (dataIn m area ((address - baseOf (w .content)) / m .size))))))))
+    go true b p r =
+        filled-is m n area o w address ∙ before-base m n area o w address (ltb-true address (baseOf (w .content)) p) (entriesOf (w .content .filled))
+    go false true p r = behind m n area o w address (ltb-false address (baseOf (w .content)) p) (leb-true n ((address - baseOf (w .content)) / m .size) r)
+    go false false p r =
+        let l = leb-false n ((address - baseOf (w .content)) / m .size) r in
+        rw (within m n area o w address (ltb-false address (baseOf (w .content)) p) l)
+        (one-record m n area o ((address - baseOf (w .content)) / m .size) l (each-sound m n area (w .content) (w .reads) ((address - baseOf (w .content)) / m .size) l) ((address - baseOf (w .content)) % m .size) _ refl _ refl)

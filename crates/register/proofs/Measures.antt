@@ -1,0 +1,61 @@
+-- What refusal 1 lets pass, as the floors below ask it; and what the check of the area says of its reading.
+use Prim.Native.Nat.{ℕ, _+_, _*_, _≤_}
+use mathlib.Core.Path.{_≡_, refl, _∙_, sym, ap}
+use mathlib.Core.List.{List}
+use lib.ListN.{length}
+use native.Mathlib.Omega.{arith}
+use Rattle.measures.specs.Judgement.{Fits, measures, judgedOf}
+use Rattle.measures.specs.declared.Measures.{Measures}
+use Rattle.measures.specs.declared.Judged.the-variants.{Fine, Outside}
+use Rattle.measures.proofs.Fine.{accepted-fits}
+use Rattle.measures.proofs.Sizes.{permitted-range}
+use Rattle.area.specs.Content.{Content, recordsOf}
+use Rattle.area.specs.Reading.{Reading, damaged, whole, readArea}
+use Rattle.area_read.specs.Measured.{Measured}
+use Rattle.area_read.specs.Checked.{checkedOf}
+use Rattle.area_read.specs.declared.Checked.{Checked}
+use Rattle.area_read.specs.declared.Checked.the-variants.{Intact, Damaged}
+use Rattle.seek.specs.Sought.{Whole}
+
+module _ (size offset key most n : ℕ) (m : Measures) (area : List ℕ) (e : judgedOf size offset key most (length area) ≡ Fine m n) where
+  pub is-measures : m ≡ measures size offset key most
+  is-measures = accepted-fits size offset key most (length area) n m e .0
+
+  fits : Fits size offset key most (length area) n
+  fits = accepted-fits size offset key most (length area) n m e .1
+
+  pub measured : Measured m n area
+  measured =
+      let f = fits in
+      let r = permitted-range size (f .size-permitted) in
+      rw is-measures
+      (record {
+        bytes = f .bytes;
+        large = r .0;
+        small = r .1;
+        some = f .some;
+        few = f .few;
+        key-some = f .key-some;
+        key-most = f .key-most;
+        inside = omega arith;
+        most = f .most-inside;
+      })
+
+  pub key-is : m .key ≡ key
+  key-is = ap (λ (x : Measures). x .key) is-measures
+
+  pub size-is : m .size ≡ size
+  size-is = ap (λ (x : Measures). x .size) is-measures
+
+-- damaged at the place that the check told
+pub told-damage : (x : Reading) (p : ℕ) → Damaged p ≡ checkedOf x → x ≡ damaged p
+told-damage (damaged q) p e = let z : q ≡ p = cc in ap damaged z
+told-damage (whole c) p e = absurd (let z : _≡_ {A = ℕ} 0 1 = cc in omega arith)
+
+-- whole, where the check told no damage
+pub told-whole : (m : Measures) (n : ℕ) (area : List ℕ) (r f : ℕ) → Intact r f ≡ checkedOf (readArea m n area) → Whole m n area
+told-whole m n area r f e = go (readArea m n area) refl e
+  where
+    go : (x : Reading) → readArea m n area ≡ x → Intact r f ≡ checkedOf x → Whole m n area
+    go (damaged q) h k = absurd (let z : _≡_ {A = ℕ} 0 1 = cc in omega arith)
+    go (whole c) h k = record { content = c; reads = h }
