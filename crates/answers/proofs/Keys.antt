@@ -40,14 +40,14 @@ same-means (x ∷ a) (y ∷ b) h =
     cc
 
 -- a list below another is not the same
-less-differs : (a b : List ℕ) → less a b ≡ true → sameList a b ≡ false
+pub less-differs : (a b : List ℕ) → less a b ≡ true → sameList a b ≡ false
 less-differs a b h = go (sameList a b) refl
   where
     go : (t : Bool) → sameList a b ≡ t → t ≡ false
     go true e = absurd (false-true (sym (less-irrefl b) ∙ rw (same-means a b e) at h))
     go false e = refl
 
-more-differs : (a b : List ℕ) → less b a ≡ true → sameList a b ≡ false
+pub more-differs : (a b : List ℕ) → less b a ≡ true → sameList a b ≡ false
 more-differs a b h = go (sameList a b) refl
   where
     go : (t : Bool) → sameList a b ≡ t → t ≡ false
@@ -79,7 +79,7 @@ with-above m key (r ∷ rs) h =
     let s = both-split (less key (keyOf m r)) (above key (keysOf m rs)) h in
     rw (more-differs (keyOf m r) key (s .0)) (with-above m key rs (s .1))
 
-with-cons : (m : Measures) (key r : List ℕ) (rs : List (List ℕ)) → keyOf m r ≡ key → withKey m key (r ∷ rs) ≡ r ∷ withKey m key rs
+pub with-cons : (m : Measures) (key r : List ℕ) (rs : List (List ℕ)) → keyOf m r ≡ key → withKey m key (r ∷ rs) ≡ r ∷ withKey m key rs
 unfolding withKey
 with-cons m key r rs e = rw (e, same-same key)
 

@@ -1,3 +1,6 @@
 pub mod Answers
 pub mod Records
+pub mod Model
 pub mod Reading
+pub mod Finding
+pub mod Changing

@@ -1,0 +1,13 @@
+pub mod Storing
+pub mod Apart
+pub mod Between
+pub mod Parting
+pub mod Indexing
+pub mod Laying
+pub mod Taking
+pub mod Planning
+pub mod Making
+pub mod Fitted
+pub mod After
+pub mod Made
+pub mod Example

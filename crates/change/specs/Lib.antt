@@ -1,0 +1,6 @@
+pub mod Stores
+pub mod Parts
+pub mod Plan
+pub mod Content
+pub mod Fitting
+pub mod Places
