@@ -157,3 +157,11 @@ pub fn source_figure() {
     let a = [50u16, 50, 50, 100, 150];
     form(&a);
 }
+
+// The largest interval, empty: its unused space is as long as two bytes tell with the busy flag off.
+pub fn largest_empty() {
+    print::words(b"largest, empty\n");
+    let mut ci = [255u8; 32768];
+    fields::copy(&mut ci, 32764, &[0, 0, 127, 252]);
+    shown(&ci, 32764);
+}
