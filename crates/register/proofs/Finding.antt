@@ -57,7 +57,7 @@ module _ (m : Measures) (n : ℕ) (area : List ℕ) (o : Measured m n area) (w :
   pub led : KeyIn m area key (w .content .filled)
   led = key-in-one-entry m n area (w .content) (w .reads) key (o .key-some) long octets
 
-  entries-are : readIndex 1 n (indexIn m area) .entries ≡ entriesOf (w .content .filled)
+  pub entries-are : readIndex 1 n (indexIn m area) .entries ≡ entriesOf (w .content .filled)
   entries-are = ap (λ x. x .entries) (sound-reads m n area (w .content) (sound-apart m n area (w .content) (w .reads)))
 
   pub number-is : r .number ≡ led .entry .num

@@ -1,14 +1,15 @@
 -- What refusal 1 lets pass, as the floors below ask it; and what the check of the area says of its reading.
-use Prim.Native.Nat.{ℕ, _+_, _*_, _≤_}
+use Prim.Native.Nat.{ℕ, _+_, _-_, _*_, _≤_}
 use mathlib.Core.Path.{_≡_, refl, _∙_, sym, ap}
 use mathlib.Core.List.{List}
-use lib.ListN.{length}
+use lib.ListN.{length, take, drop}
 use native.Mathlib.Omega.{arith}
 use Rattle.measures.specs.Judgement.{Fits, measures, judgedOf}
 use Rattle.measures.specs.declared.Measures.{Measures}
 use Rattle.measures.specs.declared.Judged.the-variants.{Fine, Outside}
 use Rattle.measures.proofs.Fine.{accepted-fits}
 use Rattle.measures.proofs.Sizes.{permitted-range}
+use Rattle.interval.specs.Records.{keyOf}
 use Rattle.area.specs.Content.{Content, recordsOf}
 use Rattle.area.specs.Reading.{Reading, damaged, whole, readArea}
 use Rattle.area_read.specs.Measured.{Measured}
@@ -46,6 +47,27 @@ module _ (size offset key most n : ℕ) (m : Measures) (area : List ℕ) (e : ju
 
   pub size-is : m .size ≡ size
   size-is = ap (λ (x : Measures). x .size) is-measures
+
+  pub offset-is : m .offset ≡ offset
+  offset-is = ap (λ (x : Measures). x .offset) is-measures
+
+  pub least-is : m .least ≡ offset + key
+  least-is = ap (λ (x : Measures). x .least) is-measures
+
+  pub most-is : m .most ≡ most
+  most-is = ap (λ (x : Measures). x .most) is-measures
+
+  -- the shortest record is a small one
+  pub least-small : offset + key ≤ 32768
+  least-small =
+      let f = fits in
+      omega (arith, f .key-inside, f .most-inside, permitted-range size (f .size-permitted) .1)
+
+  -- the key of a record is that part of it
+  pub key-part : (r : List ℕ) → take (offset + key - offset) (drop offset r) ≡ keyOf m r
+  key-part r =
+      let z : offset + key - offset ≡ key = omega arith in
+      rw (z, offset-is, key-is)
 
 -- damaged at the place that the check told
 pub told-damage : (x : Reading) (p : ℕ) → Damaged p ≡ checkedOf x → x ≡ damaged p

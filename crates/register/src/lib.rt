@@ -7,8 +7,12 @@ ghost use lib.ListN.{length};
 ghost use Rattle.fields.specs.Bytes.{part};
 ghost use Rattle.answers.specs.declared.Answer.the-variants.{Absent};
 ghost use Rattle.answers.specs.Reading.{checkOf, getOf, getAtOf, handOut, Gives};
+ghost use Rattle.answers.specs.Changing.{insertOf, updateOf, eraseOf, Makes};
+ghost use Rattle.register.specs.Told.{answerFor};
 use answers::Answer;
+use answers::Written;
 use area_read::Checked;
+use carry_out::Made;
 use interval_find::Found;
 use measures::Judged;
 use seek::Lying;
@@ -108,4 +112,145 @@ pub fn get_at(
         return Answer::NoRecord;
     };
     hand_out(area, from, length, out)
+}
+
+// What a change that was carried out is answered with.
+pub(crate) fn told(made: Made) -> Answer
+    ensures { λ r. ⌜ r ≡ answerFor made ⌝ }
+{
+    match made {
+        Made::Written(count) => Answer::Done(Written { count }),
+        Made::NoInterval => Answer::NoInterval,
+        Made::NoRoom => Answer::NoRoom,
+    }
+}
+
+// A new record: refusals 1, 2, 3, 4, 6, 7.
+pub fn insert(
+    area: &mut [u8],
+    size: usize,
+    offset: usize,
+    key: usize,
+    most: usize,
+    new: &[u8],
+) -> Answer
+    ensures { λ r. ⌜ Makes (insertOf size offset key most (now (area .entry)) (now (new .entry))) r (now (area .exit)) ⌝ }
+{
+    let Judged::Fine {
+        measures: m,
+        count: n,
+    } = measures::judge(size, offset, key, most, area.len())
+    else {
+        return Answer::Outside;
+    };
+    if let Checked::Damaged { place } = area_read::check(area, m, n) {
+        return Answer::Damaged(place);
+    }
+    if new.len() < m.least || most < new.len() {
+        return Answer::WrongLength;
+    }
+    let e = offset + key;
+    let spot = seek::seek(area, m, n, &new[offset..e]);
+    let found = spot.found;
+    let Found::Gap { ordinal, start } = found else {
+        return Answer::Present;
+    };
+    told(carry_out::put_in(
+        area,
+        m,
+        n,
+        spot.entry,
+        spot.number,
+        ordinal,
+        start,
+        0,
+        0,
+        new,
+    ))
+}
+
+// Another record in place of the one with its key: refusals 1, 2, 3, 5, 6, 7.
+pub fn update(
+    area: &mut [u8],
+    size: usize,
+    offset: usize,
+    key: usize,
+    most: usize,
+    new: &[u8],
+) -> Answer
+    ensures { λ r. ⌜ Makes (updateOf size offset key most (now (area .entry)) (now (new .entry))) r (now (area .exit)) ⌝ }
+{
+    let Judged::Fine {
+        measures: m,
+        count: n,
+    } = measures::judge(size, offset, key, most, area.len())
+    else {
+        return Answer::Outside;
+    };
+    if let Checked::Damaged { place } = area_read::check(area, m, n) {
+        return Answer::Damaged(place);
+    }
+    if new.len() < m.least || most < new.len() {
+        return Answer::WrongLength;
+    }
+    let e = offset + key;
+    let spot = seek::seek(area, m, n, &new[offset..e]);
+    let found = spot.found;
+    let Found::At {
+        ordinal,
+        start,
+        length,
+    } = found
+    else {
+        return Answer::Absent;
+    };
+    told(carry_out::put_in(
+        area,
+        m,
+        n,
+        spot.entry,
+        spot.number,
+        ordinal,
+        start,
+        1,
+        length,
+        new,
+    ))
+}
+
+// The record with a key taken out: refusals 1, 2, 3, 5. It never divides and never touches the index record.
+pub fn erase(
+    area: &mut [u8],
+    size: usize,
+    offset: usize,
+    key: usize,
+    most: usize,
+    wanted: &[u8],
+) -> Answer
+    ensures { λ r. ⌜ Makes (eraseOf size offset key most (now (area .entry)) (now (wanted .entry))) r (now (area .exit)) ⌝ }
+{
+    let Judged::Fine {
+        measures: m,
+        count: n,
+    } = measures::judge(size, offset, key, most, area.len())
+    else {
+        return Answer::Outside;
+    };
+    if let Checked::Damaged { place } = area_read::check(area, m, n) {
+        return Answer::Damaged(place);
+    }
+    if wanted.len() != key {
+        return Answer::WrongLength;
+    }
+    let spot = seek::seek(area, m, n, wanted);
+    let found = spot.found;
+    let Found::At {
+        ordinal,
+        start,
+        length,
+    } = found
+    else {
+        return Answer::Absent;
+    };
+    told(carry_out::take_out(area, m, n, spot.entry, spot.number, ordinal, start, length))
 }

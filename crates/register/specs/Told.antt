@@ -1,0 +1,10 @@
+-- What a change that was carried out is answered with.
+use Rattle.carry_out.specs.declared.Made.{Made}
+use Rattle.carry_out.specs.declared.Made.the-variants as made
+use Rattle.answers.specs.declared.Answer.{Answer}
+use Rattle.answers.specs.declared.Answer.the-variants.{Done, NoInterval, NoRoom}
+
+abbrev pub answerFor : Made → Answer
+answerFor (made.Written k) = Done (record { count = k })
+answerFor made.NoInterval = NoInterval
+answerFor made.NoRoom = NoRoom
