@@ -1,4 +1,4 @@
--- How the records of an interval are divided: document 01, 'Dividing an interval', "Take the interval's records with the change made".
+-- How the records of an interval are divided: document 01, 'Dividing an interval'. They are taken as they stand once the change is made.
 -- A function of their lengths, and of the place of the changed record, alone: no key, no byte and no interval number is looked at.
 use Prim.Native.Nat.{ℕ, zero, suc, _+_, _-_, _≤_, _<_}
 use mathlib.Core.Path.{_≡_}
@@ -15,16 +15,16 @@ use Rattle.division.specs.declared.Division.the-variants.{Stays, Two, Th
 abbrev pub distance : ℕ → ℕ → ℕ
 distance a b = (a - b) + (b - a)
 
--- rule 2, "differ .. in record bytes": the parts if the first has c records; RDFs don't count
+-- rule 2: by how many bytes of records the parts differ if the first has c records; RDFs don't count
 unfoldable pub gap : List ℕ → ℕ → ℕ
 gap ls c = distance (sum (take c ls)) (sum (drop c ls))
 
--- rule 2, "some cut .. fits": both parts do
+-- rule 2: a cut fits where both parts do
 unfoldable pub fitting : ℕ → List ℕ → ℕ → Bool
 fitting S ls c = both (fits S (take c ls)) (fits S (drop c ls))
 
--- rule 2, "the fitting cut whose parts differ least": is the cut at c better than the earlier one at b (0: none yet)?
--- "on a tie the smaller left part": the earlier one stays.
+-- rule 2, the choice among cuts that fit: is the cut at c better than the earlier one at b (0: none yet)?
+-- Where they differ equally the earlier one stays, as its left part is smaller.
 unfoldable pub better : ℕ → List ℕ → ℕ → ℕ → Bool
 better S ls c b = both (fitting S ls c) (either (eqb b 0) (ltb (gap ls c) (gap ls b)))
 
@@ -35,7 +35,7 @@ bestTo S ls (suc k) =
     let b = bestTo S ls k in
     pick (better S ls (suc k) b) (suc k) b
 
--- rule 2, "two non-empty parts": the cuts 1 to length - 1
+-- rule 2: no part is empty, so the cuts are 1 to length - 1
 unfoldable pub bestCut : ℕ → List ℕ → ℕ
 bestCut S ls = bestTo S ls (length ls - 1)
 
@@ -43,12 +43,12 @@ bestCut S ls = bestTo S ls (length ls - 1)
 unfoldable pub byCut : ℕ → Division
 byCut c = pick (eqb c 0) Three (Two c)
 
--- rule 1, "If they fit, they stay"; otherwise the others
+-- rule 1 where all fit one interval; otherwise the others
 unfoldable pub divisionOf : ℕ → List ℕ → Division
 divisionOf S ls = pick (fits S ls) Stays (byCut (bestCut S ls))
 
 -- How many of n records each part has; the changed one stands at place `at`.
--- Rule 3: "those before the changed record, it alone, those after".
+-- Rule 3: the changed record has a part of its own between the others.
 unfoldable pub counts : Division → ℕ → ℕ → List ℕ
 counts Stays n at = n ∷ []
 counts (Two c) n at = c ∷ (n - c) ∷ []

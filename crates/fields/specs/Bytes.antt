@@ -1,4 +1,4 @@
--- Bytes are lists of numbers. Parts of them, and the numbers that they hold: document 01, 'The area we lend', "big-endian".
+-- Bytes are lists of numbers. Parts of them, and the numbers that they hold: document 01, 'The area we lend'. The highest byte comes first.
 -- In every definition the list comes first, then the place, then how much or what.
 use Prim.Native.Nat.{ℕ, zero, suc, _+_, _*_, _/_, _%_, _<_}
 use mathlib.Core.List.{List, [], _∷_, _++_}

@@ -11,14 +11,14 @@ abbrev pub empty : List ℕ → Bool
 empty [] = true
 empty (x ∷ xs) = false
 
--- "separators filled up with X'FF' to K bytes (the bounds)"
+-- a separator's bound has K bytes: X'FF' in place of those that it lacks
 unfoldable pub bound : ℕ → List ℕ → List ℕ
 bound K sep = sep ++ replicate (K - length sep) 255
 
--- "separators have at most K bytes and don't end in X'FF'"; the empty one has no last byte, and 0 stands for it
+-- it is no longer than a key, and its last byte is not X'FF'; the empty one has no last byte, and 0 stands for it
 unfoldable pub separator : ℕ → List ℕ → Bool
 separator K sep = both (leb (length sep) K) (no (eqb (getD sep (length sep - 1) 0) 255))
 
--- "the left part's last key up to and including the first byte where it differs from the right part's first key"
+-- the separator of a cut: as much of the last key on the left as tells it from the first key on the right
 unfoldable pub cutSeparator : List ℕ → List ℕ → List ℕ
 cutSeparator left right = take (suc (common left right)) left

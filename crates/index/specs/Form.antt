@@ -1,4 +1,4 @@
--- The writer's form of an index record: document 01, 'Index record', "every entry with the longest F that matches, and zeros its unused space".
+-- The writer's form of an index record: document 01, 'Index record'. F is always as long as it can be, and the unused space is zero.
 use Prim.Native.Nat.{ℕ, _+_, _-_, _*_}
 use mathlib.Core.List.{List, [], _∷_}
 use lib.ListN.{length, drop, replicate}

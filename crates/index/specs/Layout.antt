@@ -10,11 +10,11 @@ use Rattle.fields.specs.Bytes.{digits}
 use Rattle.index.specs.Meaning.{Meaning}
 use Rattle.index.specs.Pieces.{Piece, spell, frontsFit, oneByteEach, piecesSize, lastChars}
 
--- "An entry is, left to right: key characters, F, L, pointer."
+-- an entry's bytes: its characters, then F, L and the pointer
 unfoldable pub pieceBytes : ℕ → Piece → List ℕ
 pieceBytes w p = p .chars ++ (p .front ∷ length (p .chars) ∷ digits w (p .num))
 
--- "Entries lie right to left": the first stands rightmost
+-- the first entry stands rightmost, each later one left of it
 unfoldable pub piecesBytes : ℕ → List Piece → List ℕ
 piecesBytes w [] = []
 piecesBytes w (p ∷ ps) = piecesBytes w ps ++ pieceBytes w p
@@ -43,7 +43,7 @@ unfoldable pub header : ℕ → Meaning → ℕ → ℕ → ℕ → List ℕ
 header w m R u e =
     digits 2 R ++ ((w + 2) ∷ (2 ^ w - 1) ∷ (m .kept ++ (1 ∷ m .spare ∷ (digits 2 u ++ (digits 2 e ++ digits 2 e)))))
 
--- "one RDF (X'00', S - 7) and a CIDF (S - 7, 0)"
+-- behind the record: the RDF of a single record of S - 7 bytes, and a CIDF that tells no unused space
 unfoldable pub trailer : ℕ → List ℕ
 trailer R = 0 ∷ (digits 2 R ++ (digits 2 R ++ digits 2 0))
 

@@ -41,6 +41,6 @@ unfoldable pub once : List ℕ → ℕ → Bool
 once xs zero = true
 once xs (suc k) = both (eqb (count k xs) 1) (once xs k)
 
--- "every interval number below n is named once, as free or by an entry; no other number occurs"
+-- free numbers and entries together name each of the n intervals a single time, and nothing else
 unfoldable pub namedOnce : ℕ → List ℕ → Bool
 namedOnce n xs = both (below n xs) (once xs n)

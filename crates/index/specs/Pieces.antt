@@ -1,4 +1,4 @@
--- An entry as it is compressed, by some legal writer: document 01, 'Index record', "Its separator is ..".
+-- An entry as it is compressed, by some legal writer: document 01, 'Index record'.
 -- w is the width of a pointer. ref is the separator before, [] before the first entry.
 use Prim.Native.Nat.{ℕ, _+_}
 use mathlib.Core.Bool.{Bool, true}
@@ -14,7 +14,7 @@ pub record Piece : Type 0 where
   pub chars : List ℕ
   pub num : ℕ
 
--- "the first F bytes of the separator before it .. followed by its L characters"
+-- the separator that it stands for: F bytes are taken over from the one before, the characters come after them
 abbrev pub spelt : List ℕ → Piece → List ℕ
 spelt ref p = take (p .front) ref ++ p .chars
 
@@ -23,7 +23,7 @@ unfoldable pub spell : List ℕ → List Piece → List Entry
 spell ref [] = []
 spell ref (p ∷ ps) = record { sep = spelt ref p; num = p .num } ∷ spell (spelt ref p) ps
 
--- "F is at most the previous separator's length"; so the first entry has F = 0
+-- F takes over no more than there is; so the first entry has F = 0
 unfoldable pub frontsFit : List ℕ → List Piece → Bool
 frontsFit ref [] = true
 frontsFit ref (p ∷ ps) = both (leb (p .front) (length ref)) (frontsFit (spelt ref p) ps)

@@ -70,7 +70,7 @@ frame w ib =
     (both (eqb (number 2 ib (length ib - 6)) (length ib - 7))
     (both (eqb (number 2 ib (length ib - 4)) (length ib - 7)) (eqb (number 2 ib (length ib - 2)) 0)))))))
 
--- "The displacements agree with what lies there, and free numbers and entries don't overlap": the unused space begins past the free numbers, of
+-- The displacements are true, and nothing lies over anything else: the unused space begins past the free numbers, of
 -- which there are at most n; these and the entries end within S - 7 bytes; the last entry's control information lies where the entries begin, past that
 -- entry's characters; the last-section field equals the last-entry field. In the base the last entry has no characters: proofs/Closing.antt, sound-base.
 unfoldable pub places : ℕ → ℕ → List ℕ → Bool

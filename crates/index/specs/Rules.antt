@@ -1,4 +1,4 @@
--- The rules that the meaning of a sound index record keeps: document 01, 'Index record', "Sound when".
+-- The rules that the meaning of a sound index record keeps: document 01, 'Index record'.
 -- K is the key's length, n the number of data intervals. low is the bound before the first entry, [] for none; end is the separator that the
 -- last entry must have. Both are [] in the base.
 use Prim.Native.Nat.{ℕ, _+_, _*_}
@@ -18,19 +18,19 @@ alike [] (y ∷ ys) = false
 alike (x ∷ xs) [] = false
 alike (x ∷ xs) (y ∷ ys) = both (eqb x y) (alike xs ys)
 
--- every separator is as it must be, and the bounds "strictly ascend", from low on; [] is below every bound
+-- every separator is as it must be, and each bound is above the one before it, from low on; [] is below every bound
 unfoldable pub rises : ℕ → List ℕ → List Entry → Bool
 rises K low [] = true
 rises K low (e ∷ es) = both (separator K (e .sep)) (both (less low (bound K (e .sep))) (rises K (bound K (e .sep)) es))
 
--- "there is at least one entry, and the last .. has an empty separator": here, the separator end.
+-- Some entry closes the list, with the separator that the last one must have: here, the separator end.
 -- That no other entry has an empty one follows from the bounds (proofs/Closing.antt, only-last-empty).
 unfoldable pub closed : List ℕ → List Entry → Bool
 closed end [] = false
 closed end (e ∷ []) = alike (e .sep) end
 closed end (e ∷ f ∷ es) = closed end (f ∷ es)
 
--- "Base + n × S ≤ 2^32"; the base RBA is the first four of the kept bytes
+-- addresses have four bytes: n intervals of size S from the base on end at 2^32 or before; the base RBA is the first four of the kept bytes
 abbrev pub baseFine : ℕ → ℕ → List ℕ → Bool
 baseFine S n kept = leb (number 4 kept 0 + n * S) 4294967296
 
