@@ -1,1 +1,15 @@
 pub mod Refused
+pub mod Layouts
+pub mod Fits
+pub mod History
+pub mod Ways
+pub mod Parts
+pub mod Changes
+pub mod Homes
+pub mod Rows
+pub mod ExactReads
+pub mod ExactPlans
+pub mod Exact
+pub mod Wants
+pub mod Values
+pub mod Wrong

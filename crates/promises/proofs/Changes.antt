@@ -1,0 +1,153 @@
+-- What an accepted change does: the fewest intervals, true counts, and no byte written but those that it names.
+use Prim.Native.Nat.{ℕ, _+_, _-_, _≤_, _<_}
+use mathlib.Core.Path.{_≡_, _∙_, sym, ap}
+use mathlib.Core.List.{List, [], _∷_, _++_, map, List·Memᴰ}
+use lib.ListN.{length, length-map}
+use native.Mathlib.Omega.{arith}
+use borrow.Author.Tests.{lt-ltb, le-ltb}
+use Rattle.fields.specs.Bytes.{Octets}
+use Rattle.measures.specs.declared.Measures.{Measures}
+use Rattle.index.specs.Meaning.{numbers}
+use Rattle.index.specs.Search.{leadsTo}
+use Rattle.area.specs.Content.{Filled, Content, recordsOf, entriesOf}
+use Rattle.area.specs.Reading.{whole, readArea}
+use Rattle.change.specs.Stores.{stored}
+use Rattle.change.specs.Parts.{Edit, edited, divided, cutsOf, taken}
+use Rattle.change.specs.Content.{partedAt, contentAfter}
+use Rattle.change.specs.Fitting.{Fitting}
+use Rattle.change.specs.Places.{namedFor}
+use Rattle.change.proofs.Planning.{planned}
+use Rattle.change.proofs.After.{after-meaning}
+use Rattle.change.proofs.Fitted.{edited-parting, one-to-three}
+use Rattle.change.proofs.Made.{made-whole, made-fewest, made-only-named, made-written, made-index, made-count}
+use Rattle.answers.specs.Answers.{numberOf}
+use Rattle.answers.specs.Model.{Change}
+use Rattle.answers.specs.Reading.{checkOf}
+use Rattle.answers.specs.Changing.{Outcome}
+use Rattle.answers.specs.declared.Answer.{Answer}
+use Rattle.answers.specs.declared.Answer.the-variants.{Intact}
+use Rattle.answers.proofs.Accepted.{bytesOf, editOf}
+use Rattle.answers.proofs.Edits.{ledTo}
+use Rattle.promises.specs.Trace.{Sound, ChangeAllowed}
+use Rattle.promises.specs.Home.{keyIn}
+use Rattle.promises.specs.Changes.{SpreadsFewest, OnlyNamedWritten, CountsTrue, CutPrescribed}
+use Rattle.promises.proofs.Ways.{home, way-fits, way-edits, Carried, carried, edit-entry, edit-ordinal, separators-cuts}
+use Rattle.promises.proofs.History.{change-octets, change-makes}
+use Rattle.division.specs.Division.{divisionOf, parts}
+use Rattle.division.proofs.Answers.{prescribed}
+use Rattle.promises.proofs.Parts.{new, new-records, new-numbers, new-many, new-parts, new-seps, written-forms, named-among, taken-apart}
+
+-- ---- an accepted change
+
+module _ (size offset key most : ℕ) (m : Measures) (n : ℕ) (area : List ℕ) (c : Content) (s : Sound size offset key most m n area c) (ch : Change) (a : Answer)
+    (after : List ℕ) (k : ChangeAllowed size offset key most area ch a after) (z : numberOf a ≡ 0) where
+  abbrev e : Edit
+  e = editOf m c ch
+
+  abbrev ps : List (List (List ℕ))
+  ps = divided m (c .filled) e
+
+  bytes : Octets (bytesOf ch)
+  bytes = change-octets size offset key most area after ch a k
+
+  did : Carried size offset key most m n area c s ch
+  did = carried size offset key most m n area c s ch (ap numberOf (sym (change-makes size offset key most area after ch a k .answers)) ∙ z)
+
+  left : after ≡ stored (m .size) area (did .ss)
+  left = change-makes size offset key most area after ch a k .leaves ∙ ap (λ (o : Outcome). o .area) (did .leaves)
+
+  fits : Fitting m n area c e
+  fits = way-fits size offset key most m n area c s ch (did .fine) bytes (did .legal)
+
+  some : 1 ≤ length ps
+  some = one-to-three m (c .filled) e .0
+
+  place : e .entry ≡ leadsTo (keyIn m ch) (entriesOf (c .filled))
+  place = edit-entry m c ch
+
+  old-records : recordsOf (new m c (ledTo c (keyIn m ch)) ps) ≡ edited (c .filled) e
+  old-records = new-records m c (ledTo c (keyIn m ch)) ps some ∙ edited-parting m n area c e fits .whole
+
+  module _ (d : Content) (w : readArea m n after ≡ whole d) where
+    is-after : d ≡ contentAfter m c e
+    is-after =
+        let v : whole d ≡ whole (contentAfter m c e) = sym w ∙ ap (readArea m n) left ∙ made-whole m n area c e fits (did .ss) (did .planned) in
+        cc
+
+    -- An accepted change leaves the records of its key's interval, with the change made and in order, over the fewest intervals that hold them.
+    pub spreads-fewest : SpreadsFewest m c d ch
+    unfolding partedAt home
+    spreads-fewest =
+        record {
+          home = home size offset key most m n area c s ch (did .fine) bytes;
+          new = new m c (ledTo c (keyIn m ch)) ps;
+          entries = rw (is-after, ← place);
+          makes = old-records ∙ way-edits size offset key most m n area c s ch (did .fine) bytes (did .legal);
+          fewest = rw (old-records, new-many m c (ledTo c (keyIn m ch)) ps some) (made-fewest m n area c e fits);
+        }
+
+    -- An accepted change writes only the interval of its key, those newly taken and, exactly if it divides, the index record; each in the writer's form.
+    pub only-named-written : OnlyNamedWritten m area after c d (spreads-fewest .home .old) (spreads-fewest .new)
+    unfolding partedAt home spreads-fewest
+    only-named-written =
+        let f : Filled = ledTo c (keyIn m ch) in
+        let many : length (new m c f ps) ≡ length ps = new-many m c f ps some in
+        let ix = made-index m n area c e fits (did .ss) (did .planned) in
+        record {
+          taken = taken (length ps - 1) (c .free);
+          named = new-numbers m c f ps some;
+          free = rw is-after (taken-apart (length ps - 1) (c .free) (planned m c e (did .ss) (did .planned) .0 .0));
+          written =
+              written-forms m after (cutsOf m ps ++ (f .sep ∷ [])) (f .num ∷ taken (length ps - 1) (c .free)) ps
+              (rw (left, ← place) (made-written m n area c e fits (did .ss) (did .planned)));
+          others =
+              λ (k : ℕ) (no : List·Memᴰ k (numbers (entriesOf (new m c f ps))) → ⊥).
+              rw left
+              (made-only-named m n area c e fits (did .ss) (did .planned) .others (k + 1)
+              (λ (j : List·Memᴰ (k + 1) (namedFor c (e .entry) (length ps))).
+              no (rw (new-numbers m c f ps some, ← place) (named-among c (e .entry) (length ps) k j))));
+          index-stays = λ (h : length (new m c f ps) ≡ 1). rw left (rw (le-ltb 1 (length ps) (omega arith)) at ix);
+          index-written = λ (h : 1 < length (new m c f ps)). rw (left, is-after, after-meaning m c e) (rw (lt-ltb 1 (length ps) (omega arith)) at ix);
+          kept = rw is-after;
+          spare = rw is-after;
+        }
+
+    -- An accepted change is answered with the number of intervals that it wrote, and that follows from the free ones before and after.
+    pub counts-true : CountsTrue c d a (length (spreads-fewest .new))
+    unfolding spreads-fewest
+    counts-true =
+        let t = made-count m n area c e fits (did .ss) (did .planned) in
+        let many : length (new m c (ledTo c (keyIn m ch)) ps) ≡ length ps = new-many m c (ledTo c (keyIn m ch)) ps some in
+        let g : length (d .free) + (length ps - 1) ≡ length (c .free) = rw is-after (t .free) in
+        let few : length ps ≡ 1 → length (did .ss) ≡ 1 = t .stays in
+        let more : 1 < length ps → length (did .ss) ≡ 2 + (length ps - 1) = t .divides in
+        record {
+          written = length (did .ss);
+          told = change-makes size offset key most area after ch a k .answers ∙ ap (λ (o : Outcome). o .answer) (did .leaves);
+          free = rw many g;
+          same = λ (h : length (d .free) ≡ length (c .free)). few (omega (arith, some));
+          fewer = λ (h : length (d .free) < length (c .free)). omega (arith, more (omega arith));
+          one = λ (h : length (new m c (ledTo c (keyIn m ch)) ps) ≡ 1). few (omega arith);
+          several = λ (h : 1 < length (new m c (ledTo c (keyIn m ch)) ps)). omega (arith, more (omega arith));
+        }
+
+    -- An accepted change divides the records as the rules prescribe, at the best cut where one fits and around the changed record only where none does; at each
+    -- cut stands that cut's separator.
+    pub cut-prescribed : CutPrescribed m (keyIn m ch) (spreads-fewest .home .old) (spreads-fewest .new)
+    unfolding home spreads-fewest divided parts
+    cut-prescribed =
+        let f : Filled = ledTo c (keyIn m ch) in
+        let rs : List (List ℕ) = edited (c .filled) e in
+        let l : length (map length rs) ≡ length rs = length-map rs length in
+        record {
+          division = divisionOf (m .size) (map length (recordsOf (new m c f ps)));
+          rules = prescribed (m .size) (map length (recordsOf (new m c f ps)));
+          parts = rw (old-records, ← l, ← edit-ordinal m c ch) (new-parts m c f ps some);
+          cuts = new-seps m c f ps some ∙ rw (new-parts m c f ps some, separators-cuts m ps);
+        }
+
+-- A check of a sound area tells how many records and how many free intervals it has.
+pub check-true : (size offset key most : ℕ) (m : Measures) (n : ℕ) (area : List ℕ) (c : Content) → Sound size offset key most m n area c → (a : Answer)
+    → a ≡ checkOf size offset key most area → a ≡ Intact (length (recordsOf (c .filled))) (length (c .free))
+unfolding checkOf
+check-true size offset key most m n area c s a e = e ∙ rw (s .judges, s .reads)

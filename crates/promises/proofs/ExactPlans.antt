@@ -1,0 +1,144 @@
+-- Rows 6 and 7: want of an interval and want of room in the index record, said over the interval to which the key belongs.
+use Prim.Native.Nat.{ℕ, _+_, _-_, _≤_, _<_}
+use mathlib.Core.Path.{_≡_, refl, _∙_, sym, ap}
+use mathlib.Core.List.{List, [], _∷_, _++_}
+use mathlib.Core.Logic.{_⊎_, inl, inr}
+use lib.ListN.{length, take, drop}
+use lib.Seq.{length-take-le}
+use native.Mathlib.Omega.{arith}
+use Rattle.fields.specs.Bytes.{Octets}
+use Rattle.measures.specs.Judgement.{measures, countOf}
+use Rattle.measures.specs.declared.Measures.{Measures}
+use Rattle.index.specs.Search.{leadsTo}
+use Rattle.index.specs.Form.{indexSize, entriesSize, entrySize}
+use Rattle.division.specs.Fewest.{Fewest}
+use Rattle.division.proofs.Intervals.{fewest-unique}
+use Rattle.area.specs.Content.{Filled, Content, recordsOf, entriesOf, meaningOf}
+use Rattle.area.specs.Reading.{width}
+use Rattle.change.specs.Parts.{Edit, edited, divided, entryAt, cutsOf}
+use Rattle.change.specs.Plan.{indexAfter, planOf}
+use Rattle.change.specs.Fitting.{Fitting}
+use Rattle.change.proofs.Planning.{WantsInterval, WantsRoom, WantsNothing, wants, refuse-interval, refuse-room, make-stores}
+use Rattle.change.proofs.Made.{made-fewest}
+use Rattle.answers.specs.Answers.{numberOf}
+use Rattle.answers.specs.Model.{Change, makeChange, Legal}
+use Rattle.answers.specs.Changing.{carryOut}
+use Rattle.answers.proofs.Edits.{ledTo}
+use Rattle.answers.proofs.Accepted.{bytesOf, editOf}
+use Rattle.promises.specs.Tables.{done, row, First, changed, prescribed, indexNeeds, WantOfInterval, WantOfRoom}
+use Rattle.promises.specs.Trace.{Sound}
+use Rattle.promises.specs.Home.{keyIn, LengthFine, Home}
+use Rattle.promises.proofs.Ways.{way-fits, way-edits, home, edit-entry, edit-ordinal, separators-cuts}
+use Rattle.promises.proofs.Homes.{home-one}
+use Rattle.promises.proofs.Rows.{held}
+use Rattle.fields.specs.Order.{common}
+use Rattle.change.specs.Content.{partedAt, contentAfter}
+use Rattle.change.proofs.After.{after-meaning}
+use Rattle.change.proofs.Fitted.{one-to-three}
+use Rattle.promises.specs.Entries.{sepsBy, entriesNeed}
+use Rattle.promises.proofs.Parts.{new, new-seps}
+
+-- Entries need the bytes of their separators.
+pub entries-need : (before : List ℕ) (fs : List Filled) → entriesSize width before (entriesOf fs) ≡ entriesNeed before (sepsBy fs)
+unfolding entriesSize entrySize entriesOf
+entries-need before [] = refl
+entries-need before (f ∷ fs) = ap (λ (k : ℕ). width + 2 + (length (f .sep) - common before (f .sep)) + k) (entries-need (f .sep) fs)
+
+seps-append : (fs gs : List Filled) → sepsBy (fs ++ gs) ≡ sepsBy fs ++ sepsBy gs
+seps-append [] gs = refl
+seps-append (f ∷ fs) gs = ap (λ (x : List (List ℕ)). f .sep ∷ x) (seps-append fs gs)
+
+module _ (size offset key most : ℕ) (area : List ℕ) where
+  abbrev m : Measures
+  m = measures size offset key most
+
+  abbrev n : ℕ
+  n = countOf size (length area)
+
+  module _ (c : Content) (s : Sound size offset key most m n area c) (ch : Change) (b : Octets (bytesOf ch)) (f : LengthFine m ch) (l : Legal m ch (recordsOf (c .filled))) where
+    abbrev e : Edit
+    e = editOf m c ch
+
+    abbrev ps : List (List (List ℕ))
+    ps = divided m (c .filled) e
+
+    fits : Fitting m n area c e
+    fits = way-fits size offset key most m n area c s ch f b l
+
+    abbrev here : Home m c (keyIn m ch)
+    here = home size offset key most m n area c s ch f b
+
+    -- whichever entry the key belongs to, its records with the change made are those of the edit,
+    changed-is : (h : Home m c (keyIn m ch)) → changed m c ch h ≡ edited (c .filled) e
+    unfolding home
+    changed-is h =
+        ap (λ (x : Filled). makeChange m ch (x .records)) (home-one m n area c (s .reads) (keyIn m ch) h here .1) ∙ sym (way-edits size offset key most m n area c s ch f b l)
+
+    -- they lie over so many intervals,
+    parts-fewest : (h : Home m c (keyIn m ch)) → Fewest size (changed m c ch h) (length ps)
+    parts-fewest h = rw (changed-is h) (made-fewest m n area c e fits)
+
+    -- over no other number,
+    parts-only : (h : Home m c (keyIn m ch)) (k : ℕ) → Fewest size (changed m c ch h) k → length ps ≡ k
+    parts-only h k w = fewest-unique size (changed m c ch h) (length ps) k (parts-fewest h) w
+
+    -- they are divided as the rules prescribe,
+    prescribed-is : (h : Home m c (keyIn m ch)) → prescribed m c ch h ≡ ps
+    unfolding home divided
+    prescribed-is h =
+        let q : h .old ≡ ledTo c (keyIn m ch) = home-one m n area c (s .reads) (keyIn m ch) h here .1 in
+        rw (changed-is h, q, edit-ordinal m c ch)
+
+    needs-after : indexSize width (meaningOf (contentAfter m c e))
+        ≡ 24 + (length (c .free) - (length ps - 1))
+        + entriesNeed [] (sepsBy (take (e .entry) (c .filled)) ++ ((cutsOf m ps ++ (entryAt (c .filled) (e .entry) .sep ∷ [])) ++ sepsBy (drop (e .entry + 1) (c .filled))))
+    unfolding indexSize partedAt
+    needs-after =
+        let f : Filled = entryAt (c .filled) (e .entry) in
+        let pre : List Filled = take (e .entry) (c .filled) in
+        let post : List Filled = drop (e .entry + 1) (c .filled) in
+        let b : sepsBy (pre ++ (new m c f ps ++ post)) ≡ sepsBy pre ++ ((cutsOf m ps ++ (f .sep ∷ [])) ++ sepsBy post) =
+        seps-append pre (new m c f ps ++ post)
+        ∙ ap (λ (x : List (List ℕ)). sepsBy pre ++ x)
+        (seps-append (new m c f ps) post ∙ ap (λ (x : List (List ℕ)). x ++ sepsBy post) (new-seps m c f ps (one-to-three m (c .filled) e .0))) in
+        let a = entries-need [] (pre ++ (new m c f ps ++ post)) ∙ ap (entriesNeed []) b in
+        let l = length-take-le (length (c .free) - (length ps - 1)) (c .free) (omega arith) in
+        omega (arith, a, l)
+
+    -- and the index record needs so many bytes.
+    needs-is : (h : Home m c (keyIn m ch)) → indexNeeds m c ch h ≡ indexSize width (indexAfter m c e)
+    unfolding home
+    needs-is h =
+        let i : ℕ = leadsTo (keyIn m ch) (entriesOf (c .filled)) in
+        let q = home-one m n area c (s .reads) (keyIn m ch) h here in
+        let o : h .pre ≡ take i (c .filled) = q .0 in
+        let f : h .old ≡ entryAt (c .filled) i = q .1 in
+        let t : h .post ≡ drop (i + 1) (c .filled) = q .2 in
+        rw (prescribed-is h, separators-cuts m ps, o, f, t, ← edit-entry m c ch) (sym needs-after ∙ ap (indexSize width) (after-meaning m c e))
+
+    -- Rows 6 and 7 decide a change whose length is fine and which may be made.
+    pub plan-rows : First (row 6 (WantOfInterval size offset key most area ch) (row 7 (WantOfRoom size offset key most area ch) done)) (numberOf (carryOut m area (planOf m c e) .answer))
+    plan-rows = go (wants m c e)
+      where
+        six : WantsInterval m c e → WantOfInterval size offset key most area ch
+        six w = (c, s .reads, (here, λ (k : ℕ) (g : Fewest size (changed m c ch here) k). omega (arith, parts-only here k g)))
+
+        not-six : length ps - 1 ≤ length (c .free) → WantOfInterval size offset key most area ch → ⊥
+        not-six w x =
+            let y = held size offset key most area (λ (d : Content). (h : Home m d (keyIn m ch)) × ((k : ℕ) → Fewest size (changed m d ch h) k → length (d .free) < k - 1)) c (s .reads) x in
+            omega (arith, y .1 (length ps) (parts-fewest (y .0)))
+
+        seven : WantsRoom m c e → WantOfRoom size offset key most area ch
+        seven w =
+            (c, s .reads, (here, λ (k : ℕ) (g : Fewest size (changed m c ch here) k). let q : 1 < length ps = w .1 in omega (arith, parts-only here k g), rw (needs-is here) (w .2)))
+
+        not-seven : (1 < length ps → indexSize width (indexAfter m c e) ≤ size - 7) → WantOfRoom size offset key most area ch → ⊥
+        not-seven w x =
+            let y = held size offset key most area (λ (d : Content). (h : Home m d (keyIn m ch)) × ((k : ℕ) → Fewest size (changed m d ch h) k → 1 < k) × (size - 7 < indexNeeds m d ch h)) c (s .reads) x in
+            omega (arith, w (y .1 (length ps) (parts-fewest (y .0))), y .2, needs-is (y .0))
+
+        go : (WantsInterval m c e ⊎ WantsRoom m c e) ⊎ WantsNothing m c e
+            → First (row 6 (WantOfInterval size offset key most area ch) (row 7 (WantOfRoom size offset key most area ch) done)) (numberOf (carryOut m area (planOf m c e) .answer))
+        go (inl (inl w)) = inl (six w, rw (refuse-interval m c e w))
+        go (inl (inr w)) = inr (not-six (w .0), inl (seven w, rw (refuse-room m c e w)))
+        go (inr w) = inr (not-six (w .0), inr (not-seven (w .1), rw (make-stores m c e w)))

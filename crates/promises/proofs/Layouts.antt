@@ -1,0 +1,84 @@
+-- Reading and writing follow the published layouts: demand 2. The laws stand in the crates of the layouts; here they are said once more, side by side.
+-- A layout builds bytes by putting lists together and names nothing of a reader.
+use Prim.Native.Nat.{ℕ, _+_, _-_, _≤_}
+use mathlib.Core.Path.{_≡_}
+use mathlib.Core.Bool.{true}
+use mathlib.Core.List.{List, [], map}
+use mathlib.Core.Logic.{_↔_}
+use lib.ListN.{length}
+use native.Mathlib.Omega.{arith}
+use Rattle.fields.specs.Bytes.{Octets}
+use Rattle.measures.specs.declared.Measures.{Measures}
+use Rattle.room.specs.Room.{need}
+use Rattle.interval.specs.Records.{lengthsFine}
+use Rattle.interval.specs.Layout.{LaidOut, form}
+use Rattle.interval.specs.Reading.{recordsIn, formSound}
+use Rattle.interval.proofs.Form as form-laws
+use Rattle.interval.proofs.Forward as forward
+use Rattle.interval.proofs.Backward as backward
+use Rattle.index.specs.Meaning.{Meaning}
+use Rattle.index.specs.Rules.{keepsRules}
+use Rattle.index.specs.Layout as index-layout
+use Rattle.index.specs.Form.{indexSize, indexBytes}
+use Rattle.index.specs.Reading.{readIndex, soundIndex}
+use Rattle.index.proofs.ReadsBack as reads-back
+use Rattle.index.proofs.NeverDamaged as never
+use Rattle.index.proofs.OnlyLaidOut as only
+use Rattle.area.specs.Content.{Content, indexIn}
+use Rattle.area.specs.Reading.{readArea, whole, damaged}
+use Rattle.area.specs.Layout.{Lent, IndexInterval, AreaLaidOut}
+use Rattle.area.specs.Roles.{DamagedAt}
+use Rattle.area.proofs.Laying as laying
+use Rattle.area.proofs.Placing as placing
+use Rattle.area.proofs.Example as example
+
+-- ---- one data interval
+
+module _ (m : Measures) (some : 1 ≤ m .least) where
+  -- What the register writes into an interval is read back as the same records.
+  pub interval-reads-back : (S : ℕ) (rs : List (List ℕ)) → need (map length rs) ≤ S → S ≤ 32768 → lengthsFine m rs ≡ true → recordsIn (form S rs) ≡ rs
+  interval-reads-back S rs fits small fine = form-laws.interval-reads-back S rs fits m some small fine
+
+  -- An interval that keeps the rules, in any legal grouping and with anything in its unused space, is not called damaged, and is read as what it holds.
+  pub interval-never-damaged : (S : ℕ) (rs : List (List ℕ)) (ci : List ℕ) → S ≤ 32768 → lengthsFine m rs ≡ true → LaidOut S rs ci
+      → (formSound m ci ≡ true) × (recordsIn ci ≡ rs)
+  interval-never-damaged S rs ci small fine l = forward.interval-never-damaged m S rs ci some small fine l
+
+  -- Bytes that are taken for an interval keep the rules, with the records that are read.
+  pub interval-only-laid-out : (ci : List ℕ) → formSound m ci ≡ true → Octets ci → LaidOut (length ci) (recordsIn ci) ci
+  interval-only-laid-out ci s o = backward.interval-only-laid-out m ci s o
+
+-- ---- the index record, with pointers of one byte
+
+module _ (S K n : ℕ) (ix : Meaning) (rules : keepsRules S K n [] [] ix ≡ true) (few : n ≤ 256) (small : S ≤ 32768) where
+  -- The index record that the register writes is read back as the same entries and free numbers.
+  pub index-reads-back : length (ix .kept) ≡ 12 → indexSize 1 ix ≤ S - 7 → K ≤ 255 → readIndex 1 n (indexBytes 1 S ix) ≡ ix
+  index-reads-back twelve room short = reads-back.index-reads-back 1 S ix twelve room K n [] [] short rules (omega arith) few small
+
+  -- An index record that keeps the rules, with any legal compression and with anything in its unused space, is not called damaged.
+  pub index-never-damaged : (ib : List ℕ) → index-layout.LaidOut 1 S ix ib → soundIndex 1 K n [] [] ib ≡ true
+  index-never-damaged ib l = never.index-never-damaged 1 S K n [] [] ix ib (omega arith) few small l rules
+
+-- An index record that is taken for sound keeps the rules, with the meaning that is read.
+pub index-only-laid-out : (K n : ℕ) (ib : List ℕ) → Octets ib → 31 ≤ length ib → soundIndex 1 K n [] [] ib ≡ true → index-layout.LaidOut 1 (length ib) (readIndex 1 n ib) ib
+index-only-laid-out K n ib o g s = only.index-only-laid-out 1 K n [] [] ib o g s
+
+-- ---- a whole area
+
+module _ (m : Measures) (n : ℕ) (area : List ℕ) (lent : Lent m n area) where
+  -- An area that keeps the rules is never called damaged, and is read as exactly what was laid out.
+  pub area-never-damaged : (c : Content) → AreaLaidOut m n area c → readArea m n area ≡ whole c
+  area-never-damaged c l = laying.area-never-damaged m area (omega (arith, lent .key-some, lent .key-inside)) (lent .small) n (lent .few) c l
+
+  -- An area that is taken for sound keeps the rules, with the content that is read.
+  pub area-only-laid-out : (c : Content) → readArea m n area ≡ whole c → AreaLaidOut m n area c
+  area-only-laid-out c e = laying.area-only-laid-out m n area lent c e
+
+  -- Damage is told where it is: place 0 exactly if no index layout fits, else the place of the lowest interval that no layout explains in its role.
+  pub damage-placed : ((readArea m n area ≡ damaged 0) ↔ ((ix : Meaning) → IndexInterval m n ix (indexIn m area) → ⊥))
+      × ((k : ℕ) → (readArea m n area ≡ damaged (k + 1)) ↔ DamagedAt m n area k)
+  damage-placed = placing.damage-placed m n area lent
+
+-- None of this speaks of nothing: here is a sound area with records, byte by byte.
+pub some-sound : readArea example.depot 2 example.bytes ≡ whole example.held
+some-sound = example.some-sound

@@ -1,0 +1,60 @@
+-- Want of an interval and want of room, each by itself.
+use Prim.Native.Nat.{ℕ, _+_, _-_, _*_, _≤_}
+use mathlib.Core.Path.{_≡_}
+use mathlib.Core.List.{List, []}
+use mathlib.Core.Logic.{inl, inr, _↔_}
+use lib.ListN.{length}
+use native.Mathlib.Omega.{arith}
+use Rattle.measures.specs.Judgement.{measures, countOf}
+use Rattle.index.specs.Form.{entriesSize, indexSize}
+use Rattle.index.specs.Layout.{LaidOut}
+use Rattle.index.proofs.Shortest.{laid-fits}
+use Rattle.area.specs.Content.{Content, recordsOf, entriesOf, meaningOf}
+use Rattle.area.specs.Reading.{width}
+use Rattle.answers.specs.Answers.{numberOf}
+use Rattle.answers.specs.Model.{Change, Legal}
+use Rattle.answers.specs.declared.Answer.{Answer}
+use Rattle.promises.specs.Trace.{ChangeAllowed, Sound}
+use Rattle.promises.specs.Entries.{sepsBy, entriesNeed}
+use Rattle.promises.specs.Home.{LengthFine}
+use Rattle.promises.specs.Tables.{Table, done, row, First, WantOfInterval, WantOfRoom}
+use Rattle.promises.proofs.History.{change-octets, change-makes}
+use Rattle.promises.proofs.Ways.{way-planned}
+use Rattle.promises.proofs.ExactPlans.{entries-need, plan-rows}
+
+-- A row decides its own number, where the later ones have others.
+first-exact : (number k : ℕ) (condition : Type 0) (later : Table) → First (row number condition later) k → (First later k → k ≡ number → ⊥) → (k ≡ number) ↔ condition
+first-exact number k condition later (inl x) other = (λ (e : k ≡ number). x .0, λ (y : condition). x .1)
+first-exact number k condition later (inr x) other = (λ (e : k ≡ number). absurd (other (x .1) e), λ (y : condition). absurd (x .0 y))
+
+module _ (size offset key most : ℕ) (area : List ℕ) (c : Content) (s : Sound size offset key most (measures size offset key most) (countOf size (length area)) area c)
+    (ch : Change) (a : Answer) (after : List ℕ) (k : ChangeAllowed size offset key most area ch a after) (f : LengthFine (measures size offset key most) ch)
+    (l : Legal (measures size offset key most) ch (recordsOf (c .filled))) where
+  rows : First (row 6 (WantOfInterval size offset key most area ch) (row 7 (WantOfRoom size offset key most area ch) done)) (numberOf a)
+  rows =
+      rw (change-makes size offset key most area after ch a k .answers, way-planned size offset key most (measures size offset key most) (countOf size (length area)) area c s ch f l)
+      (plan-rows size offset key most area c s ch (change-octets size offset key most area after ch a k) f l)
+
+  -- A change that may be made is refused for want of an interval exactly if the fewest intervals that hold the records need more new ones than are free.
+  pub want-of-interval : (numberOf a ≡ 6) ↔ WantOfInterval size offset key most area ch
+  want-of-interval = first-exact 6 (numberOf a) (WantOfInterval size offset key most area ch) (row 7 (WantOfRoom size offset key most area ch) done) rows other
+    where
+      other : First (row 7 (WantOfRoom size offset key most area ch) done) (numberOf a) → numberOf a ≡ 6 → ⊥
+      other (inl x) e = omega (arith, x .1)
+      other (inr x) e = omega (arith, x .1)
+
+  -- Otherwise it is refused for want of room exactly if it divides and the index record's bytes, counted out, are more than an interval has for them.
+  pub want-of-room : (WantOfInterval size offset key most area ch → ⊥) → (numberOf a ≡ 7) ↔ WantOfRoom size offset key most area ch
+  want-of-room not = first-exact 7 (numberOf a) (WantOfRoom size offset key most area ch) done (go rows) (λ (z : numberOf a ≡ 0) (e : numberOf a ≡ 7). omega arith)
+    where
+      go : First (row 6 (WantOfInterval size offset key most area ch) (row 7 (WantOfRoom size offset key most area ch) done)) (numberOf a)
+          → First (row 7 (WantOfRoom size offset key most area ch) done) (numberOf a)
+      go (inl x) = absurd (not (x .0))
+      go (inr x) = x .1
+
+-- However an index record is laid out, with whatever legal compression, it has at least the bytes that are counted out.
+pub room-shortest : (size : ℕ) (d : Content) (ib : List ℕ) → LaidOut width size (meaningOf d) ib → 24 + length (d .free) + entriesNeed [] (sepsBy (d .filled)) ≤ size - 7
+unfolding indexSize
+room-shortest size d ib l =
+    let h : 24 + width * length (d .free) + entriesSize width [] (entriesOf (d .filled)) ≤ size - 7 = laid-fits width size (meaningOf d) ib l in
+    omega (arith, h, entries-need [] (d .filled))
