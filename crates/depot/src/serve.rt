@@ -1,0 +1,58 @@
+// The requests, 64 bytes each, read and served one after another.
+use crate::files;
+use crate::print;
+
+// What became of one turn: a request was served, the file was at its end, or it could not be read.
+enum Turn {
+    Served,
+    Ended,
+    Failed,
+}
+
+// Reads one request, serves it and prints its line. What is left of a file that ends inside a request goes to `step` too.
+fn one(fd: i32, area: &mut [u8], place: u64) -> Turn {
+    let mut request = [0u8; 64];
+    let got = files::fill(fd, &mut request);
+    let n = got.bytes;
+    if got.failed {
+        os::fail(b"requests.rec");
+        return Turn::Failed;
+    }
+    if n == 0 {
+        return Turn::Ended;
+    }
+    let mut out = [0u8; 64];
+    let told = requests::step(area, &request[..n], &mut out);
+    print::line(place, told, &out);
+    Turn::Served
+}
+
+// Nothing says that a file ends, and a proved loop does. So places are counted up to a number that no file of requests
+// reaches.
+fn all(fd: i32, area: &mut [u8]) -> bool {
+    let mut place = 1;
+    while place < u64::MAX {
+        match one(fd, area, place) {
+            Turn::Served => {}
+            Turn::Ended => return true,
+            Turn::Failed => return false,
+        }
+        place += 1;
+    }
+    false
+}
+
+// Serves the requests of the file, none where there is no such file, and gives whether it was read to its end.
+pub(crate) fn file(area: &mut [u8]) -> bool {
+    let fd = os::open_read(b"requests.rec");
+    if fd < 0 {
+        if os::errno() == libc::ENOENT {
+            return true;
+        }
+        os::fail(b"requests.rec");
+        return false;
+    }
+    let ended = all(fd, area);
+    libc::close(fd);
+    ended
+}

@@ -1,0 +1,58 @@
+// Areas laid by hand, with no record in them.
+
+// Stores bytes from a place on, where they fit.
+pub fn put(area: &mut [u8], at: usize, new: &[u8]) {
+    if area.len() < at {
+        return;
+    }
+    if area.len() - at < new.len() {
+        return;
+    }
+    fields::copy(area, at, new);
+}
+
+// An index record's frame: three fields and the free numbers, as given, from byte 18 on.
+pub fn frame(area: &mut [u8], told: &[u8]) {
+    put(area, 0, &[1, 249, 3, 1]);
+    put(area, 16, &[1, 0]);
+    put(area, 18, told);
+    put(area, 505, &[0, 1, 249, 1, 249, 0, 0]);
+}
+
+// An entry with F = 0 whose characters are one byte repeated.
+pub fn entry(area: &mut [u8], at: usize, length: usize, byte: u8, number: u8) {
+    if 505 < at {
+        return;
+    }
+    if 255 < length {
+        return;
+    }
+    if area.len() < 1024 {
+        return;
+    }
+    let control = at + length;
+    fields::fill(area, at, control, byte);
+    put(area, control, &[0, length as u8, number]);
+}
+
+// The CIDFs of four empty intervals, the first of them at a place.
+pub fn four_empty(area: &mut [u8], at: usize) {
+    if 4096 < at {
+        return;
+    }
+    put(area, at, &[0, 0, 1, 252]);
+    put(area, at + 512, &[0, 0, 1, 252]);
+    put(area, at + 1024, &[0, 0, 1, 252]);
+    put(area, at + 1536, &[0, 0, 1, 252]);
+}
+
+// Interval 0 has the only entry; up to three others are free.
+pub fn blank(area: &mut [u8], free: &[u8]) {
+    if 3 < free.len() {
+        return;
+    }
+    frame(area, &[0, (24 + free.len()) as u8, 1, 246, 1, 246]);
+    put(area, 24, free);
+    put(area, 502, &[0, 0, 0]);
+    four_empty(area, 1020);
+}

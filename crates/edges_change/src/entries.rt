@@ -1,0 +1,89 @@
+// Index records laid by hand: short Fs that a division makes longest, and records that a division just fills or would overfill.
+use crate::build;
+use crate::print;
+use crate::request;
+
+// Entries AAB, AAC and the last, each with F = 0, name 0, 1 and 2; 3 is free.
+pub fn short_fronts() {
+    print::words(b"short Fs\n");
+    let mut area = [0u8; 2560];
+    build::frame(&mut area, &[0, 25, 1, 234, 1, 234, 3]);
+    build::put(
+        &mut area,
+        490,
+        &[0, 0, 2, 65, 65, 67, 0, 3, 1, 65, 65, 66, 0, 3, 0],
+    );
+    build::four_empty(&mut area, 1020);
+    request::request(&mut area, b"insert AACA", b'I', b"AACA", 300);
+    request::request(&mut area, b"insert AACC", b'I', b"AACC", 300);
+    request::request(&mut area, b"insert AACB", b'I', b"AACB", 9);
+    request::request(&mut area, b"insert AABZ", b'I', b"AABZ", 9);
+    request::request(&mut area, b"insert AADA", b'I', b"AADA", 9);
+    request::checked(&area, 4);
+}
+
+// Entries of 100 A, 100 B, 100 C, so many D, and the last name 0 to 4; 5 is free. A cut in the last adds 103 bytes.
+fn full(area: &mut [u8], length: usize) {
+    if 100 < length {
+        return;
+    }
+    build::entry(area, 402, 100, 65, 0);
+    build::entry(area, 299, 100, 66, 1);
+    build::entry(area, 196, 100, 67, 2);
+    let at = 193 - length;
+    build::entry(area, at, length, 68, 3);
+}
+
+fn full_frame(area: &mut [u8], length: usize) {
+    if 100 < length {
+        return;
+    }
+    let last = 190 - length;
+    let low = last as u8;
+    build::put(area, last, &[0, 0, 4]);
+    build::frame(area, &[0, 25, 0, low, 0, low, 5]);
+    build::four_empty(area, 1020);
+    build::four_empty(area, 3068);
+}
+
+// Four of 160, two and two by the rule; its separator has 100 bytes, that of one and three would have two.
+pub fn full_at(length: usize) {
+    print::words(b"24 + 0 + 3 x 103 + 3 + 103 + 3 and ");
+    print::number(length);
+    print::words(b"\n");
+    let mut area = [0u8; 3584];
+    full(&mut area, length);
+    full_frame(&mut area, length);
+    let mut key = [66u8; 100];
+    build::put(&mut key, 0, b"EA");
+    request::request(&mut area, b"first", b'I', &key, 160);
+    build::put(&mut key, 0, b"EC");
+    request::request(&mut area, b"second", b'I', &key, 160);
+    build::put(&mut key, 0, b"EB");
+    request::request(&mut area, b"third", b'I', &key, 160);
+    build::put(&mut key, 99, b"A");
+    request::request(&mut area, b"fourth", b'I', &key, 160);
+    request::checked(&area, 100);
+}
+
+// K 255: a separator of so many A names 0, the last 1; 2 is free. Two of 255 whose keys differ in their last byte.
+pub fn long_key(length: usize) {
+    if 240 < length {
+        return;
+    }
+    print::words(b"24 + 0 + 3 + 258 + 3 and ");
+    print::number(length);
+    print::words(b"\n");
+    let mut area = [0u8; 2048];
+    let last = 499 - length;
+    build::entry(&mut area, last + 3, length, 65, 0);
+    build::put(&mut area, last, &[0, 0, 1]);
+    let low = (243 - length) as u8;
+    build::frame(&mut area, &[0, 25, 1, low, 1, low, 2]);
+    build::four_empty(&mut area, 1020);
+    let mut key = [66u8; 255];
+    request::request(&mut area, b"first", b'I', &key, 255);
+    build::put(&mut key, 254, b"C");
+    request::request(&mut area, b"second", b'I', &key, 255);
+    request::checked(&area, 255);
+}

@@ -1,0 +1,3 @@
+pub mod Serving
+pub mod Digits
+pub mod Unique

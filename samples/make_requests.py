@@ -1,0 +1,56 @@
+#!/usr/bin/env python3
+"""make_requests.py [LIST [FILE]]: requests as a text list to the 64-byte requests that the depot's program reads.
+
+A line is a letter, a blank, and for G and E a key of 8 characters, for I and U a record of 8 to 60. Blank lines and lines
+that begin with # are passed over. A bad line is told with its number, and then nothing is written. With no names it goes
+from samples/requests.txt to samples/register/requests.rec.
+"""
+import os
+import sys
+
+KEY, MOST, LINE = 8, 60, 64
+HERE = os.path.dirname(os.path.abspath(__file__))
+
+
+def wrong(text):
+    """Why a line is no request, or nothing."""
+    if text[:1] not in ("G", "I", "U", "E") or text[1:2] != " ":
+        return "no letter G, I, U or E with a blank after it"
+    if not text.isascii():
+        return "a character that is not ASCII"
+    length = len(text) - 2
+    if text[0] in "GE" and length != KEY:
+        return "a key of %d characters, not %d" % (length, KEY)
+    if text[0] in "IU" and not KEY <= length <= MOST:
+        return "a record of %d characters, not %d to %d" % (length, KEY, MOST)
+    return ""
+
+
+def requests(path):
+    out, bad = [], 0
+    with open(path, encoding="utf-8") as lines:
+        for place, line in enumerate(lines, 1):
+            text = line.rstrip("\n")
+            if not text or text.startswith("#"):
+                continue
+            reason = wrong(text)
+            if reason:
+                print("%s:%d: %s" % (path, place, reason), file=sys.stderr)
+                bad += 1
+                continue
+            content = text[2:].encode("ascii")
+            out.append((text[:1].encode("ascii") + bytes([len(content)]) + content).ljust(LINE, b"\0"))
+    if bad:
+        sys.exit("%d bad lines, nothing written" % bad)
+    return b"".join(out)
+
+
+def main():
+    names = sys.argv[1:] + ["", ""]
+    made = requests(names[0] or os.path.join(HERE, "requests.txt"))
+    with open(names[1] or os.path.join(HERE, "register", "requests.rec"), "wb") as out:
+        out.write(made)
+
+
+if __name__ == "__main__":
+    main()

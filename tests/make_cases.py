@@ -1,0 +1,344 @@
+#!/usr/bin/env python3
+"""Makes the folders of tests/depot: an area, requests, and what the depot must print and leave in area.out.
+
+What is expected comes from the small model below, which follows the papers and knows nothing of the program: an area is
+a list of entries (separator, interval number) and a list of free numbers, an interval is a list of records. Run it at the
+repository's root; it writes the same bytes each time.
+"""
+import os
+import shutil
+import struct
+
+SIZE, KEY, MOST = 512, 8, 60
+
+
+# ---- bytes of intervals
+
+def runs(records):
+    """Neighbours of equal length, as [length, count]."""
+    out = []
+    for record in records:
+        if out and out[-1][0] == len(record):
+            out[-1][1] += 1
+        else:
+            out.append([len(record), 1])
+    return out
+
+
+def need(records):
+    fields = sum(1 if count == 1 else 2 for _, count in runs(records))
+    return sum(map(len, records)) + 3 * fields + 4
+
+
+def data_interval(records):
+    fields = b""
+    for length, count in runs(records):
+        if count == 1:
+            fields = struct.pack(">BH", 0, length) + fields
+        else:
+            fields = struct.pack(">BHBH", 8, count, 64, length) + fields
+    body = b"".join(records)
+    unused = SIZE - len(body) - len(fields) - 4
+    assert unused >= 0
+    return body + bytes(unused) + fields + struct.pack(">HH", len(body), unused)
+
+
+def same_front(a, b):
+    n = 0
+    while n < min(len(a), len(b)) and a[n] == b[n]:
+        n += 1
+    return n
+
+
+def entry_bytes(entries):
+    """The entries as they stand in the record, the first one rightmost, and the length of the last one's characters."""
+    out, before, chars = b"", b"", b""
+    for separator, number in entries:
+        front = same_front(before, separator)
+        chars = separator[front:]
+        out = chars + bytes([front, len(chars), number]) + out
+        before = separator
+    return out, len(chars)
+
+
+def index_interval(entries, free, kept=(0, 0)):
+    tail, chars = entry_bytes(entries)
+    record = SIZE - 7
+    last = record - len(tail) + chars
+    head = struct.pack(">HBBIIIBBHHH", record, 3, 1, kept[0], kept[1], 0, 1, 0, 24 + len(free), last, last)
+    middle = record - len(head) - len(free) - len(tail)
+    assert middle >= 0
+    return head + bytes(free) + bytes(middle) + tail + struct.pack(">BHHH", 0, record, record, 0)
+
+
+class Area:
+    """What an area holds: entries in their order, free numbers in theirs, and the records of each interval."""
+
+    def __init__(self, entries, free, data, kept=(0, 0)):
+        self.entries, self.free, self.data, self.kept = list(entries), list(free), dict(data), kept
+        self.n = len(self.entries) + len(self.free)
+
+    def bytes(self):
+        parts = [index_interval(self.entries, self.free, self.kept)]
+        return b"".join(parts + [data_interval(self.data.get(number, [])) for number in range(self.n)])
+
+    def entry_of(self, key):
+        for place, (separator, _) in enumerate(self.entries):
+            if key[:len(separator)] <= separator:
+                return place
+
+    def counts(self):
+        return sum(map(len, self.data.values())), len(self.free)
+
+    # ---- what each request comes to: a number, and a record where one is found
+
+    def get(self, key):
+        if len(key) != KEY:
+            return 3, None
+        records = self.data.get(self.entries[self.entry_of(key)][1], [])
+        for record in records:
+            if record[:KEY] == key:
+                return 0, record
+        return 5, None
+
+    def erase(self, key):
+        if len(key) != KEY:
+            return 3
+        number = self.entries[self.entry_of(key)][1]
+        left = [record for record in self.data.get(number, []) if record[:KEY] != key]
+        if left == self.data.get(number, []):
+            return 5
+        self.data[number] = left
+        return 0
+
+    def put(self, record, is_new):
+        if not KEY <= len(record) <= MOST:
+            return 3
+        place = self.entry_of(record[:KEY])
+        number = self.entries[place][1]
+        old = self.data.get(number, [])
+        there = record[:KEY] in [other[:KEY] for other in old]
+        if is_new and there:
+            return 4
+        if not is_new and not there:
+            return 5
+        new = sorted([other for other in old if other[:KEY] != record[:KEY]] + [record], key=lambda r: r[:KEY])
+        return self.store(place, new, new.index(record))
+
+    def store(self, place, records, changed):
+        parts = divide(records, changed)
+        separator, number = self.entries[place]
+        if len(parts) - 1 > len(self.free):
+            return 6
+        free = list(self.free)
+        numbers = [number] + [free.pop() for _ in parts[1:]]
+        cuts = [cut_at(left[-1], right[0]) for left, right in zip(parts, parts[1:])] + [separator]
+        entries = self.entries[:place] + list(zip(cuts, numbers)) + self.entries[place + 1:]
+        if len(parts) > 1 and 24 + len(free) + len(entry_bytes(entries)[0]) > SIZE - 7:
+            return 7
+        self.entries, self.free = entries, free
+        for where, part in zip(numbers, parts):
+            self.data[where] = part
+        return 0
+
+
+def cut_at(left, right):
+    """The left key as far as the first byte in which the right one is another."""
+    return left[:same_front(left[:KEY], right[:KEY]) + 1]
+
+
+def divide(records, changed):
+    if need(records) <= SIZE:
+        return [records]
+    fitting = []
+    for cut in range(1, len(records)):
+        left, right = records[:cut], records[cut:]
+        if need(left) <= SIZE and need(right) <= SIZE:
+            a, b = sum(map(len, left)), sum(map(len, right))
+            fitting.append((abs(a - b), a, [left, right]))
+    if fitting:
+        return min(fitting, key=lambda choice: choice[:2])[2]
+    parts = [records[:changed], records[changed:changed + 1], records[changed + 1:]]
+    return [part for part in parts if part]
+
+
+# ---- the depot's day
+
+def request(letter, content, length=None, filling=0):
+    head = letter + bytes([len(content) if length is None else length]) + content
+    return head + bytes([filling]) * (64 - len(head))
+
+
+def serve(area, line):
+    """The text after the place: a number, and a found record in capitals."""
+    letter, length = line[:1], line[1] if len(line) > 1 else 0
+    if len(line) != 64 or letter not in (b"G", b"I", b"U", b"E") or length > 62:
+        return "10"
+    content = line[2:2 + length]
+    if letter == b"G":
+        number, found = area.get(content)
+        return "%d" % number if found is None else "0 " + found.hex().upper()
+    if letter == b"E":
+        return "%d" % area.erase(content)
+    return "%d" % area.put(content, letter == b"I")
+
+
+def day(area, requests):
+    lines = [requests[at:at + 64] for at in range(0, len(requests), 64)]
+    out = ["%d %s" % (place, serve(area, line)) for place, line in enumerate(lines, 1)]
+    out.append("records %d free %d" % area.counts())
+    return "".join(line + "\n" for line in out)
+
+
+# ---- the cases
+
+HERE = os.path.join(os.path.dirname(os.path.abspath(__file__)), "depot")
+
+
+FOLDER = object()
+
+
+def case(name, stdout, area=None, requests=None, after=None, before=None, stderr=None):
+    """after: the area.out that is expected, None where none may be there; before: one that lay there already. FOLDER in
+    place of bytes makes a folder of that name, with a file in it."""
+    folder = os.path.join(HERE, name)
+    files = {"area.ci": area, "requests.rec": requests, "area.out": before, "expected/stdout": stdout.encode(),
+             "expected/area.out": after, "expected/stderr": stderr}
+    for file, content in files.items():
+        path = os.path.join(folder, file)
+        if content is FOLDER:
+            path, content = os.path.join(path, "inside"), b"a file\n"
+        if content is not None:
+            os.makedirs(os.path.dirname(path), exist_ok=True)
+            with open(path, "wb") as out:
+                out.write(content)
+
+
+def served(name, area, requests, before=None, missing=False):
+    """A case with a sound area: the model says what comes out."""
+    opening = area.bytes()
+    text = day(area, requests)
+    case(name, text, opening, None if missing else requests, area.bytes(), before)
+
+
+def refused(name, text, area, before=None):
+    requests = request(b"G", b"A0000001")
+    case(name, text, area, requests, before, before)
+
+
+def record(key, length, filler=b"k"):
+    return key + filler * (length - KEY)
+
+
+def empty(n=2):
+    return Area([(b"", 0)], range(1, n), {})
+
+
+def three(kept=(0, 0)):
+    """Three intervals with records, one of them not in the order of its number, and one free."""
+    return Area([(b"B", 0), (b"C5", 2), (b"", 1)], [3],
+                {0: [record(b"A0000001", 10), record(b"A0000002", 10), record(b"B0000001", 31)],
+                 2: [record(b"C0000001", 20), record(b"C4999999", 8)],
+                 1: [record(b"D0000001", 60), record(b"ZZZZZZZZ", 12)]}, kept)
+
+
+def full():
+    """One used interval with no byte to spare, none free."""
+    return Area([(b"", 0)], [], {0: [record(b"A000000%d" % i, 60) for i in range(8)] + [record(b"A0000009", 19)]})
+
+
+def bent(area, at, new):
+    return area[:at] + new + area[at + len(new):]
+
+
+def areas():
+    sound = three().bytes()
+    longest = Area([(b"", 0)], range(1, 127), {}).bytes()
+    refused("area_missing", "area 1\n", None)
+    refused("area_empty", "area 1\n", b"")
+    refused("area_no_data_interval", "area 1\n", sound[:512])
+    refused("area_one_byte_short", "area 1\n", sound[:-1])
+    refused("area_one_byte_more", "area 1\n", sound + b"\0")
+    refused("area_too_long", "area 1\n", longest + data_interval([]))
+    refused("area_65537", "area 1\n", longest + b"\0")
+    refused("area_wrong_old_out", "area 1\n", b"", b"an older one")
+    refused("unsound_index", "area 2 0\n", bent(sound, 16, b"\2"))
+    refused("unsound_index_before_data", "area 2 0\n", bent(bent(sound, 16, b"\2"), 1022, b"\0\0"))
+    refused("unsound_first", "area 2 1\n", bent(sound, 1022, b"\x80"))
+    refused("unsound_middle", "area 2 2\n", bent(sound, 1024, b"C4999999"))
+    refused("unsound_lowest_number", "area 2 2\n", bent(bent(sound, 1024, b"B"), 1536, b"B"))
+    refused("unsound_last_used", "area 2 3\n", bent(sound, 1536, b"D"))
+    refused("unsound_end_of_file", "area 2 4\n", bent(sound, 2556, bytes(4)))
+    refused("unsound_free_not_empty", "area 2 4\n", sound[:2048] + data_interval([record(b"C4000000", 9)]))
+    refused("unsound_old_out", "area 2 0\n", bent(sound, 0, b"\0"), b"an older one")
+    served("area_longest", Area([(b"", 0)], range(1, 127), {}), request(b"I", b"A0000001HK"))
+    served("area_one_interval", Area([(b"", 0)], [], {}), request(b"I", b"A0000001HK") + request(b"G", b"A0000001"))
+    served("area_kept_bytes", three((0x00012000, 0xFFFFFFFF)), request(b"U", b"C0000001HK"))
+
+
+def requests():
+    get, new = request(b"G", b"A0000001"), request(b"I", b"A0000001HK")
+    served("example", empty(), new + new + get + request(b"E", b"A0000002"))
+    served("requests_missing", three(), b"", missing=True)
+    served("requests_empty", three(), b"")
+    served("requests_one_byte", three(), b"G")
+    served("requests_short_last", three(), get + get[:63])
+    served("requests_short_last_would_do", three(), get + get[:10])
+    served("requests_bad_letters", three(), b"".join(request(bytes([c]), b"A0000001") for c in b"giueABDFHJTVZ \0\xff\xc7") + get)
+    served("requests_lengths", three(), b"".join(request(letter, b"A0000001" + b"x" * 54, length) for letter in (b"G", b"I", b"U", b"E")
+                                                 for length in (0, 1, 7, 9, 61, 62, 63, 64, 128, 255)) + get)
+    served("requests_past_the_length", three(), request(b"G", b"A0000001", filling=255) + request(b"I", b"A0000003HK", filling=71)
+           + request(b"G", b"A0000003", filling=1))
+    served("requests_each_kind", three(), request(b"G", b"D0000001") + request(b"U", record(b"D0000001", 8)) + request(b"G", b"D0000001")
+           + request(b"E", b"D0000001") + request(b"E", b"D0000001") + request(b"U", record(b"D0000001", 9))
+           + request(b"I", record(b"B9999999", 60)) + request(b"G", b"B9999999") + request(b"G", b"C5000000"))
+    served("requests_many", three(), (new + get + request(b"E", b"A0000001")) * 200)
+    served("update_equal_bytes", three(), request(b"U", record(b"C0000001", 20)))
+    served("erase_all_of_an_interval", three(), request(b"E", b"C0000001") + request(b"E", b"C4999999") + request(b"I", record(b"C3", 9)
+           [:8] + b"x") + request(b"I", b"C3000000HK") + request(b"G", b"C3000000"))
+
+
+def divisions():
+    served("no_interval_left", full(), request(b"I", b"A0000008") + request(b"G", b"A0000001") + request(b"U", record(b"A0000009", 20))
+           + request(b"E", b"A0000001") + request(b"I", b"A0000008"))
+    nine = b"".join(request(b"I", record(b"A00000%02d" % i, 60)) for i in range(40))
+    served("last_free_interval", empty(2), nine)
+    served("divides_in_the_middle", empty(3), b"".join(request(b"I", record(b"A0000%03d" % (i * 37 % 101), 8 + i * 7 % 53)) for i in range(60)))
+    served("divides_downwards", empty(9), b"".join(request(b"I", record(b"M%07d" % (9999999 - i * 77777), 60 - i % 3)) for i in range(70)))
+    served("takes_the_rightmost_free", Area([(b"", 2)], [4, 0, 3, 1], {}), nine)
+    served("shorter_update_divides", shorter(), request(b"U", record(b"A0000004", 39)) + request(b"G", b"A0000004"))
+    whole = Area([(b"", 0)], range(1, 127), {})
+    served("no_room_in_index", whole, b"".join(request(b"I", record(scattered(i), 60)) for i in range(1, 900)))
+    served("old_longer_out", empty(), request(b"I", b"A0000001HK"), before=b"old" * 5000)
+    served("old_shorter_out", empty(), request(b"I", b"A0000001HK"), before=b"old")
+
+
+def failures():
+    """Files that cannot be read or written: nothing is taken for an end, and nothing is half written."""
+    sound, one = three().bytes(), request(b"G", b"C0000001")
+    case("area_is_a_folder", "area 1\n", FOLDER, one)
+    case("requests_are_a_folder", "", sound, FOLDER, stderr=b"requests.rec: Is a directory\n")
+    case("requests_are_a_folder_old_out", "", sound, FOLDER, b"an older one", b"an older one", b"requests.rec: Is a directory\n")
+    case("out_is_a_folder", day(three(), one), sound, one, FOLDER, FOLDER, b"area.out: Is a directory\n")
+
+
+def scattered(i):
+    """A key whose digits follow no order."""
+    return b"%08d" % (i * 48271 * 48271 % 99999989)
+
+
+def shorter():
+    """Equal lengths, filled so far that a run broken in two leaves no room."""
+    return Area([(b"", 0)], [1], {0: [record(b"A00000%02d" % i, 40) for i in range(12)] + [record(b"A0000012", 18)]})
+
+
+def main():
+    shutil.rmtree(HERE, ignore_errors=True)
+    areas()
+    requests()
+    divisions()
+    failures()
+
+
+if __name__ == "__main__":
+    main()
