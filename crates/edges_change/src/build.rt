@@ -1,7 +1,7 @@
 // Areas laid by hand, with no record in them.
 
 // Stores bytes from a place on, where they fit.
-pub fn put(area: &mut [u8], at: usize, new: &[u8]) {
+pub(crate) fn put(area: &mut [u8], at: usize, new: &[u8]) {
     if area.len() < at {
         return;
     }
@@ -12,7 +12,7 @@ pub fn put(area: &mut [u8], at: usize, new: &[u8]) {
 }
 
 // An index record's frame: three fields and the free numbers, as given, from byte 18 on.
-pub fn frame(area: &mut [u8], told: &[u8]) {
+pub(crate) fn frame(area: &mut [u8], told: &[u8]) {
     put(area, 0, &[1, 249, 3, 1]);
     put(area, 16, &[1, 0]);
     put(area, 18, told);
@@ -20,7 +20,7 @@ pub fn frame(area: &mut [u8], told: &[u8]) {
 }
 
 // An entry with F = 0 whose characters are one byte repeated.
-pub fn entry(area: &mut [u8], at: usize, length: usize, byte: u8, number: u8) {
+pub(crate) fn entry(area: &mut [u8], at: usize, length: usize, byte: u8, number: u8) {
     if 505 < at {
         return;
     }
@@ -36,7 +36,7 @@ pub fn entry(area: &mut [u8], at: usize, length: usize, byte: u8, number: u8) {
 }
 
 // The CIDFs of four empty intervals, the first of them at a place.
-pub fn four_empty(area: &mut [u8], at: usize) {
+pub(crate) fn four_empty(area: &mut [u8], at: usize) {
     if 4096 < at {
         return;
     }
@@ -47,7 +47,7 @@ pub fn four_empty(area: &mut [u8], at: usize) {
 }
 
 // Interval 0 has the only entry; up to three others are free.
-pub fn blank(area: &mut [u8], free: &[u8]) {
+pub(crate) fn blank(area: &mut [u8], free: &[u8]) {
     if 3 < free.len() {
         return;
     }

@@ -5,7 +5,7 @@ use answers::Answer;
 use fields::Order;
 
 // The request of a letter with the front of some bytes, so long: I inserts, U updates, E erases.
-pub fn asked(area: &mut [u8], key: usize, letter: u8, bytes: &[u8], long: usize) -> Answer {
+pub(crate) fn asked(area: &mut [u8], key: usize, letter: u8, bytes: &[u8], long: usize) -> Answer {
     if bytes.len() < long {
         return Answer::Outside;
     }
@@ -42,7 +42,7 @@ fn told(answer: Answer) {
 }
 
 // The check of the area as it has become.
-pub fn checked(area: &[u8], key: usize) {
+pub(crate) fn checked(area: &[u8], key: usize) {
     print::words(b"  check:");
     told(register::check(area, 512, 0, key, 505));
     print::words(b"\n");
@@ -128,7 +128,7 @@ fn altered(area: &[u8], old: &[u8]) {
 }
 
 // A request with a record of a length that begins with a key; as a search key only its front counts.
-pub fn request(area: &mut [u8], name: &[u8], letter: u8, key: &[u8], length: usize) {
+pub(crate) fn request(area: &mut [u8], name: &[u8], letter: u8, key: &[u8], length: usize) {
     let mut old = [0u8; 4096];
     build::put(&mut old, 0, area);
     let mut bytes = [46u8; 512];
