@@ -4,5 +4,6 @@ pub mod Making
 pub mod Edits
 pub mod Lying
 pub mod Gets
+pub mod Order
 pub mod Accepted
 pub mod Unique
