@@ -1,8 +1,8 @@
 -- What an accepted change does: the fewest intervals, true counts, and no byte written but those that it names.
 use Prim.Native.Nat.{ℕ, _+_, _-_, _≤_, _<_}
 use mathlib.Core.Path.{_≡_, _∙_, sym, ap}
-use mathlib.Core.List.{List, [], _∷_, _++_, map, List·Memᴰ}
-use lib.ListN.{length, length-map}
+use mathlib.Core.List.{List, [], _∷_, _++_, List·Memᴰ}
+use lib.ListN.{length}
 use native.Mathlib.Omega.{arith}
 use borrow.Author.Tests.{lt-ltb, le-ltb}
 use Rattle.fields.specs.Bytes.{Octets}
@@ -31,10 +31,10 @@ use Rattle.answers.proofs.Edits.{ledTo}
 use Rattle.promises.specs.Trace.{Sound, ChangeAllowed}
 use Rattle.promises.specs.Home.{keyIn}
 use Rattle.promises.specs.Changes.{SpreadsFewest, OnlyNamedWritten, CountsTrue, CutPrescribed}
-use Rattle.promises.proofs.Ways.{home, way-fits, way-edits, Carried, carried, edit-entry, edit-ordinal, separators-cuts}
+use Rattle.promises.proofs.Ways.{home, way-fits, way-placed, way-edits, Carried, carried, edit-entry, separators-cuts}
 use Rattle.promises.proofs.History.{change-octets, change-makes}
-use Rattle.division.specs.Division.{divisionOf, parts}
-use Rattle.division.proofs.Answers.{prescribed}
+use Rattle.promises.specs.Prescribed.{broughtBy}
+use Rattle.promises.proofs.Prescribed.{made-prescribed}
 use Rattle.promises.proofs.Parts.{new, new-records, new-numbers, new-many, new-parts, new-seps, written-forms, named-among, taken-apart}
 
 -- ---- an accepted change
@@ -133,16 +133,13 @@ module _ (size offset key most : ℕ) (m : Measures) (n : ℕ) (area : List ℕ)
 
     -- An accepted change divides the records as the rules prescribe, at the best cut where one fits and around the changed record only where none does; at each
     -- cut stands that cut's separator.
-    pub cut-prescribed : CutPrescribed m (keyIn m ch) (spreads-fewest .home .old) (spreads-fewest .new)
-    unfolding home spreads-fewest divided parts
+    pub cut-prescribed : CutPrescribed m ch (spreads-fewest .home .old) (spreads-fewest .new)
+    unfolding home spreads-fewest divided
     cut-prescribed =
         let f : Filled = ledTo c (keyIn m ch) in
-        let rs : List (List ℕ) = edited (c .filled) e in
-        let l : length (map length rs) ≡ length rs = length-map rs length in
+        let p = made-prescribed m (m .size) (edited (c .filled) e) (broughtBy ch) (e .ordinal) (way-placed size offset key most m n area c s ch (did .fine) bytes (did .legal)) in
         record {
-          division = divisionOf (m .size) (map length (recordsOf (new m c f ps)));
-          rules = prescribed (m .size) (map length (recordsOf (new m c f ps)));
-          parts = rw (old-records, ← l, ← edit-ordinal m c ch) (new-parts m c f ps some);
+          parts = rw (old-records, new-parts m c f ps some) p;
           cuts = new-seps m c f ps some ∙ rw (new-parts m c f ps some, separators-cuts m ps);
         }
 

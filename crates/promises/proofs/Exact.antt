@@ -1,5 +1,5 @@
 -- Refusals are exact: every request answers with the number of the first condition of its table that holds, and with 0 if none does.
-use Prim.Native.Nat.{ℕ, _-_}
+use Prim.Native.Nat.{ℕ}
 use mathlib.Core.Path.{_≡_, refl, ap}
 use mathlib.Core.List.{List, []}
 use mathlib.Core.Logic.{_⊎_, inl, inr}

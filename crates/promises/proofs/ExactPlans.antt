@@ -1,7 +1,7 @@
 -- Rows 6 and 7: want of an interval and want of room in the index record, said over the interval to which the key belongs.
 use Prim.Native.Nat.{ℕ, _+_, _-_, _≤_, _<_}
 use mathlib.Core.Path.{_≡_, refl, _∙_, sym, ap}
-use mathlib.Core.List.{List, [], _∷_, _++_}
+use mathlib.Core.List.{List, [], _∷_, _++_, map}
 use mathlib.Core.Logic.{_⊎_, inl, inr}
 use lib.ListN.{length, take, drop}
 use lib.Seq.{length-take-le}
@@ -11,6 +11,8 @@ use Rattle.measures.specs.Judgement.{measures, countOf}
 use Rattle.measures.specs.declared.Measures.{Measures}
 use Rattle.index.specs.Search.{leadsTo}
 use Rattle.index.specs.Form.{indexSize, entriesSize, entrySize}
+use Rattle.division.specs.Division.{divisionOf}
+use Rattle.division.specs.declared.Division.the-variants.{Three}
 use Rattle.division.specs.Fewest.{Fewest}
 use Rattle.division.proofs.Intervals.{fewest-unique}
 use Rattle.area.specs.Content.{Filled, Content, recordsOf, entriesOf, meaningOf}
@@ -23,12 +25,13 @@ use Rattle.change.proofs.Made.{made-fewest}
 use Rattle.answers.specs.Answers.{numberOf}
 use Rattle.answers.specs.Model.{Change, makeChange, Legal}
 use Rattle.answers.specs.Changing.{carryOut}
-use Rattle.answers.proofs.Edits.{ledTo}
 use Rattle.answers.proofs.Accepted.{bytesOf, editOf}
-use Rattle.promises.specs.Tables.{done, row, First, changed, prescribed, indexNeeds, WantOfInterval, WantOfRoom}
+use Rattle.promises.specs.Tables.{done, row, First, changed, indexNeeds, Crowded, Roomless, WantOfInterval, WantOfRoom}
 use Rattle.promises.specs.Trace.{Sound}
 use Rattle.promises.specs.Home.{keyIn, LengthFine, Home}
-use Rattle.promises.proofs.Ways.{way-fits, way-edits, home, edit-entry, edit-ordinal, separators-cuts}
+use Rattle.promises.specs.Prescribed.{broughtBy, PrescribedParts}
+use Rattle.promises.proofs.Prescribed.{Placed, made-prescribed, prescribed-made}
+use Rattle.promises.proofs.Ways.{way-fits, way-placed, way-edits, home, edit-entry, separators-cuts}
 use Rattle.promises.proofs.Homes.{home-one}
 use Rattle.promises.proofs.Rows.{held}
 use Rattle.fields.specs.Order.{common}
@@ -82,12 +85,17 @@ module _ (size offset key most : ℕ) (area : List ℕ) where
     parts-only : (h : Home m c (keyIn m ch)) (k : ℕ) → Fewest size (changed m c ch h) k → length ps ≡ k
     parts-only h k w = fewest-unique size (changed m c ch h) (length ps) k (parts-fewest h) w
 
-    -- they are divided as the rules prescribe,
-    prescribed-is : (h : Home m c (keyIn m ch)) → prescribed m c ch h ≡ ps
-    unfolding home divided
-    prescribed-is h =
-        let q : h .old ≡ ledTo c (keyIn m ch) = home-one m n area c (s .reads) (keyIn m ch) h here .1 in
-        rw (changed-is h, q, edit-ordinal m c ch)
+    -- the prescribed parts are those of the division and no others,
+    placed : divisionOf size (map length (edited (c .filled) e)) ≡ Three → Placed m (broughtBy ch) (edited (c .filled) e) (e .ordinal)
+    placed = way-placed size offset key most m n area c s ch f b l
+
+    parts-prescribed : (h : Home m c (keyIn m ch)) → PrescribedParts size (changed m c ch h) (broughtBy ch) ps
+    unfolding divided
+    parts-prescribed h = rw (changed-is h) (made-prescribed m size (edited (c .filled) e) (broughtBy ch) (e .ordinal) placed)
+
+    prescribed-parts : (h : Home m c (keyIn m ch)) (qs : List (List (List ℕ))) → PrescribedParts size (changed m c ch h) (broughtBy ch) qs → qs ≡ ps
+    unfolding divided
+    prescribed-parts h qs p = prescribed-made m size (edited (c .filled) e) (broughtBy ch) (e .ordinal) placed qs (rw (changed-is h) at p)
 
     needs-after : indexSize width (meaningOf (contentAfter m c e))
         ≡ 24 + (length (c .free) - (length ps - 1))
@@ -106,7 +114,7 @@ module _ (size offset key most : ℕ) (area : List ℕ) where
         omega (arith, a, l)
 
     -- and the index record needs so many bytes.
-    needs-is : (h : Home m c (keyIn m ch)) → indexNeeds m c ch h ≡ indexSize width (indexAfter m c e)
+    needs-is : (h : Home m c (keyIn m ch)) → indexNeeds m c (keyIn m ch) h ps ≡ indexSize width (indexAfter m c e)
     unfolding home
     needs-is h =
         let i : ℕ = leadsTo (keyIn m ch) (entriesOf (c .filled)) in
@@ -114,7 +122,7 @@ module _ (size offset key most : ℕ) (area : List ℕ) where
         let o : h .pre ≡ take i (c .filled) = q .0 in
         let f : h .old ≡ entryAt (c .filled) i = q .1 in
         let t : h .post ≡ drop (i + 1) (c .filled) = q .2 in
-        rw (prescribed-is h, separators-cuts m ps, o, f, t, ← edit-entry m c ch) (sym needs-after ∙ ap (indexSize width) (after-meaning m c e))
+        rw (separators-cuts m ps, o, f, t, ← edit-entry m c ch) (sym needs-after ∙ ap (indexSize width) (after-meaning m c e))
 
     -- Rows 6 and 7 decide a change whose length is fine and which may be made.
     pub plan-rows : First (row 6 (WantOfInterval size offset key most area ch) (row 7 (WantOfRoom size offset key most area ch) done)) (numberOf (carryOut m area (planOf m c e) .answer))
@@ -125,17 +133,19 @@ module _ (size offset key most : ℕ) (area : List ℕ) where
 
         not-six : length ps - 1 ≤ length (c .free) → WantOfInterval size offset key most area ch → ⊥
         not-six w x =
-            let y = held size offset key most area (λ (d : Content). (h : Home m d (keyIn m ch)) × ((k : ℕ) → Fewest size (changed m d ch h) k → length (d .free) < k - 1)) c (s .reads) x in
+            let y = held size offset key most area (Crowded size offset key most ch) c (s .reads) x in
             omega (arith, y .1 (length ps) (parts-fewest (y .0)))
 
         seven : WantsRoom m c e → WantOfRoom size offset key most area ch
         seven w =
-            (c, s .reads, (here, λ (k : ℕ) (g : Fewest size (changed m c ch here) k). let q : 1 < length ps = w .1 in omega (arith, parts-only here k g), rw (needs-is here) (w .2)))
+            (c, s .reads, (here, λ (k : ℕ) (g : Fewest size (changed m c ch here) k). let q : 1 < length ps = w .1 in omega (arith, parts-only here k g), ps, parts-prescribed here, rw (needs-is here) (w .2)))
 
         not-seven : (1 < length ps → indexSize width (indexAfter m c e) ≤ size - 7) → WantOfRoom size offset key most area ch → ⊥
         not-seven w x =
-            let y = held size offset key most area (λ (d : Content). (h : Home m d (keyIn m ch)) × ((k : ℕ) → Fewest size (changed m d ch h) k → 1 < k) × (size - 7 < indexNeeds m d ch h)) c (s .reads) x in
-            omega (arith, w (y .1 (length ps) (parts-fewest (y .0))), y .2, needs-is (y .0))
+            let y = held size offset key most area (Roomless size offset key most ch) c (s .reads) x in
+            let q : y .2 ≡ ps = prescribed-parts (y .0) (y .2) (y .3) in
+            let o : size - 7 < indexNeeds m c (keyIn m ch) (y .0) ps = rw q at (y .4) in
+            omega (arith, w (y .1 (length ps) (parts-fewest (y .0))), o, needs-is (y .0))
 
         go : (WantsInterval m c e ⊎ WantsRoom m c e) ⊎ WantsNothing m c e
             → First (row 6 (WantOfInterval size offset key most area ch) (row 7 (WantOfRoom size offset key most area ch) done)) (numberOf (carryOut m area (planOf m c e) .answer))

@@ -4,6 +4,7 @@ pub mod Fits
 pub mod History
 pub mod Ways
 pub mod Parts
+pub mod Prescribed
 pub mod Changes
 pub mod Homes
 pub mod Rows

@@ -1,5 +1,5 @@
 -- Rows that stand in several tables, and what decides them.
-use Prim.Native.Nat.{ℕ, _-_}
+use Prim.Native.Nat.{ℕ}
 use mathlib.Core.Path.{_≡_, refl, _∙_, sym}
 use mathlib.Core.Bool.{Bool, true, false}
 use mathlib.Core.List.{List, [], _∷_, List·Memᴰ·not-nil}
@@ -7,10 +7,11 @@ use mathlib.Core.Logic.{_⊎_, inl, inr}
 use lib.ListN.{length}
 use native.Mathlib.Omega.{arith}
 use Rattle.fields.specs.Choice.{pick}
-use Rattle.measures.specs.Judgement.{fine, judgedOf, measures, countOf}
+use Rattle.measures.specs.Judgement.{Fits, fine, judgedOf, measures, countOf}
 use Rattle.measures.specs.declared.Measures.{Measures}
 use Rattle.measures.specs.declared.Judged.the-variants.{Fine}
 use Rattle.measures.specs.declared.Judged.the-variants as judged
+use Rattle.measures.proofs.Fine.{accepted, accepted-fits}
 use Rattle.area.specs.Content.{Content}
 use Rattle.area.specs.Reading.{Reading, damaged, whole, readArea}
 use Rattle.answers.specs.Records.{withKey}
@@ -53,8 +54,10 @@ module _ (size offset key most : ℕ) (area : List ℕ) where
 
       by-judgement : (judgedOf size offset key most (length area) ≡ judged.Outside) ⊎ (judgedOf size offset key most (length area) ≡ Fine m n)
           → First (row 1 (OutsideLimits size offset key most area) (row 2 (DamagedSomewhere size offset key most area) later)) k
-      by-judgement (inl o) = inl (o, one o)
-      by-judgement (inr j) = inr (λ (o : OutsideLimits size offset key most area). outside-fine m n (sym o ∙ j), by-reading j (readArea m n area) refl)
+      by-judgement (inl o) =
+          inl (λ (k : ℕ) (f : Fits size offset key most (length area) k). outside-fine m k (sym o ∙ accepted size offset key most (length area) k f), one o)
+      by-judgement (inr j) =
+          inr (λ (o : OutsideLimits size offset key most area). o n (accepted-fits size offset key most (length area) n m j .1), by-reading j (readArea m n area) refl)
 
   -- What the area holds, it holds of the content that it is read as.
   pub held : (P : Content → Type 0) (c : Content) → readArea m n area ≡ whole c → Holding size offset key most area P → P c

@@ -2,7 +2,7 @@
 use Prim.Native.Nat.{ℕ, _+_, _≤_}
 use mathlib.Core.Path.{_≡_, refl, _∙_, sym, ap}
 use mathlib.Core.Bool.{Bool, true, false}
-use mathlib.Core.List.{List, [], _∷_}
+use mathlib.Core.List.{List, [], _∷_, map}
 use mathlib.Core.Logic.{_⊎_, inl, inr}
 use lib.ListN.{length, take, drop}
 use lib.Dec.{eqb}
@@ -16,11 +16,14 @@ use Rattle.interval.specs.Records.{keyOf, within}
 use Rattle.index.specs.Search.{leadsTo}
 use Rattle.interval_find.specs.Search.{lower}
 use Rattle.division.specs.Changed.{swap}
+use Rattle.division.specs.Division.{divisionOf, counts, parts, pieces}
+use Rattle.division.specs.declared.Division.the-variants.{Three}
 use Rattle.area.specs.Content.{Content, recordsOf, entriesOf}
-use Rattle.change.specs.Parts.{cutsOf, entryAt, edited}
+use Rattle.change.specs.Parts.{Edit, cutsOf, entryAt, edited, divided}
 use Rattle.change.specs.Stores.{Store}
 use Rattle.change.specs.Plan.{Plan, noInterval, noRoom, stores, planOf}
 use Rattle.change.specs.Fitting.{Fitting}
+use Rattle.change.proofs.Fitted.{erased-one}
 use Rattle.answers.specs.Answers.{numberOf}
 use Rattle.answers.specs.Records.{withKey}
 use Rattle.answers.specs.Model.{add, replace, remove, Change, insert, update, erase, makeChange, Legal}
@@ -34,7 +37,9 @@ use Rattle.answers.proofs.Accepted.{changeOf, bytesOf, editOf}
 use Rattle.promises.specs.Trace.{Sound}
 use Rattle.promises.specs.Entries.{separators}
 use Rattle.promises.specs.Home.{keyIn, LengthFine, Home}
+use Rattle.promises.specs.Prescribed.{broughtBy}
 use Rattle.promises.proofs.Fits.{proper-fits}
+use Rattle.promises.proofs.Prescribed.{Placed, fresh-placed}
 
 -- what a change is refused with that may not be made
 abbrev pub unlawful : Change → Answer
@@ -89,12 +94,6 @@ unfolding cutsOf
 separators-cuts m [] = refl
 separators-cuts m (p ∷ []) = refl
 separators-cuts m (p ∷ q ∷ ps) = rw (separators-cuts m (q ∷ ps))
-
--- The place of a change among the records of its entry.
-pub edit-ordinal : (m : Measures) (c : Content) (ch : Change) → editOf m c ch .ordinal ≡ lower m (keyIn m ch) (ledTo c (keyIn m ch) .records)
-edit-ordinal m c (insert r) = refl
-edit-ordinal m c (update r) = refl
-edit-ordinal m c (erase wanted) = refl
 
 -- ---- each way
 
@@ -196,6 +195,18 @@ module _ (size offset key most : ℕ) (m : Measures) (n : ℕ) (area : List ℕ)
   -- it fits,
   pub way-fits : (ch : Change) → LengthFine m ch → Octets (bytesOf ch) → Legal m ch (recordsOf (c .filled)) → Fitting m n area c (editOf m c ch)
   way-fits ch f o h = proper-fits size offset key most n m area c (s .octets) (s .judges) (s .reads) ch (proper ch f o h)
+
+  -- has its record at one place where it divides into three,
+  pub way-placed : (ch : Change) → LengthFine m ch → Octets (bytesOf ch) → Legal m ch (recordsOf (c .filled))
+      → divisionOf (m .size) (map length (edited (c .filled) (editOf m c ch))) ≡ Three → Placed m (broughtBy ch) (edited (c .filled) (editOf m c ch)) (editOf m c ch .ordinal)
+  unfolding divided parts counts pieces
+  way-placed (insert r) f o h t = fresh-placed m (c .filled) (editOf m c (insert r)) r refl (proper (insert r) f o h)
+  way-placed (update r) f o h t = fresh-placed m (c .filled) (editOf m c (update r)) r refl (proper (update r) f o h)
+  way-placed (erase wanted) f o h t =
+      let e : Edit = editOf m c (erase wanted) in
+      let l : length (pieces (counts (divisionOf (m .size) (map length (edited (c .filled) e))) (length (map length (edited (c .filled) e))) (e .ordinal)) (edited (c .filled) e)) ≡ 1 =
+      ap length (erased-one m n area c e (way-fits (erase wanted) f o h) refl) in
+      absurd (let z : _≡_ {A = ℕ} 3 1 = rw t at l in omega arith)
 
   -- and makes the change in the records of the key's own interval.
   pub way-edits : (ch : Change) → LengthFine m ch → Octets (bytesOf ch) → Legal m ch (recordsOf (c .filled))

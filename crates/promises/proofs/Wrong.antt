@@ -1,8 +1,8 @@
 -- The promises are not empty: each register of the list breaks one of them on a small sound area.
-use Prim.Native.Nat.{ℕ, _+_, _-_, _≤_, _<_}
+use Prim.Native.Nat.{ℕ, _+_, _≤_}
 use mathlib.Core.Path.{_≡_, refl, _∙_, sym, ap}
 use mathlib.Core.List.{List, [], _∷_, _++_, map, List·Memᴰ, List·Memᴰ·head, List·Memᴰ·tail, List·Memᴰ·not-nil, List·Memᴰ·cases-cons}
-use mathlib.Core.Logic.{_⊎_, inl, inr, ⊎-elim}
+use mathlib.Core.Logic.{inl, inr, ⊎-elim}
 use lib.ListN.{length, replicate}
 use native.Mathlib.Omega.{arith}
 use Rattle.fields.specs.Bytes.{number, digits}
@@ -33,12 +33,12 @@ use Rattle.answers.specs.Finding.{Keyed, Finds}
 use Rattle.answers.specs.declared.Answer.the-variants.{Intact, Absent}
 use Rattle.answers.proofs.Making.{count-add}
 use Rattle.promises.specs.Trace.{Request, check, get, changes, Step, Allowed, Trace, acceptedIn, Sound, Stands}
-use Rattle.promises.specs.Home.{Home}
-use Rattle.promises.specs.Tables.{First, Holding, changed, tableFor}
+use Rattle.promises.specs.Changes.{CountsTrue}
+use Rattle.promises.specs.Tables.{First, Holding, Crowded, changed, tableFor}
 use Rattle.promises.proofs.History.{history, get-finds}
-use Rattle.promises.proofs.Changes.{check-true}
+use Rattle.promises.proofs.Changes.{check-true, counts-true}
 use Rattle.promises.proofs.Exact.{refusals-exact}
-use Rattle.promises.specs.Wrong.{run, Breaks, refusesAll, callsDamaged, alwaysFull, inventsCounts, untouchedDone, sameRecord, constantBytes, third, without, losesLast, keepsRevoked}
+use Rattle.promises.specs.Wrong.{run, Breaks, refusesAll, callsDamaged, alwaysFull, inventsCounts, untouchedDone, sameRecord, constantBytes, third, together, inventsWritten, without, losesLast, keepsRevoked}
 
 -- ---- the area
 
@@ -100,7 +100,7 @@ always-full (inr (a, inr (b, inl x))) = omega (arith, x .1)
 always-full (inr (a, inr (b, inr (d, inl x)))) = omega (arith, x .1)
 always-full (inr (a, inr (b, inr (d, inr (e, inl x))))) =
     let y =
-    held-there (λ (c : Content). (h : Home depot c (keyOf depot third)) × ((k : ℕ) → Fewest 512 (changed depot c (insert third) h) k → length (c .free) < k - 1)) (x .0) in
+    held-there (Crowded 512 0 8 60 (insert third)) (x .0) in
     let o : y .0 .old ≡ record { sep = []; num = 0; records = first ∷ second ∷ [] } = only-entry (y .0 .pre) (y .0 .old) _ (y .0 .post) (y .0 .split) in
     let f : Fewest 512 (changed depot held (insert third) (y .0)) 1 =
     rw o (fewest-one 512 (makeChange depot (insert third) (first ∷ second ∷ [])) three-fit) in
@@ -108,12 +108,27 @@ always-full (inr (a, inr (b, inr (d, inr (e, inl x))))) =
 always-full (inr (a, inr (b, inr (d, inr (e, inr (f, inl x)))))) = omega (arith, x .1)
 always-full (inr (a, inr (b, inr (d, inr (e, inr (f, inr x)))))) = omega (arith, x .1)
 
+-- the small area's content with these records in its interval
+abbrev holding : List (List ℕ) → Content
+holding rs = record { kept = replicate 12 0; spare = 0; free = 1 ∷ []; filled = record { sep = []; num = 0; records = rs } ∷ [] }
+
+together-read : readArea depot 2 together ≡ whole (holding (first ∷ second ∷ third ∷ []))
+unfolding number digits orderOf common sum rdfCount push groups need concat ascendFrom ascending above upTo groupBytes groupsBytes layout form rdfs rdfsIn wellFormed lengths cut recordsIn formSound sound bound separator count below once namedOnce rises closed keepsRules spell frontsFit piecesSize lastChars pieceBytes piecesBytes freeBytes header trailer indexLayout packed entriesSize entrySize indexSize indexBytes numbersAt piecesAt piecesIn readIndex frame places soundIndex fill entriesOf soundFree soundUsed unsoundFree unsoundUsed unsoundData lowest readArea
+together-read = refl
+
 -- ---- counts
 
 -- A register that invents counts breaks `check-true`.
 pub invents-counts : inventsCounts bytes check .answer ≡ Intact (length (recordsOf (held .filled))) (length (held .free)) → ⊥
 unfolding recordsOf
 invents-counts e = let z : _≡_ {A = ℕ} 7 2 = cc in omega arith
+
+-- A register that invents how many intervals it wrote breaks `counts-true`: as many are free as before, so it was one.
+pub invents-written : (new : ℕ) → CountsTrue held (holding (first ∷ second ∷ third ∷ [])) (inventsWritten bytes (changes (insert third)) .answer) new → ⊥
+invents-written new t =
+    let e : 7 ∷ [] ≡ t .written ∷ [] = ap valuesOf (t .told) in
+    let z : _≡_ {A = ℕ} 7 (t .written) = cc in
+    omega (arith, t .same refl)
 
 -- ---- gets
 
@@ -159,10 +174,7 @@ untouched-done s =
     omega (arith, ap length e, count-add depot third (recordsOf (held .filled)))
 
 -- the area without the second certificate, read
-abbrev left : Content
-left = record { kept = replicate 12 0; spare = 0; free = 1 ∷ []; filled = record { sep = []; num = 0; records = first ∷ third ∷ [] } ∷ [] }
-
-without-read : readArea depot 2 without ≡ whole left
+without-read : readArea depot 2 without ≡ whole (holding (first ∷ third ∷ []))
 unfolding number digits orderOf common sum rdfCount push groups need concat ascendFrom ascending above upTo groupBytes groupsBytes layout form rdfs rdfsIn wellFormed lengths cut recordsIn formSound sound bound separator count below once namedOnce rises closed keepsRules spell frontsFit piecesSize lastChars pieceBytes piecesBytes freeBytes header trailer indexLayout packed entriesSize entrySize indexSize indexBytes numbersAt piecesAt piecesIn readIndex frame places soundIndex fill entriesOf soundFree soundUsed unsoundFree unsoundUsed unsoundData lowest readArea
 without-read = refl
 
@@ -171,7 +183,7 @@ pub loses-last : Stands 512 0 8 60 depot 2 bytes (losesLast bytes (changes (inse
     (acceptedIn (losesLast bytes (changes (insert third)) ∷ [])) → ⊥
 unfolding recordsOf makeAll makeChange
 loses-last s =
-    let e : first ∷ third ∷ [] ≡ add depot third (first ∷ second ∷ []) = standing without left (insert third ∷ []) without-read s in
+    let e : first ∷ third ∷ [] ≡ add depot third (first ∷ second ∷ []) = standing without (holding (first ∷ third ∷ [])) (insert third ∷ []) without-read s in
     omega (arith, ap length e, count-add depot third (first ∷ second ∷ []))
 
 constant-read : readArea depot 2 (replicate 1536 0) ≡ damaged 0
@@ -193,6 +205,7 @@ pub none-keeps : Breaks refusesAll (get (keyOf depot first) [] ∷ [])
     × Breaks callsDamaged (check ∷ [])
     × Breaks alwaysFull (changes (insert third) ∷ [])
     × Breaks inventsCounts (check ∷ [])
+    × Breaks inventsWritten (changes (insert third) ∷ [])
     × Breaks sameRecord (get (keyOf depot second) (replicate 60 0) ∷ [])
     × Breaks keepsRevoked (changes (erase (keyOf depot first)) ∷ get (keyOf depot first) (replicate 60 0) ∷ [])
     × Breaks untouchedDone (changes (insert third) ∷ [])
@@ -206,6 +219,10 @@ none-keeps = (
       always-full (exact (changes (insert third)) (alwaysFull bytes (changes (insert third))) (t .0)),
   λ (t : Trace 512 0 8 60 bytes (run inventsCounts bytes (check ∷ []))).
       invents-counts (check-true 512 0 8 60 depot 2 bytes held example-sound (inventsCounts bytes check .answer) (t .0 .1)),
+  λ (t : Trace 512 0 8 60 bytes (run inventsWritten bytes (changes (insert third) ∷ []))).
+      invents-written _
+      (counts-true 512 0 8 60 depot 2 bytes held example-sound (insert third) (inventsWritten bytes (changes (insert third)) .answer) together (t .0) refl
+      (holding (first ∷ second ∷ third ∷ [])) together-read),
   λ (t : Trace 512 0 8 60 bytes (run sameRecord bytes (get (keyOf depot second) (replicate 60 0) ∷ []))).
       same-record
       (get-finds 512 0 8 60 depot 2 bytes held example-sound [] [] (sameRecord bytes (get (keyOf depot second) (replicate 60 0)) .answer) bytes

@@ -1,15 +1,12 @@
 -- What an accepted change did to an area: c is its content before, d after. Nothing here plans or stores.
 use Prim.Native.Nat.{ℕ, _+_, _-_, _<_}
 use mathlib.Core.Path.{_≡_}
-use mathlib.Core.List.{List, [], _∷_, _++_, map, List·Memᴰ}
+use mathlib.Core.List.{List, [], _∷_, _++_, List·Memᴰ}
 use lib.ListN.{length}
 use Rattle.measures.specs.declared.Measures.{Measures}
 use Rattle.interval.specs.Layout.{form}
 use Rattle.index.specs.Meaning.{numbers}
 use Rattle.index.specs.Form.{indexBytes}
-use Rattle.interval_find.specs.Search.{lower}
-use Rattle.division.specs.Division.{Prescribed, counts, pieces}
-use Rattle.division.specs.declared.Division.{Division}
 use Rattle.division.specs.Fewest.{Fewest}
 use Rattle.area.specs.Content.{Filled, Content, recordsOf, entriesOf, meaningOf, indexIn, dataIn}
 use Rattle.area.specs.Reading.{width}
@@ -18,6 +15,7 @@ use Rattle.answers.specs.declared.Answer.{Answer}
 use Rattle.answers.specs.declared.Answer.the-variants.{Done}
 use Rattle.promises.specs.Entries.{recordsBy, sepsBy, separators}
 use Rattle.promises.specs.Home.{keyIn, Home}
+use Rattle.promises.specs.Prescribed.{broughtBy, PrescribedParts}
 
 -- The entry to which the key belongs gave way to new ones, all others stayed. The new ones hold the old one's records with the change made, in order, and
 -- there are as few of them as hold these, at least one.
@@ -28,12 +26,9 @@ pub record SpreadsFewest (m : Measures) (c d : Content) (ch : Change) : Type 0 w
   pub makes : recordsOf new ≡ makeChange m ch (home .old .records)
   pub fewest : Fewest (m .size) (recordsOf new) (length new)
 
--- The records are divided as the rules prescribe, the changed one after those with lower keys. Each new entry but the last has the separator of the cut
--- after it, the last that of the old one.
-pub record CutPrescribed (m : Measures) (key : List ℕ) (old : Filled) (new : List Filled) : Type 0 where
-  pub division : Division
-  pub rules : Prescribed (m .size) (map length (recordsOf new)) division
-  pub parts : recordsBy new ≡ pieces (counts division (length (recordsOf new)) (lower m key (old .records))) (recordsOf new)
+-- The new entries hold the parts that the rules prescribe. Each but the last has the separator of the cut after it, the last that of the old one.
+pub record CutPrescribed (m : Measures) (ch : Change) (old : Filled) (new : List Filled) : Type 0 where
+  pub parts : PrescribedParts (m .size) (recordsOf new) (broughtBy ch) (recordsBy new)
   pub cuts : sepsBy new ≡ separators m (recordsBy new) ++ (old .sep ∷ [])
 
 -- each of these entries' intervals has the writer's form of its records

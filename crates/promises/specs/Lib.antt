@@ -2,6 +2,7 @@ pub mod Harmless
 pub mod Trace
 pub mod Home
 pub mod Entries
+pub mod Prescribed
 pub mod Changes
 pub mod Tables
 pub mod Values

@@ -2,15 +2,12 @@
 -- measures, of what the area is read as, of lengths, of keys and addresses of its records, and of how few intervals hold records; of no search and no plan.
 use Prim.Native.Nat.{ℕ, _+_, _-_, _<_}
 use mathlib.Core.Path.{_≡_}
-use mathlib.Core.List.{List, [], _∷_, _++_, map}
+use mathlib.Core.List.{List, [], _∷_, _++_}
 use mathlib.Core.Logic.{_⊎_}
 use lib.ListN.{length}
-use Rattle.measures.specs.Judgement.{judgedOf, measures, countOf}
+use Rattle.measures.specs.Judgement.{Fits, measures, countOf}
 use Rattle.measures.specs.declared.Measures.{Measures}
-use Rattle.measures.specs.declared.Judged.the-variants as judged
 use Rattle.interval.specs.Records.{keyOf}
-use Rattle.interval_find.specs.Search.{lower}
-use Rattle.division.specs.Division.{parts, pieces}
 use Rattle.division.specs.Fewest.{Fewest}
 use Rattle.area.specs.Content.{Content, recordsOf, baseOf}
 use Rattle.area.specs.Reading.{damaged, whole, readArea}
@@ -19,6 +16,7 @@ use Rattle.answers.specs.Finding.{Keyed, Lies}
 use Rattle.promises.specs.Trace.{Request, check, get, getAt, changes}
 use Rattle.promises.specs.Entries.{sepsBy, separators, entriesNeed}
 use Rattle.promises.specs.Home.{keyIn, LengthFine, Home}
+use Rattle.promises.specs.Prescribed.{broughtBy, PrescribedParts}
 
 -- ---- tables
 
@@ -43,9 +41,9 @@ module _ (size offset key most : ℕ) (area : List ℕ) where
   abbrev pub many : ℕ
   many = countOf size (length area)
 
-  -- 1: the measures or the area's length are outside the limits
+  -- 1: the measures or the area's length are outside the limits, however many data intervals were meant
   abbrev pub OutsideLimits : Type 0
-  OutsideLimits = judgedOf size offset key most (length area) ≡ judged.Outside
+  OutsideLimits = (n : ℕ) → Fits size offset key most (length area) n → ⊥
 
   -- 2: the area is damaged at some place
   abbrev pub DamagedSomewhere : Type 0
@@ -77,32 +75,38 @@ module _ (size offset key most : ℕ) (area : List ℕ) where
 abbrev pub changed : (m : Measures) (c : Content) (ch : Change) → Home m c (keyIn m ch) → List (List ℕ)
 changed m c ch h = makeChange m ch (h .old .records)
 
--- and as the rules divide them; the changed record comes after those with lower keys
-abbrev pub prescribed : (m : Measures) (c : Content) (ch : Change) → Home m c (keyIn m ch) → List (List (List ℕ))
-prescribed m c ch h = pieces (parts (m .size) (map length (changed m c ch h)) (lower m (keyIn m ch) (h .old .records))) (changed m c ch h)
+-- The bytes of an index record that names parts in place of the interval's entry: 24, the free numbers that are left, and the entries, at the cuts with the
+-- separators of the cuts.
+abbrev pub indexNeeds : (m : Measures) (c : Content) (key : List ℕ) → Home m c key → List (List (List ℕ)) → ℕ
+indexNeeds m c key h parts =
+    24 + (length (c .free) - (length parts - 1))
+    + entriesNeed [] (sepsBy (h .pre) ++ ((separators m parts ++ (h .old .sep ∷ [])) ++ sepsBy (h .post)))
 
--- The bytes of an index record that names these parts in place of the interval's entry: 24, the free numbers that are left, and the entries, at the cuts with
--- the separators of the cuts.
-abbrev pub indexNeeds : (m : Measures) (c : Content) (ch : Change) → Home m c (keyIn m ch) → ℕ
-indexNeeds m c ch h =
-    24 + (length (c .free) - (length (prescribed m c ch h) - 1))
-    + entriesNeed [] (sepsBy (h .pre) ++ ((separators m (prescribed m c ch h) ++ (h .old .sep ∷ [])) ++ sepsBy (h .post)))
-
-module _ (size offset key most : ℕ) (area : List ℕ) (ch : Change) where
+module _ (size offset key most : ℕ) (ch : Change) where
   abbrev m : Measures
   m = measures size offset key most
 
-  -- 6: the fewest intervals that hold the key's interval's records with the change made are more, besides that interval, than are free
-  abbrev pub WantOfInterval : Type 0
-  WantOfInterval =
-      Holding size offset key most area
-      (λ (c : Content). (h : Home m c (keyIn m ch)) × ((k : ℕ) → Fewest size (changed m c ch h) k → length (c .free) < k - 1))
+  -- the fewest intervals that hold the key's interval's records with the change made are more, besides that interval, than are free
+  abbrev pub Crowded : Content → Type 0
+  Crowded c = (h : Home m c (keyIn m ch)) × ((k : ℕ) → Fewest size (changed m c ch h) k → length (c .free) < k - 1)
 
-  -- 7: they divide, and the index record that names the parts would need more than size - 7 bytes
+  -- they are more than one, and the index record that names the prescribed parts would need more than size - 7 bytes
+  abbrev pub Roomless : Content → Type 0
+  Roomless c =
+      (h : Home m c (keyIn m ch))
+      × ((k : ℕ) → Fewest size (changed m c ch h) k → 1 < k)
+      × (parts : List (List (List ℕ)))
+      × PrescribedParts size (changed m c ch h) (broughtBy ch) parts
+      × (size - 7 < indexNeeds m c (keyIn m ch) h parts)
+
+module _ (size offset key most : ℕ) (area : List ℕ) (ch : Change) where
+  -- 6: want of an interval
+  abbrev pub WantOfInterval : Type 0
+  WantOfInterval = Holding size offset key most area (Crowded size offset key most ch)
+
+  -- 7: want of room in the index record
   abbrev pub WantOfRoom : Type 0
-  WantOfRoom =
-      Holding size offset key most area
-      (λ (c : Content). (h : Home m c (keyIn m ch)) × ((k : ℕ) → Fewest size (changed m c ch h) k → 1 < k) × (size - 7 < indexNeeds m c ch h))
+  WantOfRoom = Holding size offset key most area (Roomless size offset key most ch)
 
 -- ---- the six tables
 

@@ -5,7 +5,7 @@ use lib.ListN.{length, drop, replicate}
 use Rattle.interval.specs.Layout.{form}
 use Rattle.index.specs.Form.{indexBytes}
 use Rattle.area.specs.Content.{meaningOf}
-use Rattle.area.proofs.Example.{first, held, bytes}
+use Rattle.area.proofs.Example.{first, second, held, bytes}
 use Rattle.answers.specs.declared.Answer.{Answer}
 use Rattle.answers.specs.declared.Answer.the-variants.{Done, Found, Intact, Damaged, Absent, NoInterval}
 use Rattle.promises.specs.Trace.{Request, check, get, getAt, changes, Step, Trace}
@@ -46,7 +46,7 @@ callsDamaged = saying (Damaged 0)
 abbrev pub alwaysFull : Register
 alwaysFull = saying NoInterval
 
--- invents counts
+-- invents how many records and free intervals there are
 abbrev pub inventsCounts : Register
 inventsCounts = saying (Intact 7 7)
 
@@ -69,6 +69,14 @@ third = 0x41 ∷ 0x30 ∷ 0x30 ∷ 0x30 ∷ 0x30 ∷ 0x30 ∷ 0x30 ∷ 0x33 ∷ 
 -- the sound area with the first certificate and the new one in its interval, and without the second
 abbrev pub without : List ℕ
 without = indexBytes 1 512 (meaningOf held) ++ (form 512 (first ∷ third ∷ []) ++ form 512 [])
+
+-- with all three in it
+abbrev pub together : List ℕ
+together = indexBytes 1 512 (meaningOf held) ++ (form 512 (first ∷ second ∷ third ∷ []) ++ form 512 [])
+
+-- takes in the new certificate as it should, and invents how many intervals it wrote
+abbrev pub inventsWritten : Register
+inventsWritten area q = record { request = q; answer = Done (record { count = 7 }); area = together; output = lentBy q }
 
 -- takes in the new certificate and loses the last one that it had
 abbrev pub losesLast : Register
