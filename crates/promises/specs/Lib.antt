@@ -1,5 +1,6 @@
 pub mod Harmless
 pub mod Trace
+pub mod Alike
 pub mod Home
 pub mod Entries
 pub mod Prescribed
