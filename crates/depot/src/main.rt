@@ -11,14 +11,24 @@ fn check(area: &[u8]) -> Answer {
     register::check(area, 512, 0, 8, 60)
 }
 
-// The closing line, and the area in its file; or, for an area that is not sound, the line that says so and no file.
+fn refused(answer: Answer) {
+    if !print::refused(answer) {
+        os::fail(b"standard output");
+    }
+}
+
+// The closing line, and the area in its file; or, for an area that is not sound, the line that says so and no file. An
+// area whose lines could not all be printed is not stored: nobody would know what was accepted.
 fn close(area: &[u8]) {
     match check(area) {
         Answer::Intact { records, free } => {
-            print::closing(records, free);
+            if !print::closing(records, free) {
+                os::fail(b"standard output");
+                return;
+            }
             files::store(area);
         }
-        other => print::refused(other),
+        other => refused(other),
     }
 }
 
@@ -33,7 +43,7 @@ fn open(area: &mut [u8]) {
                 close(area);
             }
         }
-        other => print::refused(other),
+        other => refused(other),
     }
 }
 

@@ -2,7 +2,8 @@
 use crate::files;
 use crate::print;
 
-// What became of one turn: a request was served, the file was at its end, or it could not be read.
+// What became of one turn: a request was served, the file was at its end, or it could not be read or its line not be
+// printed.
 enum Turn {
     Served,
     Ended,
@@ -23,7 +24,10 @@ fn one(fd: i32, area: &mut [u8], place: u64) -> Turn {
     }
     let mut out = [0u8; 64];
     let told = requests::step(area, &request[..n], &mut out);
-    print::line(place, told, &out);
+    if !print::line(place, told, &out) {
+        os::fail(b"standard output");
+        return Turn::Failed;
+    }
     Turn::Served
 }
 
@@ -42,7 +46,8 @@ fn all(fd: i32, area: &mut [u8]) -> bool {
     false
 }
 
-// Serves the requests of the file, none where there is no such file, and gives whether it was read to its end.
+// Serves the requests of the file, none where there is no such file, and gives whether it was read to its end and every
+// line printed.
 pub(crate) fn file(area: &mut [u8]) -> bool {
     let fd = os::open_read(b"requests.rec");
     if fd < 0 {

@@ -43,6 +43,9 @@ words-requires-2 c κs = search needs
 returns-4 : tie.Need-returns-4
 returns-4 c = search needs
 
+returns-5 : tie.Need-returns-5
+returns-5 c = search needs
+
 pub found-spec : {M : Type 1} → statement M
 found-spec =
     tie.close
@@ -59,4 +62,5 @@ found-spec =
     array-share-prefix-text
     slice-aggregate-words-2
     words-requires-2
-    returns-4)
+    returns-4
+    returns-5)
