@@ -1,165 +1,21 @@
 #!/usr/bin/env python3
 """Makes the folders of tests/depot: an area, requests, and what the depot must print and leave in area.out.
 
-What is expected comes from the small model below, which follows the papers and knows nothing of the program: an area is
-a list of entries (separator, interval number) and a list of free numbers, an interval is a list of records. Run it at the
+What is expected comes from model.py, which follows the papers and knows nothing of the program. Run it at the
 repository's root; it writes the same bytes each time.
 """
 import os
 import shutil
 import struct
 
-SIZE, KEY, MOST = 512, 8, 60
+from model import Area, data_interval
+
+KEY, MOST = 8, 60
 
 
-# ---- bytes of intervals
-
-def runs(records):
-    """Neighbours of equal length, as [length, count]."""
-    out = []
-    for record in records:
-        if out and out[-1][0] == len(record):
-            out[-1][1] += 1
-        else:
-            out.append([len(record), 1])
-    return out
-
-
-def need(records):
-    fields = sum(1 if count == 1 else 2 for _, count in runs(records))
-    return sum(map(len, records)) + 3 * fields + 4
-
-
-def data_interval(records):
-    fields = b""
-    for length, count in runs(records):
-        if count == 1:
-            fields = struct.pack(">BH", 0, length) + fields
-        else:
-            fields = struct.pack(">BHBH", 8, count, 64, length) + fields
-    body = b"".join(records)
-    unused = SIZE - len(body) - len(fields) - 4
-    assert unused >= 0
-    return body + bytes(unused) + fields + struct.pack(">HH", len(body), unused)
-
-
-def same_front(a, b):
-    n = 0
-    while n < min(len(a), len(b)) and a[n] == b[n]:
-        n += 1
-    return n
-
-
-def entry_bytes(entries):
-    """The entries as they stand in the record, the first one rightmost, and the length of the last one's characters."""
-    out, before, chars = b"", b"", b""
-    for separator, number in entries:
-        front = same_front(before, separator)
-        chars = separator[front:]
-        out = chars + bytes([front, len(chars), number]) + out
-        before = separator
-    return out, len(chars)
-
-
-def index_interval(entries, free, kept=(0, 0)):
-    tail, chars = entry_bytes(entries)
-    record = SIZE - 7
-    last = record - len(tail) + chars
-    head = struct.pack(">HBBIIIBBHHH", record, 3, 1, kept[0], kept[1], 0, 1, 0, 24 + len(free), last, last)
-    middle = record - len(head) - len(free) - len(tail)
-    assert middle >= 0
-    return head + bytes(free) + bytes(middle) + tail + struct.pack(">BHHH", 0, record, record, 0)
-
-
-class Area:
-    """What an area holds: entries in their order, free numbers in theirs, and the records of each interval."""
-
-    def __init__(self, entries, free, data, kept=(0, 0)):
-        self.entries, self.free, self.data, self.kept = list(entries), list(free), dict(data), kept
-        self.n = len(self.entries) + len(self.free)
-
-    def bytes(self):
-        parts = [index_interval(self.entries, self.free, self.kept)]
-        return b"".join(parts + [data_interval(self.data.get(number, [])) for number in range(self.n)])
-
-    def entry_of(self, key):
-        for place, (separator, _) in enumerate(self.entries):
-            if key[:len(separator)] <= separator:
-                return place
-
-    def counts(self):
-        return sum(map(len, self.data.values())), len(self.free)
-
-    # ---- what each request comes to: a number, and a record where one is found
-
-    def get(self, key):
-        if len(key) != KEY:
-            return 3, None
-        records = self.data.get(self.entries[self.entry_of(key)][1], [])
-        for record in records:
-            if record[:KEY] == key:
-                return 0, record
-        return 5, None
-
-    def erase(self, key):
-        if len(key) != KEY:
-            return 3
-        number = self.entries[self.entry_of(key)][1]
-        left = [record for record in self.data.get(number, []) if record[:KEY] != key]
-        if left == self.data.get(number, []):
-            return 5
-        self.data[number] = left
-        return 0
-
-    def put(self, record, is_new):
-        if not KEY <= len(record) <= MOST:
-            return 3
-        place = self.entry_of(record[:KEY])
-        number = self.entries[place][1]
-        old = self.data.get(number, [])
-        there = record[:KEY] in [other[:KEY] for other in old]
-        if is_new and there:
-            return 4
-        if not is_new and not there:
-            return 5
-        new = sorted([other for other in old if other[:KEY] != record[:KEY]] + [record], key=lambda r: r[:KEY])
-        return self.store(place, new, new.index(record))
-
-    def store(self, place, records, changed):
-        parts = divide(records, changed)
-        separator, number = self.entries[place]
-        if len(parts) - 1 > len(self.free):
-            return 6
-        free = list(self.free)
-        numbers = [number] + [free.pop() for _ in parts[1:]]
-        cuts = [cut_at(left[-1], right[0]) for left, right in zip(parts, parts[1:])] + [separator]
-        entries = self.entries[:place] + list(zip(cuts, numbers)) + self.entries[place + 1:]
-        if len(parts) > 1 and 24 + len(free) + len(entry_bytes(entries)[0]) > SIZE - 7:
-            return 7
-        self.entries, self.free = entries, free
-        for where, part in zip(numbers, parts):
-            self.data[where] = part
-        return 0
-
-
-def cut_at(left, right):
-    """The left key as far as the first byte in which the right one is another."""
-    return left[:same_front(left[:KEY], right[:KEY]) + 1]
-
-
-def divide(records, changed):
-    if need(records) <= SIZE:
-        return [records]
-    fitting = []
-    for cut in range(1, len(records)):
-        left, right = records[:cut], records[cut:]
-        if need(left) <= SIZE and need(right) <= SIZE:
-            a, b = sum(map(len, left)), sum(map(len, right))
-            fitting.append((abs(a - b), a, [left, right]))
-    if fitting:
-        return min(fitting, key=lambda choice: choice[:2])[2]
-    parts = [records[:changed], records[changed:changed + 1], records[changed + 1:]]
-    return [part for part in parts if part]
+def area_of(entries, free, data, kept=(0, 0)):
+    """An area as the depot lends it; kept are base RBA and horizontal pointer."""
+    return Area(entries, free, data, KEY, MOST, struct.pack(">III", kept[0], kept[1], 0) + b"\0")
 
 
 # ---- the depot's day
@@ -179,8 +35,8 @@ def serve(area, line):
         number, found = area.get(content)
         return "%d" % number if found is None else "0 " + found.hex().upper()
     if letter == b"E":
-        return "%d" % area.erase(content)
-    return "%d" % area.put(content, letter == b"I")
+        return "%d" % area.erase(content)[0]
+    return "%d" % area.put(content, letter == b"I")[0]
 
 
 def day(area, requests):
@@ -231,20 +87,20 @@ def record(key, length, filler=b"k"):
 
 
 def empty(n=2):
-    return Area([(b"", 0)], range(1, n), {})
+    return area_of([(b"", 0)], range(1, n), {})
 
 
 def three(kept=(0, 0)):
     """Three intervals with records, one of them not in the order of its number, and one free."""
-    return Area([(b"B", 0), (b"C5", 2), (b"", 1)], [3],
-                {0: [record(b"A0000001", 10), record(b"A0000002", 10), record(b"B0000001", 31)],
-                 2: [record(b"C0000001", 20), record(b"C4999999", 8)],
-                 1: [record(b"D0000001", 60), record(b"ZZZZZZZZ", 12)]}, kept)
+    return area_of([(b"B", 0), (b"C5", 2), (b"", 1)], [3],
+                   {0: [record(b"A0000001", 10), record(b"A0000002", 10), record(b"B0000001", 31)],
+                    2: [record(b"C0000001", 20), record(b"C4999999", 8)],
+                    1: [record(b"D0000001", 60), record(b"ZZZZZZZZ", 12)]}, kept)
 
 
 def full():
     """One used interval with no byte to spare, none free."""
-    return Area([(b"", 0)], [], {0: [record(b"A000000%d" % i, 60) for i in range(8)] + [record(b"A0000009", 19)]})
+    return area_of([(b"", 0)], [], {0: [record(b"A000000%d" % i, 60) for i in range(8)] + [record(b"A0000009", 19)]})
 
 
 def bent(area, at, new):
@@ -253,7 +109,7 @@ def bent(area, at, new):
 
 def areas():
     sound = three().bytes()
-    longest = Area([(b"", 0)], range(1, 127), {}).bytes()
+    longest = area_of([(b"", 0)], range(1, 127), {}).bytes()
     refused("area_missing", "area 1\n", None)
     refused("area_empty", "area 1\n", b"")
     refused("area_no_data_interval", "area 1\n", sound[:512])
@@ -271,8 +127,8 @@ def areas():
     refused("unsound_end_of_file", "area 2 4\n", bent(sound, 2556, bytes(4)))
     refused("unsound_free_not_empty", "area 2 4\n", sound[:2048] + data_interval([record(b"C4000000", 9)]))
     refused("unsound_old_out", "area 2 0\n", bent(sound, 0, b"\0"), b"an older one")
-    served("area_longest", Area([(b"", 0)], range(1, 127), {}), request(b"I", b"A0000001HK"))
-    served("area_one_interval", Area([(b"", 0)], [], {}), request(b"I", b"A0000001HK") + request(b"G", b"A0000001"))
+    served("area_longest", area_of([(b"", 0)], range(1, 127), {}), request(b"I", b"A0000001HK"))
+    served("area_one_interval", area_of([(b"", 0)], [], {}), request(b"I", b"A0000001HK") + request(b"G", b"A0000001"))
     served("area_kept_bytes", three((0x00012000, 0xFFFFFFFF)), request(b"U", b"C0000001HK"))
 
 
@@ -305,9 +161,9 @@ def divisions():
     served("last_free_interval", empty(2), nine)
     served("divides_in_the_middle", empty(3), b"".join(request(b"I", record(b"A0000%03d" % (i * 37 % 101), 8 + i * 7 % 53)) for i in range(60)))
     served("divides_downwards", empty(9), b"".join(request(b"I", record(b"M%07d" % (9999999 - i * 77777), 60 - i % 3)) for i in range(70)))
-    served("takes_the_rightmost_free", Area([(b"", 2)], [4, 0, 3, 1], {}), nine)
+    served("takes_the_rightmost_free", area_of([(b"", 2)], [4, 0, 3, 1], {}), nine)
     served("shorter_update_divides", shorter(), request(b"U", record(b"A0000004", 39)) + request(b"G", b"A0000004"))
-    whole = Area([(b"", 0)], range(1, 127), {})
+    whole = area_of([(b"", 0)], range(1, 127), {})
     served("no_room_in_index", whole, b"".join(request(b"I", record(scattered(i), 60)) for i in range(1, 900)))
     served("old_longer_out", empty(), request(b"I", b"A0000001HK"), before=b"old" * 5000)
     served("old_shorter_out", empty(), request(b"I", b"A0000001HK"), before=b"old")
@@ -329,7 +185,7 @@ def scattered(i):
 
 def shorter():
     """Equal lengths, filled so far that a run broken in two leaves no room."""
-    return Area([(b"", 0)], [1], {0: [record(b"A00000%02d" % i, 40) for i in range(12)] + [record(b"A0000012", 18)]})
+    return area_of([(b"", 0)], [1], {0: [record(b"A00000%02d" % i, 40) for i in range(12)] + [record(b"A0000012", 18)]})
 
 
 def main():
