@@ -35,24 +35,25 @@ pub(crate) fn entry(area: &mut [u8], at: usize, length: usize, byte: u8, number:
     put(area, control, &[0, length as u8, number]);
 }
 
-// The CIDFs of four empty intervals, the first of them at a place.
-pub(crate) fn four_empty(area: &mut [u8], at: usize) {
-    if 4096 < at {
-        return;
+// The CIDF of every data interval, as that of an empty one.
+pub(crate) fn all_empty(area: &mut [u8]) {
+    let mut end = area.len();
+    while 512 < end {
+        put(area, end - 4, &[0, 0, 1, 252]);
+        end -= 512;
     }
-    put(area, at, &[0, 0, 1, 252]);
-    put(area, at + 512, &[0, 0, 1, 252]);
-    put(area, at + 1024, &[0, 0, 1, 252]);
-    put(area, at + 1536, &[0, 0, 1, 252]);
 }
 
-// Interval 0 has the only entry; up to three others are free.
+// Interval 0 has the only entry; up to 255 others are free.
 pub(crate) fn blank(area: &mut [u8], free: &[u8]) {
-    if 3 < free.len() {
+    if 255 < free.len() {
         return;
     }
-    frame(area, &[0, (24 + free.len()) as u8, 1, 246, 1, 246]);
+    let unused = 24 + free.len();
+    let high = (unused / 256) as u8;
+    let low = (unused % 256) as u8;
+    frame(area, &[high, low, 1, 246, 1, 246]);
     put(area, 24, free);
     put(area, 502, &[0, 0, 0]);
-    four_empty(area, 1020);
+    all_empty(area);
 }

@@ -4,7 +4,7 @@ use crate::print;
 use crate::request;
 
 // Entries AAB, AAC and the last, each with F = 0, name 0, 1 and 2; 3 is free.
-pub fn short_fronts() {
+pub(crate) fn short_fronts() {
     print::words(b"short Fs\n");
     let mut area = [0u8; 2560];
     build::frame(&mut area, &[0, 25, 1, 234, 1, 234, 3]);
@@ -13,7 +13,7 @@ pub fn short_fronts() {
         490,
         &[0, 0, 2, 65, 65, 67, 0, 3, 1, 65, 65, 66, 0, 3, 0],
     );
-    build::four_empty(&mut area, 1020);
+    build::all_empty(&mut area);
     request::request(&mut area, b"insert AACA", b'I', b"AACA", 300);
     request::request(&mut area, b"insert AACC", b'I', b"AACC", 300);
     request::request(&mut area, b"insert AACB", b'I', b"AACB", 9);
@@ -42,12 +42,11 @@ fn full_frame(area: &mut [u8], length: usize) {
     let low = last as u8;
     build::put(area, last, &[0, 0, 4]);
     build::frame(area, &[0, 25, 0, low, 0, low, 5]);
-    build::four_empty(area, 1020);
-    build::four_empty(area, 3068);
+    build::all_empty(area);
 }
 
 // Four of 160, two and two by the rule; its separator has 100 bytes, that of one and three would have two.
-pub fn full_at(length: usize) {
+pub(crate) fn full_at(length: usize) {
     print::words(b"24 + 0 + 3 x 103 + 3 + 103 + 3 and ");
     print::number(length);
     print::words(b"\n");
@@ -66,24 +65,45 @@ pub fn full_at(length: usize) {
     request::checked(&area, 100);
 }
 
-// K 255: a separator of so many A names 0, the last 1; 2 is free. Two of 255 whose keys differ in their last byte.
-pub fn long_key(length: usize) {
+// A separator of so many A names 0, the last 1; 2 is free, or none.
+fn long_entry(area: &mut [u8], length: usize, free: &[u8]) {
     if 240 < length {
         return;
     }
-    print::words(b"24 + 0 + 3 + 258 + 3 and ");
+    if 1 < free.len() {
+        return;
+    }
+    let last = 499 - length;
+    let low = (243 - length) as u8;
+    let unused = (24 + free.len()) as u8;
+    build::entry(area, last + 3, length, 65, 0);
+    build::put(area, last, &[0, 0, 1]);
+    build::frame(area, &[0, unused, 1, low, 1, low]);
+    build::put(area, 24, free);
+    build::all_empty(area);
+}
+
+// Two of 255 whose keys, K 255, differ in their last byte.
+fn long_keys(area: &mut [u8], length: usize, free: &[u8]) {
+    long_entry(area, length, free);
+    let mut key = [66u8; 255];
+    request::request(area, b"first", b'I', &key, 255);
+    build::put(&mut key, 254, b"C");
+    request::request(area, b"second", b'I', &key, 255);
+    request::checked(area, 255);
+}
+
+// After a division the index record would hold 24 + 3 + 258 + 3 bytes and those of the separator: 505 where it has 217.
+pub(crate) fn long_key(length: usize, free: &[u8]) {
+    if 1 < free.len() {
+        return;
+    }
+    print::words(b"K 255, a separator of ");
     print::number(length);
+    print::words(b", free ");
+    print::number(free.len());
     print::words(b"\n");
     let mut area = [0u8; 2048];
-    let last = 499 - length;
-    build::entry(&mut area, last + 3, length, 65, 0);
-    build::put(&mut area, last, &[0, 0, 1]);
-    let low = (243 - length) as u8;
-    build::frame(&mut area, &[0, 25, 1, low, 1, low, 2]);
-    build::four_empty(&mut area, 1020);
-    let mut key = [66u8; 255];
-    request::request(&mut area, b"first", b'I', &key, 255);
-    build::put(&mut key, 254, b"C");
-    request::request(&mut area, b"second", b'I', &key, 255);
-    request::checked(&area, 255);
+    let end = 1536 + 512 * free.len();
+    long_keys(&mut area[..end], length, free);
 }

@@ -1,11 +1,11 @@
 // What the cases print: words, numbers, bytes.
 use libc::STDOUT_FILENO;
 
-pub fn words(text: &[u8]) {
+pub(crate) fn words(text: &[u8]) {
     io::write_all(STDOUT_FILENO, text);
 }
 
-pub fn number(n: usize) {
+pub(crate) fn number(n: usize) {
     io::print_decimal(STDOUT_FILENO, n as u64);
 }
 
@@ -13,12 +13,27 @@ fn wide(x: u8) -> u64 {
     x as u64
 }
 
-// Bytes as two small hexadecimal digits each, a blank before each.
-pub fn bytes(b: &[u8]) {
+// A byte as two small hexadecimal digits; where it stands more than once in a row, a star and how often.
+fn item(byte: u8, count: usize) {
+    words(b" ");
+    io::print_hex(STDOUT_FILENO, wide(byte), 2);
+    if 1 < count {
+        words(b"*");
+        number(count);
+    }
+}
+
+// All bytes, neighbours that are equal as one item.
+pub(crate) fn bytes(b: &[u8]) {
+    let mut count = 0;
     let mut i = 0;
     while i < b.len() {
-        words(b" ");
-        io::print_hex(STDOUT_FILENO, wide(b[i]), 2);
-        i += 1;
+        count += 1;
+        let next = i + 1;
+        if next == b.len() || b[next] != b[i] {
+            item(b[i], count);
+            count = 0;
+        }
+        i = next;
     }
 }

@@ -48,52 +48,25 @@ pub(crate) fn checked(area: &[u8], key: usize) {
     print::words(b"\n");
 }
 
-// The three displacements, the free numbers, the entries from the last to the first.
-fn index_shown(ib: &[u8]) {
-    if ib.len() != 512 {
-        return;
-    }
-    let unused = fields::read_two(ib, 18);
-    let last = fields::read_two(ib, 20);
-    if unused < 24 {
-        return;
-    }
-    if 505 < unused {
-        return;
-    }
-    if 505 < last {
-        return;
-    }
-    print::words(b"    index: fields");
-    print::bytes(&ib[18..24]);
-    print::words(b" free");
-    print::bytes(&ib[24..unused]);
-    print::words(b" entries");
-    print::bytes(&ib[last..505]);
-    print::words(b"\n");
-}
-
-// A data interval from its RDFs on.
-fn data_shown(ci: &[u8], number: usize) {
-    if ci.len() != 512 {
-        return;
-    }
-    let from = fields::read_two(ci, 508) + fields::read_two(ci, 510);
-    if 512 < from {
-        return;
-    }
+// An interval of the buffer by its name: the index, or its number as a data interval.
+fn shown(interval: &[u8], place: usize) {
     print::words(b"    ");
-    print::number(number);
+    if place == 0 {
+        print::words(b"index");
+    } else {
+        print::number(place - 1);
+    }
     print::words(b":");
-    print::bytes(&ci[from..]);
+    print::bytes(interval);
     print::words(b"\n");
 }
 
-// Shows the area's interval from a place on, if it is another than before.
-fn part_shown(area: &[u8], old: &[u8], at: usize) {
-    if 4096 < at {
+// Shows interval `place` of the buffer, if it is another than before.
+fn compared(area: &[u8], old: &[u8], place: usize) {
+    if 256 < place {
         return;
     }
+    let at = place * 512;
     let end = at + 512;
     if area.len() < end || old.len() < end {
         return;
@@ -101,14 +74,20 @@ fn part_shown(area: &[u8], old: &[u8], at: usize) {
     if let Order::Same = fields::compare(&area[at..end], &old[at..end]) {
         return;
     }
-    if at < 512 {
-        index_shown(&area[at..end]);
-        return;
-    }
-    data_shown(&area[at..end], at / 512 - 1);
+    shown(&area[at..end], place);
 }
 
 fn altered(area: &[u8], old: &[u8]) {
+    let n = area.len() / 512;
+    let mut place = 0;
+    while place < n {
+        compared(area, old, place);
+        place += 1;
+    }
+}
+
+// What the request altered: nothing, or some intervals.
+fn outcome(area: &[u8], old: &[u8]) {
     let size = area.len();
     if old.len() < size {
         return;
@@ -118,18 +97,12 @@ fn altered(area: &[u8], old: &[u8]) {
         return;
     }
     print::words(b"\n");
-    part_shown(area, old, 0);
-    part_shown(area, old, 512);
-    part_shown(area, old, 1024);
-    part_shown(area, old, 1536);
-    part_shown(area, old, 2048);
-    part_shown(area, old, 2560);
-    part_shown(area, old, 3072);
+    altered(area, old);
 }
 
 // A request with a record of a length that begins with a key; as a search key only its front counts.
 pub(crate) fn request(area: &mut [u8], name: &[u8], letter: u8, key: &[u8], length: usize) {
-    let mut old = [0u8; 4096];
+    let mut old = [0u8; 132096];
     build::put(&mut old, 0, area);
     let mut bytes = [46u8; 512];
     build::put(&mut bytes, 0, key);
@@ -139,5 +112,5 @@ pub(crate) fn request(area: &mut [u8], name: &[u8], letter: u8, key: &[u8], leng
     print::number(length);
     print::words(b":");
     told(asked(area, key.len(), letter, &bytes, length));
-    altered(area, &old);
+    outcome(area, &old);
 }

@@ -5,37 +5,43 @@ use Rattle.edges_change.proofs.print.bytes.Statement.{statement}
 use Rattle.edges_change.proofs.print.bytes.Tie as tie
 
 abbrev Inv-loop : tie.InvT-loop
-Inv-loop b i₀ t3 i = i ≤ length b
+Inv-loop b count₀ i₀ count i = (count ≤ i) × (i ≤ length b)
 
 abbrev μ-loop : tie.MeasureT-loop
-μ-loop b i₀ t3 i = length b - i
+μ-loop b count₀ i₀ count i = length b - i
 
 loop-holds : tie.Need-loop-holds Inv-loop μ-loop
 loop-holds c = search needs
 
-slice-aggregate-words : tie.Need-slice-aggregate-words Inv-loop μ-loop
-slice-aggregate-words c = search needs
+add-count : tie.Need-add-count Inv-loop μ-loop
+add-count c = search needs
 
-words-requires : tie.Need-words-requires Inv-loop μ-loop
-words-requires c κs = search needs
+add-next : tie.Need-add-next Inv-loop μ-loop
+add-next c = search needs
 
-shared-slice-read-wide : tie.Need-shared-slice-read-wide Inv-loop μ-loop
-shared-slice-read-wide c = search needs
+shared-slice-read-if2 : tie.Need-shared-slice-read-if2 Inv-loop μ-loop
+shared-slice-read-if2 c = search needs
 
-wide-requires : tie.Need-wide-requires Inv-loop μ-loop
-wide-requires c κs = search needs
+shared-slice-read-if2-2 : tie.Need-shared-slice-read-if2-2 Inv-loop μ-loop
+shared-slice-read-if2-2 c = search needs
 
-print-hex-requires : tie.Need-print-hex-requires Inv-loop μ-loop
-print-hex-requires c κs = search needs
+shared-slice-read-item : tie.Need-shared-slice-read-item Inv-loop μ-loop
+shared-slice-read-item c = search needs
 
-add-i : tie.Need-add-i Inv-loop μ-loop
-add-i c = search needs
+item-requires : tie.Need-item-requires Inv-loop μ-loop
+item-requires c κs = search needs
 
 loop-less : tie.Need-loop-less Inv-loop μ-loop
 loop-less c = search needs
 
 loop-again : tie.Need-loop-again Inv-loop μ-loop
 loop-again c = search needs
+
+loop-less-2 : tie.Need-loop-less-2 Inv-loop μ-loop
+loop-less-2 c = search needs
+
+loop-again-2 : tie.Need-loop-again-2 Inv-loop μ-loop
+loop-again-2 c = search needs
 
 returns : tie.Need-returns Inv-loop μ-loop
 returns c = search needs
@@ -47,12 +53,14 @@ bytes-spec =
     Inv-loop
     μ-loop
     loop-holds
-    slice-aggregate-words
-    words-requires
-    shared-slice-read-wide
-    wide-requires
-    print-hex-requires
-    add-i
+    add-count
+    add-next
+    shared-slice-read-if2
+    shared-slice-read-if2-2
+    shared-slice-read-item
+    item-requires
     loop-less
     loop-again
+    loop-less-2
+    loop-again-2
     returns)

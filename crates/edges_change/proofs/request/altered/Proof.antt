@@ -1,78 +1,33 @@
-use mathlib.Core.Path.{sym}
-use lib.Seq.{length-take-le}
+use Prim.Native.Nat.{_≤_, _-_}
 use borrow.Author.Needs.{needs}
 use Rattle.edges_change.proofs.request.altered.Statement.{statement}
 use Rattle.edges_change.proofs.request.altered.Tie as tie
 
-returns : tie.Need-returns
+abbrev Inv-loop : tie.InvT-loop
+Inv-loop area old n place₀ place = place ≤ n
+
+abbrev μ-loop : tie.MeasureT-loop
+μ-loop area old n place₀ place = n - place
+
+loop-holds : tie.Need-loop-holds Inv-loop μ-loop
+loop-holds c = search needs
+
+compared-requires : tie.Need-compared-requires Inv-loop μ-loop
+compared-requires c κs = search needs
+
+add-place : tie.Need-add-place Inv-loop μ-loop
+add-place c = search needs
+
+loop-less : tie.Need-loop-less Inv-loop μ-loop
+loop-less c = search needs
+
+loop-again : tie.Need-loop-again Inv-loop μ-loop
+loop-again c = search needs
+
+returns : tie.Need-returns Inv-loop μ-loop
 returns c = search needs
-
-slice-aggregate-compare : tie.Need-slice-aggregate-compare
-slice-aggregate-compare c = sym (length-take-le _ _ (search needs))
-
-compare-requires : tie.Need-compare-requires
-compare-requires c κs = search needs
-
-enum-told : tie.Need-enum-told
-enum-told c = search needs
-
-slice-aggregate-words : tie.Need-slice-aggregate-words
-slice-aggregate-words c = search needs
-
-words-requires : tie.Need-words-requires
-words-requires c κs = search needs
-
-returns-2 : tie.Need-returns-2
-returns-2 c = search needs
-
-slice-aggregate-words-2 : tie.Need-slice-aggregate-words-2
-slice-aggregate-words-2 c = search needs
-
-words-requires-2 : tie.Need-words-requires-2
-words-requires-2 c κs = search needs
-
-part-shown-requires : tie.Need-part-shown-requires
-part-shown-requires c κs = search needs
-
-part-shown-requires-2 : tie.Need-part-shown-requires-2
-part-shown-requires-2 c κs = search needs
-
-part-shown-requires-3 : tie.Need-part-shown-requires-3
-part-shown-requires-3 c κs = search needs
-
-part-shown-requires-4 : tie.Need-part-shown-requires-4
-part-shown-requires-4 c κs = search needs
-
-part-shown-requires-5 : tie.Need-part-shown-requires-5
-part-shown-requires-5 c κs = search needs
-
-part-shown-requires-6 : tie.Need-part-shown-requires-6
-part-shown-requires-6 c κs = search needs
-
-part-shown-requires-7 : tie.Need-part-shown-requires-7
-part-shown-requires-7 c κs = search needs
-
-returns-3 : tie.Need-returns-3
-returns-3 c = search needs
 
 pub altered-spec : {M : Type 1} → statement M
 altered-spec =
     tie.close
-    (tie.spec
-    returns
-    slice-aggregate-compare
-    compare-requires
-    enum-told
-    slice-aggregate-words
-    words-requires
-    returns-2
-    slice-aggregate-words-2
-    words-requires-2
-    part-shown-requires
-    part-shown-requires-2
-    part-shown-requires-3
-    part-shown-requires-4
-    part-shown-requires-5
-    part-shown-requires-6
-    part-shown-requires-7
-    returns-3)
+    (tie.spec Inv-loop μ-loop loop-holds compared-requires add-place loop-less loop-again returns)

@@ -1,0 +1,41 @@
+// The greatest area, 256 data intervals, and one interval more.
+use crate::build;
+use crate::print;
+use crate::request;
+
+// The numbers from 1 on.
+fn numbers(free: &mut [u8]) {
+    let mut i = 0;
+    while i < free.len() {
+        free[i] = (i % 255 + 1) as u8;
+        i += 1;
+    }
+}
+
+// All intervals but 0 are free, 255 the rightmost of them, so that it is taken first.
+fn all_free(area: &mut [u8]) {
+    let mut free = [0u8; 255];
+    numbers(&mut free);
+    build::blank(area, &free);
+    request::checked(area, 4);
+}
+
+pub(crate) fn greatest() {
+    print::words(b"256 intervals\n");
+    let mut area = [0u8; 131584];
+    all_free(&mut area);
+    request::request(&mut area, b"insert AAAA", b'I', b"AAAA", 200);
+    request::request(&mut area, b"insert CCCC", b'I', b"CCCC", 200);
+    request::request(&mut area, b"insert EEEE", b'I', b"EEEE", 200);
+    request::request(&mut area, b"update EEEE", b'U', b"EEEE", 290);
+    request::request(&mut area, b"insert DDDD", b'I', b"DDDD", 400);
+    request::request(&mut area, b"erase EEEE", b'E', b"EEEE", 4);
+    request::checked(&area, 4);
+}
+
+pub(crate) fn one_more() {
+    print::words(b"257 intervals\n");
+    let mut area = [0u8; 132096];
+    all_free(&mut area);
+    request::request(&mut area, b"insert AAAA", b'I', b"AAAA", 200);
+}
