@@ -41,6 +41,14 @@ def request(area, name, letter, key, length):
             line("    %s:%s" % ("index" if place == 0 else place - 1, items(new)))
 
 
+def steps(area, *requests):
+    """Requests one after another, each a letter with a key of four bytes, and a length; then the check."""
+    for name, length in requests:
+        letter, key = name.split()
+        request(area, name, letter, key.encode(), length)
+    check(area)
+
+
 def check(area):
     line("  check: 0 records %d free %d" % area.counts() if area.lawful() else "  check: 1")
 
@@ -116,16 +124,11 @@ def far_cut():
 def emptied():
     line("emptied")
     area = loaded([1], [300, 200])
-    request(area, "insert BBBB", "I", b"BBBB", 100)
-    request(area, "erase CCCC", "E", b"CCCC", 4)
-    request(area, "erase BBBB", "E", b"BBBB", 4)
-    check(area)
-    request(area, "erase AAAA", "E", b"AAAA", 4)
-    request(area, "insert A\\xFF", "I", b"A\xff\xff\xff", 9)
-    request(area, "update to equal bytes", "U", b"A\xff\xff\xff", 9)
-    request(area, "insert B", "I", b"B\0\0\0", 505)
-    request(area, "insert ZZZZ", "I", b"ZZZZ", 4)
-    check(area)
+    steps(area, ("I BBBB", 100), ("E CCCC", 4), ("E BBBB", 4), ("E AAAA", 4))
+    request(area, "I A\\xFF", "I", b"A\xff\xff\xff", 9)
+    request(area, "U A\\xFF", "U", b"A\xff\xff\xff", 9)
+    request(area, "I B\\x00", "I", b"B\0\0\0", 505)
+    steps(area, ("I ZZZZ", 4))
 
 
 # ---- index records that a division writes with other Fs, just fills, or would overfill
@@ -134,19 +137,17 @@ def short_fronts():
     line("short Fs")
     entries = [(b"AAB", 0), (b"AAC", 1), (b"", 2)]
     area = Area(entries, [3], {}, 4, MOST, found={0: index_interval(entries, [3], longest=False)})
-    for key, length in ((b"AACA", 300), (b"AACC", 300), (b"AACB", 9), (b"AABZ", 9), (b"AADA", 9)):
-        request(area, "insert " + key.decode(), "I", key, length)
-    check(area)
+    steps(area, ("I AACA", 300), ("I AACC", 300), ("I AACB", 9), ("I AABZ", 9), ("I AADA", 9))
 
 
 def full_at(length):
     line("24 + 0 + 3 x 103 + 3 + 103 + 3 and %d" % length)
     entries = [(b"A" * 100, 0), (b"B" * 100, 1), (b"C" * 100, 2), (b"D" * length, 3), (b"", 4)]
     area = Area(entries, [5], {}, 100, MOST)
-    request(area, "first", "I", b"EA" + b"B" * 98, 160)
-    request(area, "second", "I", b"EC" + b"B" * 98, 160)
-    request(area, "third", "I", b"EB" + b"B" * 98, 160)
-    request(area, "fourth", "I", b"EB" + b"B" * 97 + b"A", 160)
+    request(area, "EAB..BB", "I", b"EA" + b"B" * 98, 160)
+    request(area, "ECB..BB", "I", b"EC" + b"B" * 98, 160)
+    request(area, "EBB..BB", "I", b"EB" + b"B" * 98, 160)
+    request(area, "EBB..BA", "I", b"EB" + b"B" * 97 + b"A", 160)
     check(area)
 
 
@@ -164,13 +165,10 @@ def wasteful():
     line("three of 100 as three singles")
     records = [key + b"." * 96 for key in (b"AAAA", b"CCCC", b"EEEE")]
     singles = b"".join(records) + b"\xee" * 199 + bytes.fromhex("000064" * 3 + "012c00c7")
-    for name, letter, key, length in (("update to equal bytes", "U", b"CCCC", 100), ("insert GGGG", "I", b"GGGG", 199),
-                                      ("erase CCCC", "E", b"CCCC", 4)):
+    for requests in ((("U CCCC", 100), ("U CCCC", 100)), (("I GGGG", 199),), (("E CCCC", 4),)):
         area = Area([(b"", 0)], [], {0: records}, 4, MOST, found={1: singles})
         check(area)
-        request(area, name, letter, key, length)
-        request(area, "again", letter, key, length)
-        check(area)
+        steps(area, *requests)
 
 
 def kept():
@@ -181,11 +179,7 @@ def kept():
     littered[0] = index[:26] + b"\xee" * 476 + index[502:]
     area = Area([(b"", 0)], [2, 1], {}, 4, MOST, header, littered)
     check(area)
-    request(area, "insert AAAA", "I", b"AAAA", 300)
-    request(area, "insert CCCC", "I", b"CCCC", 300)
-    request(area, "insert AAAB", "I", b"AAAB", 9)
-    request(area, "erase CCCC", "E", b"CCCC", 4)
-    check(area)
+    steps(area, ("I AAAA", 300), ("I CCCC", 300), ("I AAAB", 9), ("E CCCC", 4))
 
 
 # ---- the greatest area, and one interval more
@@ -194,20 +188,14 @@ def greatest():
     line("256 intervals")
     area = Area([(b"", 0)], range(1, 256), {}, 4, MOST)
     check(area)
-    request(area, "insert AAAA", "I", b"AAAA", 200)
-    request(area, "insert CCCC", "I", b"CCCC", 200)
-    request(area, "insert EEEE", "I", b"EEEE", 200)
-    request(area, "update EEEE", "U", b"EEEE", 290)
-    request(area, "insert DDDD", "I", b"DDDD", 400)
-    request(area, "erase EEEE", "E", b"EEEE", 4)
-    check(area)
+    steps(area, ("I AAAA", 200), ("I CCCC", 200), ("I EEEE", 200), ("U EEEE", 290), ("I DDDD", 400), ("E EEEE", 4))
 
 
 def one_more():
     line("257 intervals")
     area = Area([(b"", 0)], range(1, 256), {}, 4, MOST, length=258 * 512)
     check(area)
-    request(area, "insert AAAA", "I", b"AAAA", 200)
+    steps(area, ("I AAAA", 200), ("U AAAA", 200), ("E AAAA", 4))
 
 
 def main():

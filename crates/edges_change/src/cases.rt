@@ -158,20 +158,9 @@ pub(crate) fn emptied() {
     let mut area = [0u8; 1536];
     build::blank(&mut area, &[1]);
     load(&mut area, &[300u16, 200]);
-    request::request(&mut area, b"insert BBBB", b'I', b"BBBB", 100);
-    request::request(&mut area, b"erase CCCC", b'E', b"CCCC", 4);
-    request::request(&mut area, b"erase BBBB", b'E', b"BBBB", 4);
-    request::checked(&area, 4);
-    request::request(&mut area, b"erase AAAA", b'E', b"AAAA", 4);
-    request::request(&mut area, b"insert A\\xFF", b'I', b"A\xFF\xFF\xFF", 9);
-    request::request(
-        &mut area,
-        b"update to equal bytes",
-        b'U',
-        b"A\xFF\xFF\xFF",
-        9,
-    );
-    request::request(&mut area, b"insert B", b'I', b"B\x00\x00\x00", 505);
-    request::request(&mut area, b"insert ZZZZ", b'I', b"ZZZZ", 4);
-    request::checked(&area, 4);
+    request::steps(&mut area, b"I BBBB E CCCC E BBBB E AAAA", &[100, 4, 4, 4]);
+    request::request(&mut area, b"I A\\xFF", b'I', b"A\xFF\xFF\xFF", 9);
+    request::request(&mut area, b"U A\\xFF", b'U', b"A\xFF\xFF\xFF", 9);
+    request::request(&mut area, b"I B\\x00", b'I', b"B\x00\x00\x00", 505);
+    request::steps(&mut area, b"I ZZZZ", &[4]);
 }

@@ -14,12 +14,11 @@ pub(crate) fn short_fronts() {
         &[0, 0, 2, 65, 65, 67, 0, 3, 1, 65, 65, 66, 0, 3, 0],
     );
     build::all_empty(&mut area);
-    request::request(&mut area, b"insert AACA", b'I', b"AACA", 300);
-    request::request(&mut area, b"insert AACC", b'I', b"AACC", 300);
-    request::request(&mut area, b"insert AACB", b'I', b"AACB", 9);
-    request::request(&mut area, b"insert AABZ", b'I', b"AABZ", 9);
-    request::request(&mut area, b"insert AADA", b'I', b"AADA", 9);
-    request::checked(&area, 4);
+    request::steps(
+        &mut area,
+        b"I AACA I AACC I AACB I AABZ I AADA",
+        &[300, 300, 9, 9, 9],
+    );
 }
 
 // Entries of 100 A, 100 B, 100 C, so many D, and the last name 0 to 4; 5 is free. A cut in the last adds 103 bytes.
@@ -45,6 +44,14 @@ fn full_frame(area: &mut [u8], length: usize) {
     build::all_empty(area);
 }
 
+// A record of 160 whose key, K 100, has two first bytes, then B, and a last byte.
+fn long_insert(area: &mut [u8], name: &[u8], first: &[u8], last: &[u8]) {
+    let mut key = [66u8; 100];
+    build::put(&mut key, 0, first);
+    build::put(&mut key, 99, last);
+    request::request(area, name, b'I', &key, 160);
+}
+
 // Four of 160, two and two by the rule; its separator has 100 bytes, that of one and three would have two.
 pub(crate) fn full_at(length: usize) {
     print::words(b"24 + 0 + 3 x 103 + 3 + 103 + 3 and ");
@@ -53,15 +60,10 @@ pub(crate) fn full_at(length: usize) {
     let mut area = [0u8; 3584];
     full(&mut area, length);
     full_frame(&mut area, length);
-    let mut key = [66u8; 100];
-    build::put(&mut key, 0, b"EA");
-    request::request(&mut area, b"first", b'I', &key, 160);
-    build::put(&mut key, 0, b"EC");
-    request::request(&mut area, b"second", b'I', &key, 160);
-    build::put(&mut key, 0, b"EB");
-    request::request(&mut area, b"third", b'I', &key, 160);
-    build::put(&mut key, 99, b"A");
-    request::request(&mut area, b"fourth", b'I', &key, 160);
+    long_insert(&mut area, b"EAB..BB", b"EA", b"B");
+    long_insert(&mut area, b"ECB..BB", b"EC", b"B");
+    long_insert(&mut area, b"EBB..BB", b"EB", b"B");
+    long_insert(&mut area, b"EBB..BA", b"EB", b"A");
     request::checked(&area, 100);
 }
 

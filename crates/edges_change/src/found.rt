@@ -18,22 +18,20 @@ fn singles(area: &mut [u8]) {
     );
 }
 
-// One request of the three singles, and the same again.
-fn of_singles(name: &[u8], letter: u8, key: &[u8], length: usize) {
+// Requests of the three singles.
+fn of_singles(script: &[u8], lengths: &[u16]) {
     let mut area = [0u8; 1024];
     singles(&mut area);
     request::checked(&area, 4);
-    request::request(&mut area, name, letter, key, length);
-    request::request(&mut area, b"again", letter, key, length);
-    request::checked(&area, 4);
+    request::steps(&mut area, script, lengths);
 }
 
-// As runs the three leave room for a fourth of 199, as singles they would not.
+// In one run the three leave room for a fourth of 199; as singles they would not.
 pub(crate) fn wasteful() {
     print::words(b"three of 100 as three singles\n");
-    of_singles(b"update to equal bytes", b'U', b"CCCC", 100);
-    of_singles(b"insert GGGG", b'I', b"GGGG", 199);
-    of_singles(b"erase CCCC", b'E', b"CCCC", 4);
+    of_singles(b"U CCCC U CCCC", &[100, 100]);
+    of_singles(b"I GGGG", &[199]);
+    of_singles(b"E CCCC", &[4]);
 }
 
 // Every byte that the header keeps or no rule names is other than zero, in the free intervals too.
@@ -44,9 +42,5 @@ pub(crate) fn kept() {
     build::put(&mut area, 4, &[1, 2, 3, 4, 5, 6, 7, 8, 9, 10, 11, 12]);
     build::put(&mut area, 17, &[13]);
     request::checked(&area, 4);
-    request::request(&mut area, b"insert AAAA", b'I', b"AAAA", 300);
-    request::request(&mut area, b"insert CCCC", b'I', b"CCCC", 300);
-    request::request(&mut area, b"insert AAAB", b'I', b"AAAB", 9);
-    request::request(&mut area, b"erase CCCC", b'E', b"CCCC", 4);
-    request::checked(&area, 4);
+    request::steps(&mut area, b"I AAAA I CCCC I AAAB E CCCC", &[300, 300, 9, 4]);
 }

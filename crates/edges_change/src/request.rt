@@ -114,3 +114,37 @@ pub(crate) fn request(area: &mut [u8], name: &[u8], letter: u8, key: &[u8], leng
     told(asked(area, key.len(), letter, &bytes, length));
     outcome(area, &old);
 }
+
+fn wide(x: u16) -> usize {
+    x as usize
+}
+
+// The request at a place of a script: `I AAAA E CCCC` asks for two, a letter and a key of four bytes each.
+fn step(area: &mut [u8], script: &[u8], i: usize, length: usize) {
+    if 64 < i {
+        return;
+    }
+    let at = 7 * i;
+    let key = at + 2;
+    let end = at + 6;
+    if script.len() < end {
+        return;
+    }
+    request(
+        area,
+        &script[at..end],
+        script[at],
+        &script[key..end],
+        length,
+    );
+}
+
+// The requests of a script one after another, each with its length, and the check of what has become of the area.
+pub(crate) fn steps(area: &mut [u8], script: &[u8], lengths: &[u16]) {
+    let mut i = 0;
+    while i < lengths.len() {
+        step(area, script, i, wide(lengths[i]));
+        i += 1;
+    }
+    checked(area, 4);
+}

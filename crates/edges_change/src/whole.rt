@@ -24,18 +24,16 @@ pub(crate) fn greatest() {
     print::words(b"256 intervals\n");
     let mut area = [0u8; 131584];
     all_free(&mut area);
-    request::request(&mut area, b"insert AAAA", b'I', b"AAAA", 200);
-    request::request(&mut area, b"insert CCCC", b'I', b"CCCC", 200);
-    request::request(&mut area, b"insert EEEE", b'I', b"EEEE", 200);
-    request::request(&mut area, b"update EEEE", b'U', b"EEEE", 290);
-    request::request(&mut area, b"insert DDDD", b'I', b"DDDD", 400);
-    request::request(&mut area, b"erase EEEE", b'E', b"EEEE", 4);
-    request::checked(&area, 4);
+    request::steps(
+        &mut area,
+        b"I AAAA I CCCC I EEEE U EEEE I DDDD E EEEE",
+        &[200, 200, 200, 290, 400, 4],
+    );
 }
 
 pub(crate) fn one_more() {
     print::words(b"257 intervals\n");
     let mut area = [0u8; 132096];
     all_free(&mut area);
-    request::request(&mut area, b"insert AAAA", b'I', b"AAAA", 200);
+    request::steps(&mut area, b"I AAAA U AAAA E AAAA", &[200, 200, 4]);
 }
