@@ -97,7 +97,7 @@ def updates():
 
 def shortenings():
     line("six of 83, 4 bytes unused: third, second, first and last shortened")
-    case([1], [83] * 6, "U", "E", 82, 79, 78, 74)
+    case([1], [83] * 6, "U", "E", 82, 81, 80, 79, 78, 77, 76, 75, 74)
     case([1], [83] * 6, "U", "C", 82, 81)
     case([1], [83] * 6, "U", "A", 82)
     case([1], [83] * 6, "U", "K", 82)
@@ -107,6 +107,8 @@ def shortenings():
     line("two of 100 and one of 299, none unused: first and second shortened")
     case([1], [100, 100, 299], "U", "A", 99)
     case([1], [100, 100, 299], "U", "C", 99)
+    line("two of 100, two of 99 and one of 95, none unused: second shortened")
+    case([1], [100, 100, 99, 99, 95], "U", "C", 99)
 
 
 def refusals():

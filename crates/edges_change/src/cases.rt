@@ -4,10 +4,6 @@ use crate::print;
 use crate::request;
 use answers::Answer;
 
-fn wide(x: u16) -> usize {
-    x as usize
-}
-
 // The key AAAA, CCCC, .. of a place.
 fn add(area: &mut [u8], i: usize, length: usize) {
     if 64 < i {
@@ -24,7 +20,7 @@ fn add(area: &mut [u8], i: usize, length: usize) {
 fn load(area: &mut [u8], lens: &[u16]) {
     let mut i = 0;
     while i < lens.len() {
-        add(area, i, wide(lens[i]));
+        add(area, i, request::wide(lens[i]));
         i += 1;
     }
 }
@@ -50,7 +46,7 @@ fn case(free: &[u8], lens: &[u16], letter: u8, byte: u8, length: usize) {
 fn each(free: &[u8], lens: &[u16], letter: u8, byte: u8, lengths: &[u16]) {
     let mut i = 0;
     while i < lengths.len() {
-        case(free, lens, letter, byte, wide(lengths[i]));
+        case(free, lens, letter, byte, request::wide(lengths[i]));
         i += 1;
     }
 }
@@ -100,7 +96,13 @@ pub(crate) fn updates() {
 pub(crate) fn shortenings() {
     print::words(b"six of 83, 4 bytes unused: third, second, first and last shortened\n");
     let six = [83u16; 6];
-    each(&[1], &six, b'U', b'E', &[82, 79, 78, 74]);
+    each(
+        &[1],
+        &six,
+        b'U',
+        b'E',
+        &[82, 81, 80, 79, 78, 77, 76, 75, 74],
+    );
     each(&[1], &six, b'U', b'C', &[82, 81]);
     case(&[1], &six, b'U', b'A', 82);
     case(&[1], &six, b'U', b'K', 82);
@@ -110,12 +112,14 @@ pub(crate) fn shortenings() {
     each(&[1], &three, b'U', b'E', &[99, 98]);
 }
 
-// A run of two has as many RDFs as two singles.
+// A run of two has as many RDFs as two singles, and the shorter record may join the next run.
 pub(crate) fn shortened_pairs() {
     print::words(b"two of 100 and one of 299, none unused: first and second shortened\n");
     let two = [100u16, 100, 299];
     case(&[1], &two, b'U', b'A', 99);
     case(&[1], &two, b'U', b'C', 99);
+    print::words(b"two of 100, two of 99 and one of 95, none unused: second shortened\n");
+    case(&[1], &[100, 100, 99, 99, 95], b'U', b'C', 99);
 }
 
 pub(crate) fn refusals() {

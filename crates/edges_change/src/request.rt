@@ -4,6 +4,10 @@ use crate::print;
 use answers::Answer;
 use fields::Order;
 
+pub(crate) fn wide(x: u16) -> usize {
+    x as usize
+}
+
 // The request of a letter with the front of some bytes, so long: I inserts, U updates, E erases.
 pub(crate) fn asked(area: &mut [u8], key: usize, letter: u8, bytes: &[u8], long: usize) -> Answer {
     if bytes.len() < long {
@@ -63,7 +67,7 @@ fn shown(interval: &[u8], place: usize) {
 
 // Shows interval `place` of the buffer, if it is another than before.
 fn compared(area: &[u8], old: &[u8], place: usize) {
-    if 256 < place {
+    if 257 < place {
         return;
     }
     let at = place * 512;
@@ -113,10 +117,6 @@ pub(crate) fn request(area: &mut [u8], name: &[u8], letter: u8, key: &[u8], leng
     print::words(b":");
     told(asked(area, key.len(), letter, &bytes, length));
     outcome(area, &old);
-}
-
-fn wide(x: u16) -> usize {
-    x as usize
 }
 
 // The request at a place of a script: `I AAAA E CCCC` asks for two, a letter and a key of four bytes each.
