@@ -1,5 +1,5 @@
 #!/usr/bin/env python3
-"""Writes what crates/edges_change must print: its stored output, crates/edges_change/stdout.
+"""Writes what the program edges_change must print: its stored output, crates/edges_change/stdout.
 
 The cases are the program's; what each comes to is said by model.py, which follows the papers and knows nothing of the program.
 Run it at the repository's root; it writes the same bytes each time.
@@ -30,11 +30,14 @@ def items(interval):
 
 def request(area, name, letter, key, length):
     """A request with the key, filled up to the length; as a search key only its front counts."""
-    content = (key + b"." * 512)[:length]
+    asked(area, name, letter, (key + b"." * 512)[:length])
+
+
+def asked(area, name, letter, content):
     before = area.intervals()
     number, written = {"I": area.insert, "U": area.update, "E": area.erase}[letter](content)
     after = area.intervals()
-    told = "  %s %d: %d" % (name, length, number) + ("" if written is None else " written %d" % written)
+    told = "  %s %d: %d" % (name, len(content), number) + ("" if written is None else " written %d" % written)
     line(told + (" same" if before == after else ""))
     for place, (old, new) in enumerate(zip(before, after)):
         if old != new:
@@ -133,6 +136,19 @@ def emptied():
     steps(area, ("I ZZZZ", 4))
 
 
+# ---- keys behind other bytes of their records
+
+def behind():
+    line("offset 7")
+    area = Area([(b"", 0)], [1], {}, 4, MOST, offset=7)
+    for letter, byte, key, length in (("I", "z", "ABBB", 10), ("I", "z", "ABBB", 200), ("I", "x", "ACCC", 200), ("I", "y", "ABDD", 200),
+                                      ("U", "a", "ABDD", 11), ("I", "b", "ACCC", 11)):
+        content = (byte * 7 + key + byte * 501)[:length].encode()
+        asked(area, letter + " " + byte + " " + key, letter, content)
+    asked(area, "E ABBB", "E", b"ABBB")
+    check(area)
+
+
 # ---- index records that a division writes with other Fs, just fills, or would overfill
 
 def short_fronts():
@@ -201,7 +217,7 @@ def one_more():
 
 
 def main():
-    for part in (fitting, three_parts, updates, shortenings, refusals, far_cut, emptied, short_fronts):
+    for part in (fitting, three_parts, updates, shortenings, refusals, far_cut, emptied, behind, short_fronts):
         part()
     for length in (63, 64, 68):
         full_at(length)

@@ -1,11 +1,12 @@
-"""A small model of document 01, for what the tests expect: intervals of 512 bytes, keys at the front of their records.
+"""A small model of document 01, for what the tests expect: intervals of 512 bytes.
 
-It follows the papers and knows nothing of the program. An area is a list of entries (separator, interval number) and a list of
-free numbers; an interval is a list of records. Every area here is sound, so no request meets refusal 2.
+It follows the papers and knows nothing of the program. An area is a list of entries (separator, interval number) and a
+list of free numbers; an interval is a list of records. Every area here is sound, so no request meets refusal 2.
 """
 import struct
 
 SIZE = 512
+NONE_KEPT = bytes(13)
 
 
 # ---- bytes of intervals
@@ -47,7 +48,8 @@ def same_front(a, b):
 
 
 def entry_bytes(entries, longest=True):
-    """The entries as they stand in the record, the first one rightmost. An area may be found with shorter Fs than the longest: with none."""
+    """The entries as they stand in the record, the first one rightmost. An area may be found with shorter Fs than a
+    writer's; here the other way is F = 0 throughout."""
     out, before = b"", b""
     for separator, number in entries:
         front = same_front(before, separator) if longest else 0
@@ -57,8 +59,9 @@ def entry_bytes(entries, longest=True):
     return out
 
 
-def index_interval(entries, free, kept=bytes(13), longest=True):
-    """kept: base RBA, horizontal pointer and reserved bytes, 12, and the reserved byte after the level. The last entry has no characters, so it begins with its control information."""
+def index_interval(entries, free, kept=NONE_KEPT, longest=True):
+    """kept: base RBA, horizontal pointer and reserved bytes, 12 in all, and the reserved byte after the level. The last
+    entry has no characters, so it begins with its control information."""
     tail = entry_bytes(entries, longest)
     record = SIZE - 7
     last = record - len(tail)
@@ -71,13 +74,14 @@ def index_interval(entries, free, kept=bytes(13), longest=True):
 # ---- areas and requests
 
 class Area:
-    """What an area holds: entries in their order, free numbers in theirs, the records of each interval, and the key's length K and the greatest
-    record length M that each request comes with. `found` has the bytes of intervals that lie otherwise than a writer leaves them, 0 the index record and
-    number + 1 a data interval, until a change writes them."""
+    """What an area holds: entries in their order, free numbers in theirs, the records of each interval; and the measures
+    that each request comes with: the key's length K, the greatest record length M, the key's offset. `found` has the bytes
+    of intervals that lie otherwise than a writer leaves them, 0 the index record and number + 1 a data interval, until a
+    change writes them. `length` is the buffer's, where it is not that of the intervals named."""
 
-    def __init__(self, entries, free, data, key, most, kept=bytes(13), found=None, length=None):
+    def __init__(self, entries, free, data, key, most, kept=NONE_KEPT, found=None, length=None, offset=0):
         self.entries, self.free, self.data, self.kept = list(entries), list(free), dict(data), kept
-        self.key, self.most, self.found = key, most, dict(found or {})
+        self.key, self.most, self.offset, self.found = key, most, offset, dict(found or {})
         self.n = len(self.entries) + len(self.free)
         self.length = (self.n + 1) * SIZE if length is None else length
 
@@ -91,8 +95,12 @@ class Area:
         return b"".join(self.intervals())
 
     def lawful(self):
-        """Whether measures and length are as document 01 has them; the offset is 0."""
-        return 1 <= self.key <= 255 and self.key <= self.most <= SIZE - 7 and self.length % SIZE == 0 and 2 <= self.length // SIZE <= 257
+        """Whether measures and length are as document 01 has them."""
+        return (1 <= self.key <= 255 and self.offset + self.key <= self.most <= SIZE - 7
+                and self.length % SIZE == 0 and 2 <= self.length // SIZE <= 257)
+
+    def key_of(self, record):
+        return record[self.offset:self.offset + self.key]
 
     def entry_of(self, key):
         for place, (separator, _) in enumerate(self.entries):
@@ -111,7 +119,7 @@ class Area:
             return 3, None
         records = self.data.get(self.entries[self.entry_of(key)][1], [])
         for record in records:
-            if record[:self.key] == key:
+            if self.key_of(record) == key:
                 return 0, record
         return 5, None
 
@@ -121,7 +129,7 @@ class Area:
         if len(key) != self.key:
             return 3, None
         number = self.entries[self.entry_of(key)][1]
-        left = [record for record in self.data.get(number, []) if record[:self.key] != key]
+        left = [record for record in self.data.get(number, []) if self.key_of(record) != key]
         if left == self.data.get(number, []):
             return 5, None
         self.write(number, left)
@@ -136,17 +144,17 @@ class Area:
     def put(self, record, is_new):
         if not self.lawful():
             return 1, None
-        if not self.key <= len(record) <= self.most:
+        if not self.offset + self.key <= len(record) <= self.most:
             return 3, None
-        key = record[:self.key]
+        key = self.key_of(record)
         place = self.entry_of(key)
         old = self.data.get(self.entries[place][1], [])
-        there = key in [other[:self.key] for other in old]
+        there = key in map(self.key_of, old)
         if is_new and there:
             return 4, None
         if not is_new and not there:
             return 5, None
-        new = sorted([other for other in old if other[:self.key] != key] + [record], key=lambda r: r[:self.key])
+        new = sorted([other for other in old if self.key_of(other) != key] + [record], key=self.key_of)
         return self.store(place, new, new.index(record))
 
     def store(self, place, records, changed):
@@ -156,7 +164,7 @@ class Area:
             return 6, None
         free = list(self.free)
         numbers = [number] + [free.pop() for _ in parts[1:]]
-        cuts = [self.cut_at(left[-1], right[0]) for left, right in zip(parts, parts[1:])] + [separator]
+        cuts = [cut_at(self.key_of(left[-1]), self.key_of(right[0])) for left, right in zip(parts, parts[1:])] + [separator]
         entries = self.entries[:place] + list(zip(cuts, numbers)) + self.entries[place + 1:]
         if len(parts) > 1 and 24 + len(free) + len(entry_bytes(entries)) > SIZE - 7:
             return 7, None
@@ -171,9 +179,10 @@ class Area:
         self.data[number] = records
         self.found.pop(number + 1, None)
 
-    def cut_at(self, left, right):
-        """The left key as far as the first byte in which the right one is another."""
-        return left[:same_front(left[:self.key], right[:self.key]) + 1]
+
+def cut_at(left, right):
+    """The left key as far as the first byte in which the right one is another."""
+    return left[:same_front(left, right) + 1]
 
 
 def divide(records, changed):

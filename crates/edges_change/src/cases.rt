@@ -11,7 +11,7 @@ fn add(area: &mut [u8], i: usize, length: usize) {
     }
     let mut bytes = [0u8; 512];
     fields::fill(&mut bytes, 0, 512, (65 + 2 * i) as u8);
-    match request::asked(area, 4, b'I', &bytes, length) {
+    match request::asked(area, 0, 4, b'I', &bytes, length) {
         Answer::Done(_) => {}
         _ => print::words(b"  not loaded\n"),
     }

@@ -1,4 +1,5 @@
 // Runs document 01's dividing cases and edges beyond them through the requests, and prints each answer with every byte that it altered.
+mod behind;
 mod build;
 mod cases;
 mod entries;
@@ -16,6 +17,7 @@ fn main() {
     cases::refusals();
     cases::far_cut();
     cases::emptied();
+    behind::behind();
     entries::short_fronts();
     entries::full_at(63);
     entries::full_at(64);

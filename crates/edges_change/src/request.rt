@@ -1,4 +1,4 @@
-// One request of an area, and what it altered there. S 512, offset 0, M 505.
+// One request of an area, and what it altered there. S 512, M 505.
 use crate::build;
 use crate::print;
 use answers::Answer;
@@ -9,17 +9,24 @@ pub(crate) fn wide(x: u16) -> usize {
 }
 
 // The request of a letter with the front of some bytes, so long: I inserts, U updates, E erases.
-pub(crate) fn asked(area: &mut [u8], key: usize, letter: u8, bytes: &[u8], long: usize) -> Answer {
+pub(crate) fn asked(
+    area: &mut [u8],
+    offset: usize,
+    key: usize,
+    letter: u8,
+    bytes: &[u8],
+    long: usize,
+) -> Answer {
     if bytes.len() < long {
         return Answer::Outside;
     }
     if letter == b'I' {
-        return register::insert(area, 512, 0, key, 505, &bytes[..long]);
+        return register::insert(area, 512, offset, key, 505, &bytes[..long]);
     }
     if letter == b'U' {
-        return register::update(area, 512, 0, key, 505, &bytes[..long]);
+        return register::update(area, 512, offset, key, 505, &bytes[..long]);
     }
-    register::erase(area, 512, 0, key, 505, &bytes[..long])
+    register::erase(area, 512, offset, key, 505, &bytes[..long])
 }
 
 fn told(answer: Answer) {
@@ -46,10 +53,14 @@ fn told(answer: Answer) {
 }
 
 // The check of the area as it has become.
-pub(crate) fn checked(area: &[u8], key: usize) {
+pub(crate) fn checked_at(area: &[u8], offset: usize, key: usize) {
     print::words(b"  check:");
-    told(register::check(area, 512, 0, key, 505));
+    told(register::check(area, 512, offset, key, 505));
     print::words(b"\n");
+}
+
+pub(crate) fn checked(area: &[u8], key: usize) {
+    checked_at(area, 0, key);
 }
 
 // An interval of the buffer by its name: the index, or its number as a data interval.
@@ -104,19 +115,31 @@ fn outcome(area: &[u8], old: &[u8]) {
     altered(area, old);
 }
 
-// A request with a record of a length that begins with a key; as a search key only its front counts.
-pub(crate) fn request(area: &mut [u8], name: &[u8], letter: u8, key: &[u8], length: usize) {
+// A request with the front of some bytes, its answer, and what it altered.
+pub(crate) fn request_at(
+    area: &mut [u8],
+    offset: usize,
+    key: usize,
+    letter: u8,
+    bytes: &[u8],
+    length: usize,
+) {
     let mut old = [0u8; 132096];
     build::put(&mut old, 0, area);
+    print::words(b" ");
+    print::number(length);
+    print::words(b":");
+    told(asked(area, offset, key, letter, bytes, length));
+    outcome(area, &old);
+}
+
+// A request with a record of a length that begins with a key; as a search key only its front counts.
+pub(crate) fn request(area: &mut [u8], name: &[u8], letter: u8, key: &[u8], length: usize) {
     let mut bytes = [46u8; 512];
     build::put(&mut bytes, 0, key);
     print::words(b"  ");
     print::words(name);
-    print::words(b" ");
-    print::number(length);
-    print::words(b":");
-    told(asked(area, key.len(), letter, &bytes, length));
-    outcome(area, &old);
+    request_at(area, 0, key.len(), letter, &bytes, length);
 }
 
 // The request at a place of a script: `I AAAA E CCCC` asks for two, a letter and a key of four bytes each.
