@@ -126,6 +126,11 @@ def far_cut():
     case([1], [40] * 5 + [4, 5] * 20, "I", "J", 206)
 
 
+def record_bytes():
+    line("130 after 30, 31, 30, 31 and three of 100")
+    case([1], [30, 31, 30, 31, 100, 100, 100], "I", "O", 130)
+
+
 def emptied():
     line("emptied")
     area = loaded([1], [300, 200])
@@ -154,8 +159,8 @@ def behind():
 def short_fronts():
     line("short Fs")
     entries = [(b"AAB", 0), (b"AAC", 1), (b"", 2)]
-    area = Area(entries, [3], {}, 4, MOST, found={0: index_interval(entries, [3], longest=False)})
-    steps(area, ("I AACA", 300), ("I AACC", 300), ("I AACB", 9), ("I AABZ", 9), ("I AADA", 9))
+    for requests in ((("I AACA", 300), ("I AACC", 300), ("I AACB", 9), ("I AABZ", 9), ("I AADA", 9)), (("I BAAA", 300), ("I BCAA", 300))):
+        steps(Area(entries, [3], {}, 4, MOST, found={0: index_interval(entries, [3], longest=False)}), *requests)
 
 
 def full_at(length):
@@ -217,7 +222,7 @@ def one_more():
 
 
 def main():
-    for part in (fitting, three_parts, updates, shortenings, refusals, far_cut, emptied, behind, short_fronts):
+    for part in (fitting, three_parts, updates, shortenings, refusals, far_cut, record_bytes, emptied, behind, short_fronts):
         part()
     for length in (63, 64, 68):
         full_at(length)

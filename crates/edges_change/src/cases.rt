@@ -156,6 +156,13 @@ pub(crate) fn far_cut() {
     case(&[1], &many, b'I', b'J', 206);
 }
 
+// Parts are compared by record bytes alone: 322 and 230 differ less than 222 and 330, but with their RDFs they would differ more.
+pub(crate) fn record_bytes() {
+    print::words(b"130 after 30, 31, 30, 31 and three of 100\n");
+    let seven = [30u16, 31, 30, 31, 100, 100, 100];
+    case(&[1], &seven, b'I', b'O', 130);
+}
+
 // The second of two intervals is emptied and takes a record again.
 pub(crate) fn emptied() {
     print::words(b"emptied\n");

@@ -4,8 +4,7 @@ use crate::print;
 use crate::request;
 
 // Entries AAB, AAC and the last, each with F = 0, name 0, 1 and 2; 3 is free.
-pub(crate) fn short_fronts() {
-    print::words(b"short Fs\n");
+fn of_short_fronts(script: &[u8], lengths: &[u16]) {
     let mut area = [0u8; 2560];
     build::frame(&mut area, &[0, 25, 1, 234, 1, 234, 3]);
     build::put(
@@ -14,11 +13,14 @@ pub(crate) fn short_fronts() {
         &[0, 0, 2, 65, 65, 67, 0, 3, 1, 65, 65, 66, 0, 3, 0],
     );
     build::all_empty(&mut area);
-    request::steps(
-        &mut area,
-        b"I AACA I AACC I AACB I AABZ I AADA",
-        &[300, 300, 9, 9, 9],
-    );
+    request::steps(&mut area, script, lengths);
+}
+
+// A division makes every F longest: that of the entry after the cut, and those of entries away from it.
+pub(crate) fn short_fronts() {
+    print::words(b"short Fs\n");
+    of_short_fronts(b"I AACA I AACC I AACB I AABZ I AADA", &[300, 300, 9, 9, 9]);
+    of_short_fronts(b"I BAAA I BCAA", &[300, 300]);
 }
 
 // Entries of 100 A, 100 B, 100 C, so many D, and the last name 0 to 4; 5 is free. A cut in the last adds 103 bytes.

@@ -16,6 +16,7 @@ fn main() {
     cases::shortened_pairs();
     cases::refusals();
     cases::far_cut();
+    cases::record_bytes();
     cases::emptied();
     behind::behind();
     entries::short_fronts();
