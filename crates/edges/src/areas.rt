@@ -80,6 +80,13 @@ fn tried(name: &[u8], at: usize, new: &[u8]) {
 
 pub fn data_rules() {
     print::words(b"data intervals\n");
+    spaces();
+    groups();
+    lengths();
+    keys();
+}
+
+fn spaces() {
     tried(b"as laid", 0, &[]);
     tried(b"other unused bytes", 528, b"left over");
     tried(
@@ -91,16 +98,25 @@ pub fn data_rules() {
     tried(b"unused length", 1022, &[1, 229]);
     tried(b"busy", 1022, &[129, 230]);
     tried(b"end of file", 2556, &[0, 0, 0, 0]);
+}
+
+fn groups() {
     tried(b"spanning", 1529, &[32]);
     tried(b"empty slot", 1529, &[4]);
     tried(b"reserved bit", 1529, &[128]);
     tried(b"a count alone", 1529, &[8]);
     tried(b"a pair with no count", 2041, &[64]);
     tried(b"leftmost of a pair", 2038, &[64]);
+}
+
+fn lengths() {
     tried(b"a run of one", 1014, &[8, 0, 1, 64, 0, 16]);
     tried(b"lengths that do not add up", 1018, &[0, 7]);
     tried(b"too short for a key", 2038, &[0, 0, 16, 0, 0, 3]);
     tried(b"longer than M", 1529, &[0, 1, 250, 1, 250, 0, 0]);
+}
+
+fn keys() {
     tried(b"a key twice", 520, b"AA01");
     tried(b"a key that descends", 520, b"AA00");
     tried(
@@ -116,6 +132,14 @@ pub fn data_rules() {
 
 pub fn index_rules() {
     print::words(b"index record\n");
+    header();
+    separators();
+    bounds();
+    numbers();
+    displacements();
+}
+
+fn header() {
     tried(b"record length", 0, &[1, 248]);
     tried(b"control length", 2, &[4]);
     tried(b"pointer indicator", 3, &[2]);
@@ -126,19 +150,31 @@ pub fn index_rules() {
     tried(b"RDF", 505, &[64]);
     tried(b"CIDF", 508, &[1, 248]);
     tried(b"CIDF's length", 510, &[0, 1]);
+}
+
+fn separators() {
     tried(b"F of the first entry", 502, &[1]);
     tried(b"F past the separator before", 497, &[3]);
     tried(b"a separator longer than K", 497, &[2, 3]);
     tried(b"ends in FF", 496, &[255]);
     tried(b"ends in FF by its F", 493, &[0, 0, 1, 255, 0, 1, 2]);
+}
+
+fn bounds() {
     tried(b"empty before the last", 493, &[0, 1, 1, 0, 0, 2, 2]);
     tried(b"last not empty", 492, &[90, 0, 1]);
     tried(b"bounds that descend", 496, &[64]);
     tried(b"bounds that are equal", 493, &[0, 0, 1, 2, 0, 2, 65]);
+}
+
+fn numbers() {
     tried(b"a number twice", 504, &[2]);
     tried(b"free and used", 24, &[1]);
     tried(b"a number past the last", 24, &[4]);
     tried(b"a number past the last used", 504, &[4]);
+}
+
+fn displacements() {
     tried(b"unused one less", 18, &[0, 24]);
     tried(b"unused one more", 18, &[0, 26]);
     tried(b"last entry inside another", 20, &[1, 238]);
@@ -178,6 +214,10 @@ pub fn gets() {
     sought(b"one byte short", b"CC01", &mut less);
     let mut none = [46u8; 0];
     sought(b"no room", b"CC01", &mut none);
+    gets_at();
+}
+
+fn gets_at() {
     sought_at(0);
     sought_at(8);
     sought_at(4);
