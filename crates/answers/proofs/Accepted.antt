@@ -2,7 +2,7 @@
 use Prim.Native.Nat.{ℕ, _+_, _≤_}
 use mathlib.Core.Path.{_≡_, refl, _∙_, sym}
 use mathlib.Core.Bool.{Bool, true, false}
-use mathlib.Core.List.{List, [], _∷_}
+use mathlib.Core.List.{List, [], _∷_, cons-ne-nil}
 use lib.ListN.{length}
 use lib.Dec.{eqb}
 use native.Mathlib.Omega.{arith}
@@ -61,9 +61,6 @@ pub record Accepted (size offset key most : ℕ) (area : List ℕ) (ch : Change)
   pub answers : o .answer ≡ Done (record { count = length ss })
   pub leaves : o .area ≡ stored (m .size) area ss
 
-some-none : (x : List ℕ) (xs : List (List ℕ)) → x ∷ xs ≡ [] → ⊥
-some-none x xs e = let z : _≡_ {A = ℕ} 0 1 = cc in omega arith
-
 module _ (size offset key most : ℕ) (area : List ℕ) where
   module _ (m : Measures) (n : ℕ) (c : Content) (j : judgedOf size offset key most (length area) ≡ judged.Fine m n) (w : readArea m n area ≡ whole c) where
     carried : (ch : Change) → Legal m ch (recordsOf (c .filled)) → Proper m (c .filled) (editOf m c ch)
@@ -94,7 +91,7 @@ module _ (size offset key most : ℕ) (area : List ℕ) where
       unfolding makeChange
       updated [] e z = absurd (omega arith)
       updated (x ∷ ws) e z =
-          carried (update r) (λ (h : withKey m (keyOf m r) (recordsOf (c .filled)) ≡ []). some-none x ws (sym e ∙ h)) (update-proper m n area c w some inside r fine o x ws e)
+          carried (update r) (λ (h : withKey m (keyOf m r) (recordsOf (c .filled)) ≡ []). cons-ne-nil x ws (sym e ∙ h)) (update-proper m n area c w some inside r fine o x ws e)
           (update-replaces m n area c w some inside r fine o x ws e) (planOf m c (editFor m c (keyOf m r) 1 (r ∷ []))) refl z
 
     erased : (wanted : List ℕ) → Octets wanted → length wanted ≡ m .key → (ws : List (List ℕ)) → withKey m wanted (recordsOf (c .filled)) ≡ ws
@@ -102,7 +99,7 @@ module _ (size offset key most : ℕ) (area : List ℕ) where
     unfolding makeChange
     erased wanted o long [] e z = absurd (omega arith)
     erased wanted o long (x ∷ ws) e z =
-        carried (erase wanted) (λ (h : withKey m wanted (recordsOf (c .filled)) ≡ []). some-none x ws (sym e ∙ h)) (erase-proper m n area c w some wanted long o x ws e)
+        carried (erase wanted) (λ (h : withKey m wanted (recordsOf (c .filled)) ≡ []). cons-ne-nil x ws (sym e ∙ h)) (erase-proper m n area c w some wanted long o x ws e)
         (erase-removes m n area c w some wanted long o x ws e) (planOf m c (editFor m c wanted 1 [])) refl z
 
   -- from the front of each request to there: the length, the reading, the judgement

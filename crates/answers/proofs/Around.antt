@@ -1,18 +1,19 @@
 -- Records on both sides of a key: those before have lower keys, those after higher ones. What a look by key and the three changes of the plain list come to there.
 use Prim.Native.Nat.{ℕ, _+_, _<_}
-use mathlib.Core.Path.{_≡_, refl, _∙_, sym, ap}
+use mathlib.Core.Path.{_≡_, refl, _∙_, sym}
 use mathlib.Core.Bool.{Bool, true, false}
 use mathlib.Core.List.{List, [], _∷_, _++_, map-append}
 use lib.ListN.{length, getD, take, drop, take-append-drop}
-use lib.Seq.{drop-cons}
+use lib.Seq.{split-at}
 use native.Mathlib.Omega.{arith}
 use native.Mathlib.Numerals.{add-one}
-use Rattle.fields.specs.Choice.{both, no}
+use Rattle.fields.specs.Choice.{both}
 use Rattle.fields.specs.Order.{less}
-use Rattle.fields.proofs.Choices.{both-split, both-join}
-use Rattle.fields.proofs.Orders.{less-asym, less-trans}
+use Rattle.fields.proofs.Choices.{both-split, both-join, both-assoc}
+use Rattle.fields.proofs.Orders.{less-asym}
 use Rattle.measures.specs.declared.Measures.{Measures}
-use Rattle.interval.specs.Records.{keyOf, keysOf, ascendFrom, ascending, above, upTo}
+use Rattle.interval.specs.Records.{keyOf, keysOf, ascendFrom, ascending, above}
+use Rattle.interval.proofs.Ascending.{from-ascends, ascends-from, from-lower}
 use Rattle.interval_find.specs.Search.{lower, holds, startOf, placeOf, allBelow}
 use Rattle.interval_find.specs.declared.Found.the-variants.{At, Gap}
 use Rattle.interval_find.proofs.Search.{held, lower-below, lower-above, lower-beyond}
@@ -26,70 +27,9 @@ use Rattle.answers.proofs.Keys.{same-same, less-differs, more-differs, 
 pub below-append : (key : List ℕ) (ks ls : List (List ℕ)) → allBelow key (ks ++ ls) ≡ both (allBelow key ks) (allBelow key ls)
 unfolding allBelow
 below-append key [] ls = refl
-below-append key (k ∷ ks) ls = go (less k key) (below-append key ks ls)
-  where
-    go : (t : Bool) → allBelow key (ks ++ ls) ≡ both (allBelow key ks) (allBelow key ls)
-        → both t (allBelow key (ks ++ ls)) ≡ both (both t (allBelow key ks)) (allBelow key ls)
-    go true i = i
-    go false i = refl
-
--- The same of keys above a bound,
-pub above-append : (low : List ℕ) (ks ls : List (List ℕ)) → above low (ks ++ ls) ≡ both (above low ks) (above low ls)
-unfolding above
-above-append low [] ls = refl
-above-append low (k ∷ ks) ls = go (less low k) (above-append low ks ls)
-  where
-    go : (t : Bool) → above low (ks ++ ls) ≡ both (above low ks) (above low ls)
-        → both t (above low (ks ++ ls)) ≡ both (both t (above low ks)) (above low ls)
-    go true i = i
-    go false i = refl
-
--- and of keys up to a bound.
-pub up-append : (high : List ℕ) (ks ls : List (List ℕ)) → upTo high (ks ++ ls) ≡ both (upTo high ks) (upTo high ls)
-unfolding upTo
-up-append high [] ls = refl
-up-append high (k ∷ ks) ls = go (no (less high k)) (up-append high ks ls)
-  where
-    go : (t : Bool) → upTo high (ks ++ ls) ≡ both (upTo high ks) (upTo high ls)
-        → both t (upTo high (ks ++ ls)) ≡ both (both t (upTo high ks)) (upTo high ls)
-    go true i = i
-    go false i = refl
+below-append key (k ∷ ks) ls = rw (below-append key ks ls) (sym (both-assoc (less k key) (allBelow key ks) (allBelow key ls)))
 
 -- ---- keys that ascend, list after list
-
--- Keys that ascend from a bound ascend.
-pub from-ascends : (a : List ℕ) (ks : List (List ℕ)) → ascendFrom a ks ≡ true → ascending ks ≡ true
-unfolding ascending ascendFrom
-from-ascends a [] h = refl
-from-ascends a (k ∷ ks) h = both-split (less a k) (ascendFrom k ks) h .1
-
--- Keys that ascend, all of them above a bound, ascend from it.
-pub ascends-from : (a : List ℕ) (ks : List (List ℕ)) → ascending ks ≡ true → above a ks ≡ true → ascendFrom a ks ≡ true
-unfolding ascending ascendFrom above
-ascends-from a [] u h = refl
-ascends-from a (k ∷ ks) u h = both-join (less a k) (ascendFrom k ks) (both-split (less a k) (above a ks) h .0) u
-
--- keys that ascend from a bound ascend from a lower one
-from-lower : (a b : List ℕ) (ks : List (List ℕ)) → less a b ≡ true → ascendFrom b ks ≡ true → ascendFrom a ks ≡ true
-unfolding ascendFrom
-from-lower a b [] l h = refl
-from-lower a b (k ∷ ks) l h =
-    let s = both-split (less b k) (ascendFrom k ks) h in
-    both-join (less a k) (ascendFrom k ks) (less-trans a b k l (s .0)) (s .1)
-
-from-apart : (a : List ℕ) (ks ls : List (List ℕ)) → ascendFrom a (ks ++ ls) ≡ true → (ascendFrom a ks ≡ true) × (ascending ls ≡ true)
-unfolding ascendFrom
-from-apart a [] ls h = (refl, from-ascends a ls h)
-from-apart a (k ∷ ks) ls h =
-    let s = both-split (less a k) (ascendFrom k (ks ++ ls)) h in
-    let i = from-apart k ks ls (s .1) in
-    (both-join (less a k) (ascendFrom k ks) (s .0) (i .0), i .1)
-
--- Both parts of ascending keys ascend.
-pub ascend-apart : (ks ls : List (List ℕ)) → ascending (ks ++ ls) ≡ true → (ascending ks ≡ true) × (ascending ls ≡ true)
-unfolding ascending
-ascend-apart [] ls h = (refl, h)
-ascend-apart (k ∷ ks) ls h = from-apart k ks ls h
 
 -- one key between lower and higher ones, and none
 module _ (key : List ℕ) (ls : List (List ℕ)) (up : ascendFrom key ls ≡ true) where
@@ -103,7 +43,7 @@ module _ (key : List ℕ) (ls : List (List ℕ)) (up : ascendFrom key ls ≡ tru
 
   from-join : (a : List ℕ) (ks : List (List ℕ)) → ascendFrom a ks ≡ true → less a key ≡ true → allBelow key ks ≡ true → ascendFrom a (ks ++ ls) ≡ true
   unfolding ascendFrom allBelow
-  from-join a [] h l b = from-lower a key ls l up
+  from-join a [] h l b = from-lower a key ls (less-asym a key l) up
   from-join a (k ∷ ks) h l b =
       let s = both-split (less a k) (ascendFrom k ks) h in
       let t = both-split (less k key) (allBelow key ks) b in
@@ -224,8 +164,8 @@ pub record Standing (m : Measures) (key : List ℕ) (rs : List (List ℕ)) (x : 
   pub split : rs ≡ take (lower m key rs) rs ++ (x ∷ drop (lower m key rs + 1) rs)
 
 -- A list is what stands before a place, the element there, and what stands after it.
-pub split-there : {A : Type 0} (xs : List A) (i : ℕ) (d : A) → i < length xs → xs ≡ take i xs ++ (getD xs i d ∷ drop (i + 1) xs)
-split-there xs i d h = sym (rw add-one (ap (λ (ys : List _). take i xs ++ ys) (sym (drop-cons xs i d h)) ∙ take-append-drop i xs))
+split-there : {A : Type 0} (xs : List A) (i : ℕ) (d : A) → i < length xs → xs ≡ take i xs ++ (getD xs i d ∷ drop (i + 1) xs)
+split-there xs i d h = rw add-one (split-at xs i d h)
 
 module _ (m : Measures) (key : List ℕ) (rs : List (List ℕ)) (up : ascending (keysOf m rs) ≡ true) where
   place-held : holds m key rs ≡ true → placeOf m key rs ≡ At (lower m key rs) (startOf (lower m key rs) rs) (length (getD rs (lower m key rs) []))

@@ -1,10 +1,10 @@
 -- The edit that a change by key makes: it is one that its interval can bear, and it makes the change of the plain list of all records.
-use Prim.Native.Nat.{ℕ, zero, suc, _+_, _≤_, _<_}
+use Prim.Native.Nat.{ℕ, _+_, _≤_, _<_}
 use mathlib.Core.Path.{_≡_, refl, _∙_, sym, ap}
 use mathlib.Core.Bool.{true, false}
 use mathlib.Core.List.{List, [], _∷_, _++_, map-append, append-assoc, append-nil}
-use lib.ListN.{length, take, drop, length-append, length-drop}
-use lib.Seq.{take-at, getD-at, drop-append-add, length-take-le}
+use lib.ListN.{length, take, drop, length-append}
+use lib.Seq.{take-at, getD-at, drop-append-add}
 use native.Mathlib.Omega.{arith}
 use native.Mathlib.Nat.{add-zero}
 use borrow.Author.Tests.{leb-true}
@@ -13,11 +13,14 @@ use Rattle.fields.specs.Choice.{no}
 use Rattle.fields.specs.Bytes.{Octets}
 use Rattle.fields.specs.Order.{less}
 use Rattle.fields.proofs.Choices.{both-split}
-use Rattle.fields.proofs.Orders.{octets-drop}
+use Rattle.fields.proofs.Octets.{octets-nil, octets-part}
 use Rattle.measures.specs.declared.Measures.{Measures}
 use Rattle.interval.specs.Records.{concat, keyOf, keysOf, within, allWithin, lengthsFine, ascending, above, upTo}
 use Rattle.interval.specs.Reading.{recordsIn}
-use Rattle.interval.proofs.Octets.{octets-nil, octets-take}
+use Rattle.interval.proofs.Ascending.{above-append, up-append, ascend-apart}
+use Rattle.interval.proofs.Keys.{none-fine}
+use Rattle.interval.proofs.Backward.{form-and-keys}
+pub use Rattle.interval.proofs.Keys.{key-long}
 use Rattle.interval_find.specs.Search.{lower, allBelow}
 use Rattle.interval_find.proofs.Search.{lower-most}
 use Rattle.index.specs.Bounds.{bound}
@@ -29,14 +32,15 @@ use Rattle.area.specs.Content.{Filled, Content, dataIn, recordsOf, entriesOf}
 use Rattle.area.specs.Soundness.{soundUsed}
 use Rattle.area.specs.Reading.{whole, readArea}
 use Rattle.area.proofs.Filling.{recordsOf-append}
-use Rattle.area.proofs.Intervals.{form-and-keys, used-apart}
+pub use Rattle.area.proofs.Filling.{entries-take}
+use Rattle.area.proofs.Intervals.{used-apart}
 use Rattle.area.proofs.Leading.{key-in-one-entry}
 use Rattle.change.specs.Parts.{Edit, entryAt, edited}
 use Rattle.answers.specs.Records.{withKey}
 use Rattle.answers.specs.Model.{add, replace, remove}
 use Rattle.answers.specs.Changing.{editFor}
 use Rattle.answers.proofs.Keys.{with-append, with-below, with-above}
-use Rattle.answers.proofs.Around.{below-append, above-append, up-append, ascend-apart, add-here, replace-here, remove-here, ascend-put, ascend-join, Missing, Standing, missing, standing}
+use Rattle.answers.proofs.Around.{below-append, add-here, replace-here, remove-here, ascend-put, ascend-join, Missing, Standing, missing, standing}
 
 -- ---- the entry that a key leads to
 
@@ -50,13 +54,6 @@ pub record Led (m : Measures) (area key : List ℕ) (fs : List Filled) (i : ℕ)
   pub within : less (bound (m .key) (entryAt fs i .sep)) key ≡ false
   pub lower : allBelow key (keysOf m (recordsOf (take i fs))) ≡ true
   pub higher : above key (keysOf m (recordsOf (drop (i + 1) fs))) ≡ true
-
--- The entries of the first filled ones are the first entries.
-pub entries-take : (i : ℕ) (fs : List Filled) → entriesOf (take i fs) ≡ take i (entriesOf fs)
-unfolding entriesOf
-entries-take zero fs = refl
-entries-take (suc i) [] = refl
-entries-take (suc i) (f ∷ fs) = rw (entries-take i fs)
 
 -- a list that is cut at a place
 parts-at : (fs pre : List Filled) (f : Filled) (post : List Filled) (i : ℕ) → fs ≡ pre ++ (f ∷ post) → length pre ≡ i
@@ -199,10 +196,6 @@ one-fine : (m : Measures) (r : List ℕ) → within (m .least) (m .most) (length
 unfolding allWithin
 one-fine m r h = rw h
 
-none-fine : (m : Measures) → lengthsFine m [] ≡ true
-unfolding allWithin
-none-fine m = refl
-
 -- The edits of the entry that a key leads to, at the key's place.
 module _ (m : Measures) (area key : List ℕ) (fs : List Filled) (i : ℕ) (l : Led m area key fs i) where
   abbrev edit : ℕ → List (List ℕ) → Edit
@@ -326,13 +319,9 @@ module _ (m : Measures) (area key : List ℕ) (fs : List Filled) (i : ℕ) (l : 
 abbrev pub ledTo : Content → List ℕ → Filled
 ledTo c key = entryAt (c .filled) (leadsTo key (entriesOf (c .filled)))
 
--- A record that is long enough has a key of the right length,
-pub key-long : (m : Measures) (r : List ℕ) → m .offset + m .key ≤ length r → length (keyOf m r) ≡ m .key
-key-long m r h = length-take-le (m .key) (drop (m .offset) r) (omega (arith, length-drop (m .offset) r))
-
 -- and a record of bytes has a key of bytes.
 pub key-octets : (m : Measures) (r : List ℕ) → Octets r → Octets (keyOf m r)
-key-octets m r o = octets-take (m .key) (drop (m .offset) r) (octets-drop (m .offset) r o)
+key-octets m r o = octets-part r (m .offset) (m .key) o
 
 -- A record of a length that the measures allow has at least the least.
 pub within-least : (m : Measures) (r : List ℕ) → within (m .least) (m .most) (length r) ≡ true → m .least ≤ length r

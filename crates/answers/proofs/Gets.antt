@@ -2,9 +2,9 @@
 use Prim.Native.Nat.{ℕ, _+_, _≤_, _<_}
 use mathlib.Core.Path.{_≡_, refl, sym, ap}
 use mathlib.Core.Bool.{Bool, true, false}
-use mathlib.Core.List.{List, [], _∷_, _++_, map, List·Memᴰ, List·Memᴰ·head, List·Memᴰ·tail, List·Memᴰ·not-nil, List·Memᴰ·cases-cons, List·Memᴰ·eq-of-singleton}
+use mathlib.Core.List.{List, [], _∷_, map, List·Memᴰ, List·Memᴰ·head, List·Memᴰ·tail, List·Memᴰ·not-nil, List·Memᴰ·cases-cons, List·Memᴰ·eq-of-singleton}
 use mathlib.Core.Logic.{⊎-elim}
-use lib.ListN.{length, drop}
+use lib.ListN.{length}
 use lib.Dec.{leb}
 use native.Mathlib.Omega.{arith}
 use native.Mathlib.Nat.{le-trans}
@@ -12,12 +12,13 @@ use borrow.Author.Tests.{eq-eqb, ne-eqb, leb-true, leb-false}
 use Rattle.fields.specs.Choice.{pick}
 use Rattle.fields.specs.Bytes.{splice}
 use Rattle.fields.specs.Table.{sameList}
+use Rattle.fields.proofs.Splices.{splice-front}
 use Rattle.measures.specs.Judgement.{judgedOf}
 use Rattle.measures.specs.declared.Measures.{Measures}
 use Rattle.measures.specs.declared.Judged.the-variants.{Fine}
 use Rattle.measures.proofs.Fine.{accepted-fits}
 use Rattle.interval.specs.Records.{keyOf, keysOf, ascending, allWithin}
-use Rattle.interval.proofs.Keys.{within-low, within-rest}
+use Rattle.interval.proofs.Keys.{within-low, within-rest, key-long}
 use Rattle.area.specs.Content.{Content, recordsOf, baseOf}
 use Rattle.area.specs.Reading.{whole, readArea}
 use Rattle.area.proofs.Ascending.{records-ascend}
@@ -28,7 +29,6 @@ use Rattle.answers.specs.declared.Answer.{Answer}
 use Rattle.answers.specs.declared.Answer.the-variants.{Found, Short, WrongLength, Absent, NoRecord}
 use Rattle.answers.proofs.Keys.{same-same, same-means}
 use Rattle.answers.proofs.Around.{standing}
-use Rattle.answers.proofs.Edits.{key-long}
 use Rattle.answers.proofs.Lying.{lying-lies, lies-lying, lying-one, whole-apart, whole-fine}
 
 -- ---- by key
@@ -79,10 +79,6 @@ keyed-with m key rs up r k = go (withKey m key rs) refl
 
 -- ---- handing out
 
-front : (out r : List ℕ) → splice out 0 r ≡ r ++ drop (length r) out
-unfolding splice
-front out r = let z : 0 + length r ≡ length r = omega arith in rw z
-
 -- Where the list that is handed out from is the wanted record, or empty where there is none, exactly that record is found.
 module _ (Wanted : List ℕ → Type 0) (none : Answer) (out : List ℕ) (not-found : (l : ℕ) → none ≡ Found l → ⊥) (not-short : (l : ℕ) → none ≡ Short l → ⊥) where
   handed : (ws : List (List ℕ)) → ((r : List ℕ) → Wanted r → ws ≡ r ∷ []) → ((x : List ℕ) (xs : List (List ℕ)) → ws ≡ x ∷ xs → Wanted x) → Finds Wanted none out (handOut none ws out)
@@ -112,7 +108,7 @@ module _ (Wanted : List ℕ → Type 0) (none : Answer) (out : List ℕ) (not-fo
       go : (t : Bool) → leb (length x) (length out) ≡ t → Finds Wanted none out (pick t long (refused (Short (length x)) out))
       go true h =
           record {
-            found = λ (r : List ℕ) (k : Wanted r) (l : length r ≤ length out). rw (← same r k, front out x);
+            found = λ (r : List ℕ) (k : Wanted r) (l : length r ≤ length out). rw (← same r k, splice-front out x);
             short = λ (r : List ℕ) (k : Wanted r) (l : length out < length r). absurd (omega (arith, leb-true (length x) (length out) h, ap length (same r k)));
             absent = λ (n : (r : List ℕ) → Wanted r → ⊥). absurd (n x this);
             found-only = λ (l : ℕ) (e : Found (length x) ≡ Found l). (x, this, cc, leb-true (length x) (length out) h);

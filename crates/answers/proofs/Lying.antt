@@ -1,44 +1,36 @@
 -- Records by their address: at most one lies at an address, since starts within an interval ascend, records end within their interval, and every interval in use is named once.
 use Prim.Native.Nat.{ℕ, zero, suc, _+_, _*_, _≤_, _<_}
-use mathlib.Core.Path.{_≡_, refl, _∙_, sym, ap}
+use mathlib.Core.Path.{_≡_, refl, _∙_, ap}
 use mathlib.Core.Bool.{Bool, true, false}
 use mathlib.Core.List.{List, [], _∷_, _++_, map, map-append, List·Memᴰ, List·Memᴰ·head, List·Memᴰ·tail, List·Memᴰ·not-nil, List·Memᴰ·cases-cons, List·Memᴰ·eq-of-singleton, Memᴰ·append-right}
 use mathlib.Core.Logic.{⊎-elim}
 use lib.ListN.{length, getD, take, drop, length-append, length-take}
 use lib.Dec.{eqb, ltb}
 use native.Mathlib.Omega.{arith}
-use native.Mathlib.Nat.{mul-le-mul-right, le-of-suc-le-suc, eq-or-lt-of-le, le-trans}
+use native.Mathlib.Nat.{mul-le-mul-right, le-trans}
 use borrow.Author.Tests.{eqb-true, eq-eqb, ne-eqb, ltb-true, ltb-false}
 use Rattle.fields.specs.Choice.{pick}
-use Rattle.fields.proofs.Choices.{both-split, both-join}
 use Rattle.measures.specs.declared.Measures.{Measures}
-use Rattle.room.specs.Room.{sum}
-use Rattle.interval.specs.Records.{concat, within, allWithin, lengthsFine}
-use Rattle.interval.specs.Reading.{displacement, recordsIn, sound}
-use Rattle.interval.proofs.Cutting.{sum-lengths}
-use Rattle.interval.proofs.Backward.{form-tests, read-lengths, read-lengths-fine}
-use Rattle.interval.proofs.Keys.{within-low, within-rest}
+use Rattle.interval.specs.Records.{concat, allWithin, lengthsFine}
+use Rattle.interval.specs.Reading.{recordsIn, sound}
+use Rattle.interval.proofs.Backward.{form-tests, read-lengths-fine, form-and-keys, read-bytes}
+use Rattle.interval.proofs.Keys.{within-low, within-rest, within-join, fine-at}
 use Rattle.interval_find.specs.Search.{startingAt, startOf}
 use Rattle.interval_find.proofs.Search.{start-record}
 use Rattle.index.specs.Bounds.{bound}
-use Rattle.index.specs.Meaning.{Entry, numbers, count, below, once, namedOnce}
-use Rattle.index.proofs.Naming.{count-same}
+use Rattle.index.specs.Meaning.{Entry, numbers, count, once, namedOnce}
+use Rattle.index.proofs.Counting.{count-same, count-more, count-some, below-among, count-append}
+use Rattle.index.proofs.Naming.{named-below, named-each}
+use Rattle.interval_find.proofs.Starting.{starting-before}
 use Rattle.area.specs.Content.{Filled, Content, dataIn, recordsOf, fill, entriesOf}
 use Rattle.area.specs.Reading.{whole, readArea}
-use Rattle.area.proofs.Unsound.{below-among}
 use Rattle.area.proofs.Sounding.{AllUsed, sound-apart, sound-filled}
-use Rattle.area.proofs.Intervals.{form-and-keys, used-apart}
+use Rattle.area.proofs.Intervals.{used-apart}
 use Rattle.area.proofs.Ascending.{numbers-once}
 use Rattle.answers.specs.Records.{lyingAt}
 use Rattle.answers.specs.Finding.{Lies}
 
 -- ---- within one interval
-
--- a later start is not looked for
-starting-past : (place from : ℕ) (rs : List (List ℕ)) → place < from → startingAt place from rs ≡ []
-unfolding startingAt
-starting-past place from [] h = refl
-starting-past place from (r ∷ rs) h = rw (ne-eqb from place (omega arith)) (starting-past place (from + length r) rs (omega arith))
 
 start-zero : (rs : List (List ℕ)) → startOf 0 rs ≡ 0
 unfolding concat
@@ -57,17 +49,11 @@ module _ (least most : ℕ) (some : 1 ≤ least) where
   starting-there zero place from (r ∷ rs) a h e =
       let l = within-low least most (length r) (map length rs) a in
       let q : from ≡ place = omega (arith, start-zero (r ∷ rs)) in
-      rw (eq-eqb from place q, starting-past place (from + length r) rs (omega arith))
+      rw (eq-eqb from place q, starting-before place (from + length r) rs (omega arith))
   starting-there (suc i) place from (r ∷ rs) a h e =
       let l = within-low least most (length r) (map length rs) a in
       let q : place ≡ from + length r + startOf i rs = omega (arith, start-suc i r rs) in
       rw (ne-eqb from place (omega arith)) (starting-there i place (from + length r) rs (within-rest least most (length r) (map length rs) a) (omega arith) q)
-
--- Each of some records whose lengths the measures allow has at least the least.
-pub fine-at : (least most i : ℕ) (rs : List (List ℕ)) → allWithin least most (map length rs) ≡ true → i < length rs → least ≤ length (getD rs i [])
-fine-at least most i [] a h = absurd (omega arith)
-fine-at least most zero (r ∷ rs) a h = within-low least most (length r) (map length rs) a
-fine-at least most (suc i) (r ∷ rs) a h = fine-at least most i rs (within-rest least most (length r) (map length rs) a) (omega arith)
 
 -- what is found at a place starts there
 starting-is : (place from : ℕ) (rs : List (List ℕ)) (x : List ℕ) (xs : List (List ℕ)) → startingAt place from rs ≡ x ∷ xs
@@ -199,31 +185,6 @@ module _ (m : Measures) (base address : ℕ) (some : 1 ≤ m .least) where
 
 -- ---- in a whole area
 
--- how often a number stands in a list, and whether it does
-once-each : (xs : List ℕ) (n k : ℕ) → once xs n ≡ true → k < n → count k xs ≡ 1
-unfolding once
-once-each xs zero k o h = absurd (omega arith)
-once-each xs (suc n) k o h =
-    let s = both-split (eqb (count n xs) 1) (once xs n) o in
-    ⊎-elim (λ (e : k ≡ n). rw e (eqb-true (count n xs) 1 (s .0))) (λ (l : k < n). once-each xs n k (s .1) l) (eq-or-lt-of-le (le-of-suc-le-suc h))
-
-count-more : (k x : ℕ) (xs : List ℕ) → count k xs ≤ count k (x ∷ xs)
-unfolding count
-count-more k x xs = go (eqb x k)
-  where
-    go : (t : Bool) → count k xs ≤ pick t (count k xs + 1) (count k xs)
-    go true = omega arith
-    go false = omega arith
-
-count-right : (k : ℕ) (xs ys : List ℕ) → count k ys ≤ count k (xs ++ ys)
-count-right k [] ys = omega arith
-count-right k (x ∷ xs) ys = omega (arith, count-right k xs ys, count-more k x (xs ++ ys))
-
-count-among : (k : ℕ) (xs : List ℕ) → List·Memᴰ k xs → 1 ≤ count k xs
-count-among k [] i = absurd (List·Memᴰ·not-nil i)
-count-among k (x ∷ xs) i =
-    ⊎-elim (λ (e : k ≡ x). omega (arith, count-same k x xs (sym e))) (λ (j : List·Memᴰ k xs). omega (arith, count-more k x xs, count-among k xs j)) (List·Memᴰ·cases-cons i)
-
 number-among : (f : Filled) (fs : List Filled) → List·Memᴰ f fs → List·Memᴰ (f .num) (numbers (entriesOf fs))
 unfolding entriesOf
 number-among f [] i = absurd (List·Memᴰ·not-nil i)
@@ -247,15 +208,13 @@ apart-join m (f ∷ fs) s o =
     twice g i e =
         let ns : List ℕ = numbers (entriesOf fs) in
         let j : List·Memᴰ (f .num) ns = rw e at (number-among g fs i) in
-        omega (arith, o (f .num) (List·Memᴰ·head refl), count-same (f .num) (f .num) ns refl, count-among (f .num) ns j)
+        omega (arith, o (f .num) (List·Memᴰ·head refl), count-same (f .num) (f .num) ns refl, count-some (f .num) ns j)
 
 -- a sound interval's records are in size
 in-size : (m : Measures) (ci : List ℕ) → sound m ci ≡ true → (lengthsFine m (recordsIn ci) ≡ true) × (length (concat (recordsIn ci)) + 4 ≤ length ci)
 in-size m ci h =
     let f = form-and-keys m ci h .0 in
-    let t = form-tests m ci f in
-    let n : length (concat (recordsIn ci)) ≡ displacement ci = sym (sum-lengths (recordsIn ci)) ∙ ap sum (read-lengths m ci f) ∙ t .total in
-    (read-lengths-fine m ci f, omega (arith, t .adds-up))
+    (read-lengths-fine m ci f, omega (arith, read-bytes m ci f, form-tests m ci f .adds-up))
 
 filled-in-size : (m : Measures) (area low : List ℕ) (es : List Entry) → AllUsed m area low es → (f : Filled) → List·Memᴰ f (fill m area es) → InSize m f
 unfolding fill
@@ -268,25 +227,12 @@ filled-in-size m area low (e ∷ es) a f i =
     ⊎-elim (λ (q : f ≡ record { sep = e .sep; num = e .num; records = recordsIn ci }). rw q h)
     (λ (j : List·Memᴰ f (fill m area es)). filled-in-size m area (bound (m .key) (e .sep)) es (a .1) f j) (List·Memᴰ·cases-cons i)
 
-below-each : (n : ℕ) (xs : List ℕ) (k : ℕ) → namedOnce n xs ≡ true → List·Memᴰ k xs → count k xs ≡ 1
-unfolding namedOnce
-below-each n xs k o i =
-    let s = both-split (below n xs) (once xs n) o in
-    once-each xs n k (s .1) (below-among n k xs (s .0) i)
-
-fine-append : (least most : ℕ) (ks ls : List ℕ) → allWithin least most ks ≡ true → allWithin least most ls ≡ true → allWithin least most (ks ++ ls) ≡ true
-unfolding allWithin
-fine-append least most [] ls h k = k
-fine-append least most (l ∷ ks) ls h k =
-    let s = both-split (within least most l) (allWithin least most ks) h in
-    both-join (within least most l) (allWithin least most (ks ++ ls)) (s .0) (fine-append least most ks ls (s .1) k)
-
 fine-all : (m : Measures) (fs : List Filled) → ((f : Filled) → List·Memᴰ f fs → InSize m f) → lengthsFine m (recordsOf fs) ≡ true
 unfolding recordsOf allWithin
 fine-all m [] h = refl
 fine-all m (f ∷ fs) h =
     rw (map-append length (f .records) (recordsOf fs))
-    (fine-append (m .least) (m .most) (map length (f .records)) (map length (recordsOf fs)) (h f (List·Memᴰ·head refl) .lengths)
+    (within-join (m .least) (m .most) (map length (f .records)) (map length (recordsOf fs)) (h f (List·Memᴰ·head refl) .lengths)
     (fine-all m fs (λ (g : Filled) (i : List·Memᴰ g fs). h g (List·Memᴰ·tail i))))
 
 module _ (m : Measures) (n : ℕ) (area : List ℕ) (c : Content) (w : readArea m n area ≡ whole c) where
@@ -305,7 +251,8 @@ module _ (m : Measures) (n : ℕ) (area : List ℕ) (c : Content) (w : readArea 
       once : (k : ℕ) → List·Memᴰ k (numbers (entriesOf (c .filled))) → count k (numbers (entriesOf (c .filled))) ≤ 1
       once k i =
           let ns : List ℕ = numbers (entriesOf (c .filled)) in
-          omega (arith, count-right k (c .free) ns, below-each n (c .free ++ ns) k (numbers-once m n area c w) (Memᴰ·append-right (c .free) i))
+          let o : namedOnce n (c .free ++ ns) ≡ true = numbers-once m n area c w in
+          omega (arith, count-append k (c .free) ns, named-each n (c .free ++ ns) k o (below-among n k (c .free ++ ns) (named-below n (c .free ++ ns) o) (Memᴰ·append-right (c .free) i)))
 
   -- So every record has a length that the measures allow.
   pub whole-fine : lengthsFine m (recordsOf (c .filled)) ≡ true

@@ -13,12 +13,12 @@ use Rattle.fields.proofs.Orders.{less-irrefl, less-asym, less-total}
 use Rattle.measures.specs.declared.Measures.{Measures}
 use Rattle.room.specs.Room.{sum}
 use Rattle.interval.specs.Records.{keyOf, keysOf, ascending, above}
+use Rattle.interval.proofs.Ascending.{ascend-tail, ascend-above, ascend-apart}
 use Rattle.interval_find.specs.Search.{lower}
-use Rattle.interval_find.proofs.Search.{ascend-tail, ascend-above}
 use Rattle.answers.specs.Records.{withKey}
 use Rattle.answers.specs.Model.{add, replace, remove, total, Change, insert, update, erase, makeChange, makeAll, Legal, AllLegal, gained, gainedAll, lost, lostAll}
 use Rattle.answers.proofs.Keys.{same-means, with-above, with-cons}
-use Rattle.answers.proofs.Around.{with-here, add-here, replace-here, remove-here, ascend-apart, ascend-put, ascend-join, missing, standing}
+use Rattle.answers.proofs.Around.{with-here, add-here, replace-here, remove-here, ascend-put, ascend-join, missing, standing}
 
 -- ---- in any list
 

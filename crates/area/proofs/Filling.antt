@@ -1,8 +1,8 @@
 -- Entries with their records: lists of them end to end, and an area of which other intervals changed.
-use Prim.Native.Nat.{ℕ}
+use Prim.Native.Nat.{ℕ, zero, suc}
 use mathlib.Core.Path.{_≡_, refl}
 use mathlib.Core.List.{List, [], _∷_, _++_, append-assoc, List·Memᴰ, List·Memᴰ·head, List·Memᴰ·tail}
-use lib.ListN.{length}
+use lib.ListN.{length, take, drop}
 use Rattle.measures.specs.declared.Measures.{Measures}
 use Rattle.index.specs.Meaning.{Entry, Meaning, numbers}
 use Rattle.area.specs.Content.{Filled, dataIn, recordsOf, fill, contentOf, entriesOf, meaningOf}
@@ -24,6 +24,26 @@ pub entriesOf-append : (xs ys : List Filled) → entriesOf (xs ++ ys) ≡ entrie
 unfolding entriesOf
 entriesOf-append [] ys = refl
 entriesOf-append (x ∷ xs) ys = rw (entriesOf-append xs ys)
+
+-- The entries of the first filled ones are the first entries,
+pub entries-take : (i : ℕ) (fs : List Filled) → entriesOf (take i fs) ≡ take i (entriesOf fs)
+unfolding entriesOf
+entries-take zero fs = refl
+entries-take (suc i) [] = refl
+entries-take (suc i) (f ∷ fs) = rw (entries-take i fs)
+
+-- those of the others the others,
+pub entries-drop : (i : ℕ) (fs : List Filled) → entriesOf (drop i fs) ≡ drop i (entriesOf fs)
+unfolding entriesOf
+entries-drop zero fs = refl
+entries-drop (suc i) [] = refl
+entries-drop (suc i) (f ∷ fs) = entries-drop i fs
+
+-- and there are as many.
+pub length-entries : (fs : List Filled) → length (entriesOf fs) ≡ length fs
+unfolding entriesOf
+length-entries [] = refl
+length-entries (f ∷ fs) = rw (length-entries fs)
 
 -- Entries that are filled are those entries.
 pub entries-fill : (m : Measures) (area : List ℕ) (es : List Entry) → entriesOf (fill m area es) ≡ es

@@ -11,20 +11,16 @@ use Rattle.fields.specs.Choice.{both}
 use Rattle.fields.specs.Bytes.{Octets}
 use Rattle.fields.proofs.Choices.{both-split}
 use Rattle.measures.specs.declared.Measures.{Measures}
-use Rattle.interval.specs.Records.{keysOf, allWithin, ascending, above, upTo, lengthsFine}
+use Rattle.interval.specs.Records.{keysOf, ascending, above, upTo}
 use Rattle.interval.specs.Layout.{LaidOut}
 use Rattle.interval.specs.Reading.{recordsIn, formSound, sound}
 use Rattle.interval.proofs.Forward.{laid-out-reads, laid-out-sound}
-use Rattle.interval.proofs.Backward.{read-lengths-fine, interval-only-laid-out}
+use Rattle.interval.proofs.Backward.{read-lengths-fine, interval-only-laid-out, form-and-keys}
+use Rattle.interval.proofs.Keys.{none-fine}
 use Rattle.area.specs.Soundness.{soundFree, soundUsed}
 use Rattle.area.specs.Layout.{FreeInterval, UsedInterval}
 
 -- ---- the tests
-
--- A sound interval has a sound form and ascending keys.
-pub form-and-keys : (m : Measures) (ci : List ℕ) → sound m ci ≡ true → (formSound m ci ≡ true) × (ascending (keysOf m (recordsIn ci)) ≡ true)
-unfolding sound
-form-and-keys m ci h = both-split (formSound m ci) (ascending (keysOf m (recordsIn ci))) h
 
 -- An interval that is sound in use is sound, with its keys above the bound before and at most its own.
 pub used-apart : (m : Measures) (low high ci : List ℕ) → soundUsed m low high ci ≡ true
@@ -58,10 +54,6 @@ unfolding soundFree
 free-together m ci s e = rw (s, e)
 
 -- ---- the grammar
-
-none-fine : (m : Measures) → lengthsFine m [] ≡ true
-unfolding allWithin
-none-fine m = refl
 
 none-ascend : (m : Measures) → ascending (keysOf m []) ≡ true
 unfolding ascending

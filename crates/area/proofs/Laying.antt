@@ -7,15 +7,14 @@ use lib.ListN.{length}
 use lib.Dec.{ltb}
 use native.Mathlib.Omega.{arith}
 use borrow.Author.Tests.{ltb-true}
-use Rattle.fields.specs.Choice.{both}
 use Rattle.fields.proofs.Choices.{both-split}
 use Rattle.measures.specs.declared.Measures.{Measures}
 use Rattle.index.specs.Bounds.{bound}
-use Rattle.index.specs.Meaning.{Entry, Meaning, numbers, named, below}
+use Rattle.index.specs.Meaning.{Entry, Meaning, numbers, below}
 use Rattle.index.specs.Reading.{readIndex, soundIndex}
-use Rattle.index.proofs.Naming.{named-below, below-append}
 use Rattle.index.proofs.NeverDamaged.{index-reads, index-never-damaged}
 use Rattle.index.proofs.OnlyLaidOut.{index-only-laid-out, index-keeps-rules}
+use Rattle.index.proofs.Naming.{both-below}
 use Rattle.area.specs.Content.{Filled, Content, indexIn, dataIn, fill, entriesOf, meaningOf}
 use Rattle.area.specs.Reading.{whole, readArea}
 use Rattle.area.specs.Layout.{Lent, IndexInterval, FreeIntervals, UsedIntervals, AreaLaidOut}
@@ -100,10 +99,7 @@ module _ (m : Measures) (n : ℕ) (area : List ℕ) (lent : Lent m n area) where
   pub area-only-laid-out : (c : Content) → readArea m n area ≡ whole c → AreaLaidOut m n area c
   area-only-laid-out c e =
       let s = sound-apart m n area c e in
-      let ns : List ℕ = numbers (entriesOf (c .filled)) in
-      let b : both (below n (c .free)) (below n ns) ≡ true =
-      sym (below-append n (c .free) ns) ∙ named-below n (named (meaningOf c)) (sound-rules m n area c s .naming) in
-      let p = both-split (below n (c .free)) (below n ns) b in
+      let p = both-below n (meaningOf c) (sound-rules m n area c s .naming) in
       record {
         index = rw (sound-reads m n area c s) at (index-laid (s .index));
         free = all-free-laid (c .free) (p .0) (s .free);

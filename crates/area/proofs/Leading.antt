@@ -7,13 +7,13 @@ use lib.ListN.{length}
 use Rattle.fields.specs.Choice.{no}
 use Rattle.fields.specs.Bytes.{Octets}
 use Rattle.fields.specs.Order.{less}
-use Rattle.fields.proofs.Choices.{both-split, both-join}
+use Rattle.fields.proofs.Choices.{both-split, both-join, no-true}
 use Rattle.fields.proofs.Orders.{le-less, less-trans}
 use Rattle.measures.specs.declared.Measures.{Measures}
 use Rattle.interval.specs.Records.{keyOf, keysOf, above, upTo}
 use Rattle.interval.specs.Reading.{recordsIn}
+use Rattle.interval.proofs.Ascending.{ascend-above}
 use Rattle.interval_find.specs.Search.{allBelow}
-use Rattle.interval_find.proofs.Search.{ascend-above}
 use Rattle.index.specs.Bounds.{bound}
 use Rattle.index.specs.Meaning.{Entry}
 use Rattle.index.specs.Rules.{rises, boundBefore}
@@ -26,7 +26,7 @@ use Rattle.area.specs.Reading.{whole, readArea}
 use Rattle.area.proofs.Filling.{fill-append, entries-fill, length-fill}
 use Rattle.area.proofs.Sounding.{AllUsed, used-append, sound-apart, sound-rules, sound-filled}
 use Rattle.area.proofs.Intervals.{used-apart}
-use Rattle.area.proofs.Ascending.{no-true, entries-ascend}
+use Rattle.area.proofs.Ascending.{entries-ascend}
 
 -- Where the key's one entry stands, and what lies around it.
 pub record KeyIn (m : Measures) (area key : List ℕ) (fs : List Filled) : Type 0 where

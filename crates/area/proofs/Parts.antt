@@ -1,22 +1,19 @@
 -- The intervals as parts of the lent bytes: their lengths, and what a store of one interval does to each.
-use Prim.Native.Nat.{ℕ, _+_, _-_, _*_, _≤_, _<_}
-use mathlib.Core.Path.{_≡_, refl, _∙_, ap}
+use Prim.Native.Nat.{ℕ, _+_, _*_, _≤_, _<_}
+use mathlib.Core.Path.{_≡_, refl, _∙_}
 use mathlib.Core.Bool.{Bool, true, false}
-use mathlib.Core.List.{List, _++_, append-assoc}
-use lib.ListN.{length, take, drop, length-append, length-drop}
-use lib.Seq.{length-take-le, take-at, drop-at, take-append-le, drop-append-add, drop-append-le, drop-drop, take-take}
+use mathlib.Core.List.{List}
+use lib.ListN.{length}
 use lib.Dec.{ltb}
 use native.Mathlib.Omega.{arith}
 use native.Mathlib.Nat.{mul-le-mul-right}
 use borrow.Author.Tests.{ltb-true, ltb-false}
-use Rattle.fields.specs.Bytes.{Octets, part, splice}
-use Rattle.fields.proofs.Splices.{length-mid, length-splice}
-use Rattle.fields.proofs.Orders.{octets-drop}
+use Rattle.fields.specs.Bytes.{Octets, splice}
+use Rattle.fields.proofs.Splices.{length-mid, length-splice, part-here, part-left, part-right}
+use Rattle.fields.proofs.Octets.{octets-part, octets-store}
 use Rattle.measures.specs.declared.Measures.{Measures}
 use Rattle.measures.specs.Judgement.{Fits, measures}
 use Rattle.measures.proofs.Sizes.{permitted-range}
-use Rattle.interval.proofs.Keys.{drop-take}
-use Rattle.index.proofs.Filling.{octets-part, octets-take, octets-append}
 use Rattle.area.specs.Content.{indexIn, dataIn}
 use Rattle.area.specs.Layout.{Lent}
 
@@ -60,42 +57,6 @@ octets-index m area o = octets-part area 0 (m .size) o
 -- The same of a data interval.
 pub octets-data : (m : Measures) (area : List ℕ) (k : ℕ) → Octets area → Octets (dataIn m area k)
 octets-data m area k o = octets-part area ((k + 1) * m .size) (m .size) o
-
--- ---- parts of bytes in which something was stored
-
--- the part that was stored
-pub part-here : (b : List ℕ) (a s : ℕ) (new : List ℕ) → a ≤ length b → length new ≡ s → part (splice b a new) a s ≡ new
-unfolding splice
-part-here b a s new h l =
-    let t : length (take a b) ≡ a = length-take-le a b h in
-    rw (drop-at (take a b) (new ++ drop (a + length new) b) a t) (take-at new (drop (a + length new) b) s l)
-
--- a part that ends before it
-pub part-left : (b : List ℕ) (a : ℕ) (new : List ℕ) (p s : ℕ) → a ≤ length b → p + s ≤ a → part (splice b a new) p s ≡ part b p s
-unfolding splice
-part-left b a new p s h l =
-    let t : length (take a b) ≡ a = length-take-le a b h in
-    let d : s ≤ length (drop p (take a b)) = simp length-drop (omega arith) in
-    let r : List ℕ = new ++ drop (a + length new) b in
-    rw (drop-append-le p (take a b) r (omega arith), take-append-le s (drop p (take a b)) r d, drop-take p a b, take-take s (a - p) (drop p b) (omega arith))
-
--- a part that begins after it
-pub part-right : (b : List ℕ) (a : ℕ) (new : List ℕ) (p s : ℕ) → a ≤ length b → a + length new ≤ p → part (splice b a new) p s ≡ part b p s
-unfolding splice
-part-right b a new p s h l =
-    let x : List ℕ = take a b ++ new in
-    let e : length x ≡ a + length new = length-append (take a b) new ∙ rw (length-take-le a b h) in
-    let q : p ≡ length x + (p - length x) = omega arith in
-    let f : a + length new + (p - length x) ≡ p = omega arith in
-    let i : drop p (x ++ drop (a + length new) b) ≡ drop p b =
-    ap (λ (y : ℕ). drop y (x ++ drop (a + length new) b)) q ∙ drop-append-add x (drop (a + length new) b) (p - length x) ∙ drop-drop (p - length x) (a + length new) b ∙ rw f in
-    rw (← append-assoc (take a b) new (drop (a + length new) b), i)
-
--- Bytes stored among bytes are bytes.
-pub octets-store : (b : List ℕ) (a : ℕ) (new : List ℕ) → Octets b → Octets new → Octets (splice b a new)
-unfolding splice
-octets-store b a new o p =
-    octets-append (take a b) (new ++ drop (a + length new) b) (octets-take a b o) (octets-append new (drop (a + length new) b) p (octets-drop (a + length new) b o))
 
 -- ---- an area in which one interval was stored
 

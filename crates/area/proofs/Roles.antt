@@ -1,14 +1,10 @@
 -- Roles: every interval has one, its tests are those of its role, and it is listed as unsound exactly where they fail.
-use Prim.Native.Nat.{ℕ, zero, suc, _+_, _≤_, _<_}
-use mathlib.Core.Path.{_≡_, refl, sym, ap}
+use Prim.Native.Nat.{ℕ, _≤_, _<_}
+use mathlib.Core.Path.{_≡_, ap}
 use mathlib.Core.Bool.{Bool, true, false}
-use mathlib.Core.List.{List, [], _∷_, _++_, List·Memᴰ, List·Memᴰ·head, List·Memᴰ·tail, List·Memᴰ·not-nil, List·Memᴰ·cases-cons, List·Memᴰ·append-cases, Memᴰ·append-left, Memᴰ·append-right}
+use mathlib.Core.List.{List, [], _∷_, _++_, List·Memᴰ, List·Memᴰ·not-nil, List·Memᴰ·cases-cons, List·Memᴰ·append-cases, Memᴰ·append-left, Memᴰ·append-right}
 use mathlib.Core.Logic.{⊎-elim}
-use lib.Dec.{eqb}
 use native.Mathlib.Omega.{arith}
-use native.Mathlib.Nat.{le-of-suc-le-suc, eq-or-lt-of-le}
-use borrow.Author.Tests.{eqb-true}
-use Rattle.fields.specs.Choice.{pick}
 use Rattle.fields.proofs.Choices.{both-split}
 use Rattle.measures.specs.declared.Measures.{Measures}
 use Rattle.interval.specs.Reading.{recordsIn}
@@ -16,6 +12,7 @@ use Rattle.index.specs.Bounds.{bound}
 use Rattle.index.specs.Meaning.{Entry, Meaning, numbers, named, count, below, once, namedOnce}
 use Rattle.index.specs.Rules.{boundBefore}
 use Rattle.index.proofs.Keeping.{rules-apart}
+use Rattle.index.proofs.Counting.{once-each, count-among}
 use Rattle.area.specs.Content.{dataIn}
 use Rattle.area.specs.Soundness.{soundFree, soundUsed, unsoundFree, unsoundUsed, unsoundData}
 use Rattle.area.specs.Layout.{Lent, IndexInterval}
@@ -25,22 +22,6 @@ use Rattle.area.proofs.Parts.{length-data, octets-data}
 use Rattle.area.proofs.Unsound.{listed-free, free-listed, listed-used, used-listed}
 
 -- ---- every interval has a role
-
-pub once-each : (xs : List ℕ) (n k : ℕ) → once xs n ≡ true → k < n → count k xs ≡ 1
-unfolding once
-once-each xs zero k o h = absurd (omega arith)
-once-each xs (suc n) k o h =
-    let s = both-split (eqb (count n xs) 1) (once xs n) o in
-    ⊎-elim (λ (e : k ≡ n). rw e (eqb-true (count n xs) 1 (s .0))) (λ (l : k < n). once-each xs n k (s .1) l) (eq-or-lt-of-le (le-of-suc-le-suc h))
-
-pub count-among : (k : ℕ) (xs : List ℕ) → 1 ≤ count k xs → List·Memᴰ k xs
-unfolding count
-count-among k [] h = absurd (omega arith)
-count-among k (x ∷ xs) h = go (eqb x k) refl (λ (l : 1 ≤ count k xs). count-among k xs l) h
-  where
-    go : (t : Bool) → eqb x k ≡ t → (1 ≤ count k xs → List·Memᴰ k xs) → 1 ≤ pick t (count k xs + 1) (count k xs) → List·Memᴰ k (x ∷ xs)
-    go true e i l = List·Memᴰ·head (sym (eqb-true x k e))
-    go false e i l = List·Memᴰ·tail (i l)
 
 -- an entry with that number, where it stands
 record Names (es : List Entry) (k : ℕ) : Type 0 where

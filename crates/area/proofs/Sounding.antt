@@ -2,7 +2,7 @@
 use Prim.Native.Nat.{ℕ, _≤_, _<_}
 use mathlib.Core.Path.{_≡_, refl, _∙_, sym, ap}
 use mathlib.Core.Bool.{Bool, true, false}
-use mathlib.Core.List.{List, [], _∷_, _++_, List·Memᴰ, List·Memᴰ·head, List·Memᴰ·tail}
+use mathlib.Core.List.{List, [], _∷_, _++_, List·Memᴰ, List·Memᴰ·head, List·Memᴰ·tail, cons-ne-nil}
 use lib.ListN.{length}
 use native.Mathlib.Omega.{arith}
 use borrow.Author.Tests.{ltb-false, le-ltb}
@@ -34,9 +34,6 @@ AllUsed m area low (e ∷ es) =
 
 -- ---- none is listed as unsound exactly where all are sound
 
-not-none : {x : ℕ} {xs : List ℕ} → x ∷ xs ≡ [] → ⊥
-not-none e = let z : _≡_ {A = ℕ} 0 1 = cc in omega arith
-
 -- Where all free intervals are sound none is listed,
 pub free-none : (m : Measures) (area ks : List ℕ) → AllFree m area ks → unsoundFree m area ks ≡ []
 unfolding unsoundFree
@@ -52,7 +49,7 @@ none-free m area (k ∷ ks) e = go (soundFree m (dataIn m area k)) refl (λ (q :
     go : (t : Bool) → soundFree m (dataIn m area k) ≡ t → (unsoundFree m area ks ≡ [] → AllFree m area ks)
         → pick t (unsoundFree m area ks) (k ∷ unsoundFree m area ks) ≡ [] → AllFree m area (k ∷ ks)
     go true s i q = (s, i q)
-    go false s i q = absurd (not-none q)
+    go false s i q = absurd (cons-ne-nil _ _ q)
 
 -- Where all intervals in use are sound none is listed,
 pub used-none : (m : Measures) (area low : List ℕ) (es : List Entry) → AllUsed m area low es → unsoundUsed m area low es ≡ []
@@ -73,7 +70,7 @@ none-used m area low (e ∷ es) q =
         → pick t (unsoundUsed m area (bound (m .key) (e .sep)) es) (e .num ∷ unsoundUsed m area (bound (m .key) (e .sep)) es) ≡ []
         → AllUsed m area low (e ∷ es)
     go true s i p = (s, i p)
-    go false s i p = absurd (not-none p)
+    go false s i p = absurd (cons-ne-nil _ _ p)
 
 -- Those of two lists of entries, the second from the last bound of the first on.
 pub used-append : (m : Measures) (area low : List ℕ) (xs ys : List Entry) → AllUsed m area low (xs ++ ys)
@@ -129,7 +126,7 @@ none-listed n (k ∷ ks) b h = absurd (omega (arith, b k (List·Memᴰ·head ref
 
 append-none : (xs ys : List ℕ) → xs ++ ys ≡ [] → (xs ≡ []) × (ys ≡ [])
 append-none [] ys e = (refl, e)
-append-none (x ∷ xs) ys e = absurd (not-none e)
+append-none (x ∷ xs) ys e = absurd (cons-ne-nil _ _ e)
 
 -- A whole area is sound, fact by fact: the index record; what it holds; each free interval; each interval in use between its bounds.
 pub sound-apart : (m : Measures) (n : ℕ) (area : List ℕ) (c : Content) → readArea m n area ≡ whole c → Sound m n area c
@@ -171,3 +168,7 @@ module _ (m : Measures) (n : ℕ) (area : List ℕ) (c : Content) (s : Sound m n
   -- And each entry is filled with what its interval holds.
   pub sound-filled : c .filled ≡ fill m area (entriesOf (c .filled))
   sound-filled = ap (λ (x : Content). x .filled) (s .content) ∙ ap (λ (x : Meaning). fill m area (x .entries)) sound-reads
+
+-- An area reads as one content at most.
+pub same-content : (m : Measures) (n : ℕ) (area : List ℕ) (c d : Content) → readArea m n area ≡ whole c → readArea m n area ≡ whole d → c ≡ d
+same-content m n area c d p q = let w : whole c ≡ whole d = sym p ∙ q in cc

@@ -4,16 +4,13 @@ use mathlib.Core.Path.{_≡_, refl, ap}
 use mathlib.Core.Bool.{Bool, true, false}
 use mathlib.Core.List.{List, [], _∷_, _++_, List·Memᴰ, List·Memᴰ·head, List·Memᴰ·tail, List·Memᴰ·not-nil, List·Memᴰ·cases-cons, List·Memᴰ·append-cases, Memᴰ·append-left, Memᴰ·append-right}
 use mathlib.Core.Logic.{⊎-elim}
-use lib.Dec.{ltb}
-use native.Mathlib.Omega.{arith}
-use borrow.Author.Tests.{ltb-true}
 use Rattle.fields.specs.Choice.{pick}
-use Rattle.fields.proofs.Choices.{both-split}
 use Rattle.measures.specs.declared.Measures.{Measures}
 use Rattle.index.specs.Bounds.{bound}
-use Rattle.index.specs.Meaning.{Entry, Meaning, numbers, named, below, namedOnce}
+use Rattle.index.specs.Meaning.{Entry, Meaning, numbers, named, namedOnce}
 use Rattle.index.specs.Rules.{boundBefore}
 use Rattle.index.proofs.Naming.{named-below}
+use Rattle.index.proofs.Counting.{below-among}
 use Rattle.area.specs.Content.{dataIn}
 use Rattle.area.specs.Soundness.{soundFree, soundUsed, unsoundFree, unsoundUsed, unsoundData}
 
@@ -100,14 +97,6 @@ module _ (m : Measures) (area : List ℕ) (k : ℕ) where
       go false i = List·Memᴰ·tail i
 
 -- ---- all of them are below n
-
--- What is in a list of numbers below n is below n.
-pub below-among : (n k : ℕ) (ks : List ℕ) → below n ks ≡ true → List·Memᴰ k ks → k < n
-unfolding below
-below-among n k [] b i = absurd (List·Memᴰ·not-nil i)
-below-among n k (x ∷ ks) b i =
-    let s = both-split (ltb x n) (below n ks) b in
-    ⊎-elim (λ (e : k ≡ x). omega (arith, ltb-true x n (s .0))) (λ (j : List·Memᴰ k ks). below-among n k ks (s .1) j) (List·Memᴰ·cases-cons i)
 
 -- An entry's number is among the numbers of the entries.
 pub numbers-split : (pre : List Entry) (e : Entry) (post : List Entry) → List·Memᴰ (e .num) (numbers (pre ++ (e ∷ post)))

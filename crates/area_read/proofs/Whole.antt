@@ -7,16 +7,15 @@ use lib.ListN.{length}
 use lib.Dec.{ltb}
 use native.Mathlib.Omega.{arith}
 use borrow.Author.Tests.{lt-ltb, le-ltb, ltb-true}
-use Rattle.fields.specs.Choice.{pick, both}
+use Rattle.fields.specs.Choice.{pick}
 use Rattle.fields.proofs.Choices.{both-split}
 use Rattle.measures.specs.declared.Measures.{Measures}
-use Rattle.index.specs.Meaning.{Entry, Meaning, numbers, named, below}
+use Rattle.index.specs.Meaning.{Entry, Meaning, numbers, below}
 use Rattle.index.specs.Bounds.{bound}
 use Rattle.index.specs.Reading.{numbersAt, freeCount, readIndex, soundIndex}
-use Rattle.index.proofs.Sounding.{sound-apart}
-use Rattle.index.proofs.Keeping.{Keeps, rules-apart}
-use Rattle.index.proofs.Naming.{named-below, below-append}
-use Rattle.index_find.proofs.Free.{free-are, free-many, free-lie}
+use Rattle.index.proofs.Sounding.{sound-below}
+use Rattle.index.proofs.Taking.{free-are}
+use Rattle.index_find.proofs.Free.{free-many, free-lie}
 use Rattle.area.specs.Content.{indexIn, dataIn, contentOf, fill, recordsOf}
 use Rattle.area.specs.Soundness.{soundUsed, unsoundFree, unsoundUsed, unsoundData, lowest}
 use Rattle.area.specs.Reading.{readArea}
@@ -27,12 +26,7 @@ use Rattle.area_read.proofs.Lows.{lowest-append, none-low}
 -- the numbers of a sound record are below n
 module _ (K n : ℕ) (ib : List ℕ) (h : soundIndex 1 K n [] [] ib ≡ true) where
   numbers-below : (below n (readIndex 1 n ib .free) ≡ true) × (below n (numbers (readIndex 1 n ib .entries)) ≡ true)
-  numbers-below =
-      let s = sound-apart 1 K n [] [] ib h in
-      let k : Keeps (length ib) K n [] [] (readIndex 1 n ib) = rules-apart (length ib) K n [] [] (readIndex 1 n ib) (s .rules) in
-      let m : Meaning = readIndex 1 n ib in
-      let b : both (below n (m .free)) (below n (numbers (m .entries))) ≡ true = sym (below-append n (m .free) (numbers (m .entries))) ∙ named-below n (named m) (k .naming) in
-      both-split (below n (m .free)) (below n (numbers (m .entries))) b
+  numbers-below = sound-below 1 K n [] [] ib h
 
   -- the free ones, as they are read and as the walk asks them
   pub record Frees (free : ℕ) : Type 0 where

@@ -1,5 +1,5 @@
 -- A division carried out: the separators of its cuts, the index record that it asks for, the area that its stores leave.
-use Prim.Native.Nat.{ℕ, zero, suc, _+_, _-_, _*_, _≤_, _<_}
+use Prim.Native.Nat.{ℕ, suc, _+_, _-_, _*_, _≤_, _<_}
 use mathlib.Core.Path.{_≡_, refl, _∙_, sym, ap}
 use mathlib.Core.Bool.{Bool, true, false}
 use mathlib.Core.List.{List, [], _∷_, _++_, map}
@@ -8,20 +8,22 @@ use lib.Seq.{length-take-le, length-front, take-all, getD-take, getD-drop}
 use lib.Dec.{ltb}
 use native.Mathlib.Omega.{arith}
 use native.Mathlib.Nat.{mul-le-mul-right, min-le-left}
-use borrow.Author.Tests.{ltb-true, ltb-false, lt-ltb}
+use borrow.Author.Tests.{ltb-true, ltb-false}
 use Rattle.fields.specs.Choice.{pick, both}
 use Rattle.fields.specs.Bytes.{part, splice}
 use Rattle.fields.proofs.Choices.{both-split}
+use Rattle.fields.proofs.Splices.{part-left, mid-splice}
 use Rattle.measures.specs.declared.Measures.{Measures}
 use Rattle.room.specs.Room.{need}
 use Rattle.interval.specs.Records.{keyOf}
 use Rattle.interval.specs.Reading.{cut}
 use Rattle.interval.specs.Layout.{form}
+use Rattle.interval.proofs.Cutting.{length-cut}
 use Rattle.index.specs.Bounds.{cutSeparator}
-use Rattle.index.specs.Meaning.{Meaning, named, numbers, below}
+use Rattle.index.specs.Meaning.{Meaning, below}
 use Rattle.index.specs.Form.{indexSize, indexBytes}
 use Rattle.index.specs.Reading.{readIndex}
-use Rattle.index.proofs.Naming.{named-below, below-append}
+use Rattle.index.proofs.Naming.{both-below}
 use Rattle.index_write.specs.Divided.{cuts, dividedAt, newMeaning}
 use Rattle.index_write.specs.Flat.{renewed}
 use Rattle.index_write.specs.Prepared.{Divisible, Prepared, Writable, heldIn}
@@ -30,27 +32,23 @@ use Rattle.index_write.proofs.Joining.{can-write, written-new}
 use Rattle.division.specs.declared.Division.{Division}
 use Rattle.division.specs.declared.Division.the-variants.{Stays, Two, Three}
 use Rattle.division.specs.Division.{counts, divisionOf, parts, pieces}
-use Rattle.area.specs.Content.{Filled, Content, entriesOf, meaningOf}
+use Rattle.area.specs.Content.{Filled, Content, meaningOf}
 use Rattle.area.specs.Reading.{readArea, whole, width}
-use Rattle.area.proofs.Parts.{part-left}
-use Rattle.area.proofs.Sounding.{Sound, sound-apart, sound-reads, sound-rules}
+use Rattle.area.proofs.Sounding.{Sound, sound-apart, sound-reads, sound-rules, same-content}
+use Rattle.area.proofs.Filling.{length-entries}
 use Rattle.area_read.specs.Measured.{Measured}
 use Rattle.change.specs.Stores.{Store, stored}
 use Rattle.change.specs.Parts.{Edit, entryAt, edited, divided, lastOf, firstOf, cutsOf, taken}
 use Rattle.change.specs.Plan.{stores, noInterval, noRoom, planOf, indexAfter, takenStores, storesOf}
 use Rattle.change.proofs.Planning.{refuse-interval, refuse-room, make-stores}
 use Rattle.change.proofs.Indexing.{length-taken}
-use Rattle.change.proofs.Taking.{length-more}
+use Rattle.change.proofs.Taking.{length-more, taken-below}
+use Rattle.change.proofs.Storing.{stored-append}
 use Rattle.carry_out.specs.Asked.{stretch, Cuttable, separatorAt, partsAt, AllFit, Entered, Divides, Writable as PartWritable}
 use Rattle.carry_out.specs.Carried.{Carries, FreeCounted, EnoughFree, TakenStored, MadeDivided}
 use Rattle.carry_out.specs.declared.Made.the-variants.{NoInterval, NoRoom, Written}
 
 -- ---- the cuts
-
-length-cut : (b ls : List ℕ) → length (cut b ls) ≡ length ls
-unfolding cut
-length-cut b [] = refl
-length-cut b (l ∷ ls) = rw (length-cut (drop l b) ls)
 
 -- the records on both sides of a cut
 last-take : (rs : List (List ℕ)) (k : ℕ) → 0 < k → k ≤ length rs → lastOf (take k rs) ≡ getD rs (k - 1) []
@@ -130,10 +128,6 @@ cuts-are m bytes lens three first second filled e f s o h = ap (cutsOf m) h ∙ 
 
 -- ---- the content
 
--- An area reads as one content at most.
-pub same-content : (m : Measures) (n : ℕ) (area : List ℕ) (c d : Content) → readArea m n area ≡ whole c → readArea m n area ≡ whole d → c ≡ d
-same-content m n area c d p q = let w : whole c ≡ whole d = sym p ∙ q in cc
-
 -- what a test picks
 pub picks-two : (t : Bool) (k : ℕ) → t ≡ true → k ≡ 2 → k ≡ pick t 2 1
 picks-two t k h e = e ∙ rw h
@@ -157,11 +151,6 @@ cuts-many false s t = refl
 some-more : (three : Bool) → 1 ≤ pick {A = ℕ} three 2 1
 some-more true = omega arith
 some-more false = omega arith
-
-length-entriesOf : (fs : List Filled) → length (entriesOf fs) ≡ length fs
-unfolding entriesOf
-length-entriesOf [] = refl
-length-entriesOf (f ∷ fs) = rw (length-entriesOf fs)
 
 -- ---- the refusals
 
@@ -203,7 +192,7 @@ divisible m n area entry number three first second s l x d enough hs hl hx =
       large = omega (arith, k, b .large);
       few = b .few;
       old = record { key = m .key; short = b .key-most; sound = o .index };
-      there = rw r (omega (arith, length-entriesOf (c .filled), d .there));
+      there = rw r (omega (arith, length-entries (c .filled), d .there));
       free = rw (r, cuts-many three first second) (enough c (d .reads));
       seps = omega (arith, b .few);
       lens = omega (arith, b .few);
@@ -211,34 +200,6 @@ divisible m n area entry number three first second s l x d enough hs hl hx =
     }
 
 -- ---- the stores
-
-stored-append : (S : ℕ) (area : List ℕ) (xs ys : List Store) → stored S area (xs ++ ys) ≡ stored S (stored S area xs) ys
-unfolding stored
-stored-append S area [] ys = refl
-stored-append S area (x ∷ xs) ys = stored-append S (splice area (x .at * S) (x .bytes)) xs ys
-
-below-at : (n : ℕ) (xs : List ℕ) (i : ℕ) → below n xs ≡ true → i < length xs → getD xs i 0 < n
-unfolding below
-below-at n [] i h l = absurd (omega arith)
-below-at n (x ∷ xs) zero h l = ltb-true x n (both-split (ltb x n) (below n xs) h .0)
-below-at n (x ∷ xs) (suc i) h l = below-at n xs i (both-split (ltb x n) (below n xs) h .1) (omega arith)
-
-below-take : (n k : ℕ) (xs : List ℕ) → below n xs ≡ true → below n (take k xs) ≡ true
-unfolding below
-below-take n zero xs h = refl
-below-take n (suc k) [] h = refl
-below-take n (suc k) (x ∷ xs) h =
-    let s = both-split (ltb x n) (below n xs) h in
-    rw (s .0) (below-take n k xs (s .1))
-
--- The numbers taken are below n.
-taken-below : (n k : ℕ) (free : List ℕ) → below n free ≡ true → k ≤ length free → below n (taken k free) ≡ true
-unfolding below taken
-taken-below n zero free h l = refl
-taken-below n (suc k) free h l =
-    let a : getD free (length free - 1) 0 < n = below-at n free (length free - 1) h (omega arith) in
-    let t : length (take (length free - 1) free) ≡ length free - 1 = length-take-le (length free - 1) free (omega arith) in
-    rw (lt-ltb _ _ a) (taken-below n k (take (length free - 1) free) (below-take n (length free - 1) free h) (omega arith))
 
 splice-longer : (b : List ℕ) (a : ℕ) (new : List ℕ) → a ≤ length b → length b ≤ length (splice b a new)
 unfolding splice
@@ -265,19 +226,10 @@ pub index-stays : (m : Measures) (n : ℕ) (area : List ℕ) (c : Content) (k : 
     → k ≤ length (c .free) → after ≡ stored (m .size) area (takenStores (m .size) (taken k (c .free)) ps) → take (m .size) after ≡ take (m .size) area
 index-stays m n area c k ps after b r h a =
     let o : Sound m n area c = sound-apart m n area c r in
-    let f : below n (c .free) ≡ true =
-    both-split (below n (c .free)) (below n (numbers (entriesOf (c .filled))))
-    (sym (below-append n (c .free) (numbers (entriesOf (c .filled)))) ∙ named-below n (named (meaningOf c)) (sound-rules m n area c o .naming)) .0 in
+    let f : below n (c .free) ≡ true = both-below n (meaningOf c) (sound-rules m n area c o .naming) .0 in
     rw a (taken-index (m .size) n (taken k (c .free)) ps area (taken-below n k (c .free) f h) (omega (arith, b .bytes)))
 
 -- ---- what is written
-
--- A record that was lent from the front, and has come back, is a splice.
-front-splice : (xs ys : List ℕ) (k : ℕ) → length ys ≡ k → ys ++ drop k xs ≡ splice xs 0 ys
-unfolding splice
-front-splice xs ys k h =
-    let z : 0 + length ys ≡ k = omega arith in
-    rw z
 
 module _ (m : Measures) (c : Content) (e : Edit) (area : List ℕ) (room : indexSize 1 (indexAfter m c e) ≤ m .size - 7) where
   all-stored : (p q : List (List ℕ)) (ps : List (List (List ℕ))) (middle after : List ℕ) → divided m (c .filled) e ≡ p ∷ q ∷ ps → length (q ∷ ps) ≤ length (c .free)
@@ -394,7 +346,7 @@ module _ (m : Measures) (n : ℕ) (area : List ℕ) (entry number : ℕ) (bytes 
           front = let z : first - 0 ≡ first = omega arith in rw z
 
           left : after ≡ splice (splice middle 0 (indexBytes width (m .size) (indexAfter m c e))) ((entryAt (c .filled) (e .entry) .num + 1) * m .size) (form (m .size) (take first rs))
-          left = h ∙ rw (front-splice middle ib (m .size) long, front, ← named-so, is-new)
+          left = h ∙ rw (mid-splice middle ib 0 (m .size) long, front, ← named-so, is-new)
 
           fits : indexSize 1 (indexAfter m c e) ≤ m .size - 7
           fits = omega (arith, size-is c e r i q)

@@ -16,14 +16,13 @@ use Rattle.scratch.proofs.Laws.{changed-flat}
 use Rattle.area.specs.Content.{Filled, Content, dataIn, fill, entriesOf}
 use Rattle.area.specs.Reading.{readArea, whole}
 use Rattle.area.proofs.Filling.{length-fill}
-use Rattle.area.proofs.Sounding.{sound-apart, sound-filled}
+use Rattle.area.proofs.Sounding.{sound-apart, sound-filled, same-content}
 use Rattle.area_read.proofs.Places.{lent-data}
 use Rattle.seek.proofs.Readables.{readable}
 use Rattle.change.specs.Parts.{Edit, entryAt, edited}
 use Rattle.carry_out.specs.Asked.{Ready, Edits}
 use Rattle.carry_out.specs.Carried.{MadeOf, MadeEdit}
 use Rattle.carry_out.specs.declared.Made.{Made}
-use Rattle.carry_out.proofs.Spreading.{whole-same}
 
 -- ---- an entry holds what its interval holds
 
@@ -101,7 +100,7 @@ module _ (m : Measures) (n : ℕ) (area : List ℕ) (entry number ordinal start 
     pub edit-made : (made : Made) (after : List ℕ) → MadeOf m n area entry ordinal (take (f .bytes) bytes) (take (f .count) lens) made after
         → MadeEdit m n area entry ordinal gone fresh made after
     edit-made made after a k w =
-        let same : k ≡ d .entered .content = whole-same k (d .entered .content) (sym w ∙ d .entered .reads) in
+        let same : k ≡ d .entered .content = same-content m n area k (d .entered .content) w (d .entered .reads) in
         a k edit w refl refl (rw same flat)
 
 -- A record that comes in is small.

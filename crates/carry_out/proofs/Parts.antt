@@ -1,35 +1,23 @@
 -- Laws of records laid end to end: a stretch of them, and the keys at a cut.
 use Prim.Native.Nat.{ℕ, zero, suc, _+_, _-_, _≤_, _<_}
-use mathlib.Core.Path.{_≡_, refl, _∙_, sym, ap}
+use mathlib.Core.Path.{_≡_, _∙_, sym, ap}
 use mathlib.Core.Bool.{true}
 use mathlib.Core.List.{List, [], _∷_}
 use lib.ListN.{length, getD, take, drop, length-take, length-drop}
-use lib.Seq.{take-all, length-take-le, take-take, take-add, drop-drop}
+use lib.Seq.{length-take-le, take-take, take-add}
 use native.Mathlib.Omega.{arith}
 use Rattle.fields.specs.Bytes.{part}
+use Rattle.fields.proofs.Splices.{part-part, part-is}
 use Rattle.measures.specs.declared.Measures.{Measures}
 use Rattle.room.specs.Room.{sum}
 use Rattle.room.proofs.Laws.{sum-append}
 use Rattle.interval.specs.Records.{keyOf, allWithin}
 use Rattle.interval.specs.Reading.{cut}
-use Rattle.interval.proofs.Cutting.{cut-concat, concat-cut, map-length-cut}
-use Rattle.interval.proofs.Keys.{key-part, within-low, within-rest}
+use Rattle.interval.proofs.Cutting.{record-at}
+use Rattle.interval.proofs.Keys.{within-low, within-rest}
 use Rattle.index.specs.Bounds.{cutSeparator}
-use Rattle.division.specs.Changed.{Flat}
-use Rattle.division.proofs.Changed.{flat-part, sum-all}
-use Rattle.area_read.proofs.Places.{part-is}
+use Rattle.division.proofs.Changed.{flat-part, sum-all, flat-cut, cut-flat}
 use Rattle.carry_out.specs.Asked.{stretch, Laid, Cuttable, separatorAt}
-
--- Bytes cut by lengths that take them all are those records, and are cut in no other way.
-pub flat-cut : (bytes lens : List ℕ) → sum lens ≡ length bytes → Flat bytes lens (cut bytes lens)
-flat-cut bytes lens h =
-    record {
-      bytes-are = sym (concat-cut bytes lens (omega arith) ∙ take-all (sum lens) bytes (omega arith));
-      lens-are = sym (map-length-cut bytes lens (omega arith));
-    }
-
-pub cut-flat : (bytes lens : List ℕ) (rs : List (List ℕ)) → Flat bytes lens rs → cut bytes lens ≡ rs
-cut-flat bytes lens rs f = rw (f .bytes-are, f .lens-are) (cut-concat rs)
 
 -- The records from `first` up to `last`: `many` bytes from place `from` on.
 module _ (bytes lens : List ℕ) (first last : ℕ) (o : Laid bytes lens) (from many : ℕ)
@@ -61,12 +49,6 @@ part-few lens first last h = omega (arith, length-take (last - first) (drop firs
 
 -- ---- record j of those laid
 
-record-at : (bytes lens : List ℕ) (j : ℕ) → j < length lens → getD (cut bytes lens) j [] ≡ take (getD lens j 0) (drop (sum (take j lens)) bytes)
-unfolding cut sum
-record-at bytes [] j h = absurd (omega arith)
-record-at bytes (l ∷ ls) zero h = refl
-record-at bytes (l ∷ ls) (suc j) h = record-at (drop l bytes) ls j (omega arith) ∙ rw (drop-drop (sum (take j ls)) l bytes)
-
 record-ends : (lens : List ℕ) (j : ℕ) → j < length lens → sum (take j lens) + getD lens j 0 ≤ sum lens
 unfolding sum
 record-ends [] j h = absurd (omega arith)
@@ -87,7 +69,7 @@ module _ (m : Measures) (bytes lens : List ℕ) (k : ℕ) (o : Cuttable m bytes 
   key-at : (j : ℕ) → j < length lens → keyOf m (getD (cut bytes lens) j []) ≡ part bytes (sum (take j lens) + m .offset) (m .key)
   key-at j h =
       rw (record-at bytes lens j h)
-      (key-part bytes (sum (take j lens)) (getD lens j 0) (m .offset) (m .key) (omega (arith, record-long (m .least) (m .most) lens j (o .fine) h, o .keyed)))
+      (part-part bytes (sum (take j lens)) (getD lens j 0) (m .offset) (m .key) (omega (arith, record-long (m .least) (m .most) lens j (o .fine) h, o .keyed)))
 
   pub small-offset : ((i : ℕ) → getD lens i 0 < 65536) → m .offset < 65536
   small-offset h = omega (arith, h k, record-long (m .least) (m .most) lens k (o .fine) (o .inside), o .keyed)

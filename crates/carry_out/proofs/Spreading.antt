@@ -11,7 +11,7 @@ use Rattle.measures.specs.declared.Measures.{Measures}
 use Rattle.room.specs.Room.{need}
 use Rattle.interval.specs.Layout.{form}
 use Rattle.interval.specs.Reading.{cut}
-use Rattle.interval.proofs.Cutting.{sum-lengths, cut-concat}
+use Rattle.interval.proofs.Cutting.{sum-lengths}
 use Rattle.division.specs.Division.{divisionOf, counts, parts, pieces}
 use Rattle.division.specs.Fewest.{AllHeld}
 use Rattle.division.specs.Changed.{Flat}
@@ -19,9 +19,10 @@ use Rattle.division.specs.declared.Division.the-variants.{Stays, Two, Three}
 use Rattle.division.proofs.Answers.{is-stays, is-two, two-fit}
 use Rattle.division.proofs.Spreads.{pieces-2}
 use Rattle.division.proofs.Intervals.{held-need}
-use Rattle.division.proofs.Changed.{map-take, map-drop}
+use Rattle.division.proofs.Changed.{map-take, map-drop, cut-flat}
 use Rattle.area.specs.Content.{Filled, Content}
 use Rattle.area.specs.Reading.{whole}
+use Rattle.area.proofs.Sounding.{same-content}
 use Rattle.area_read.proofs.Places.{data-ends}
 use Rattle.change.specs.Stores.{stored}
 use Rattle.change.specs.Parts.{Edit, entryAt, edited, divided}
@@ -51,10 +52,6 @@ take-some (suc k) xs h = omega arith
 -- ---- records laid end to end
 
 module _ (bytes lens : List ℕ) (rs : List (List ℕ)) (f : Flat bytes lens rs) where
-  -- They are cut apart again.
-  pub flat-cut : cut bytes lens ≡ rs
-  flat-cut = rw (f .bytes-are, f .lens-are) (cut-concat rs)
-
   pub flat-laid : length lens ≤ 32768 → Laid bytes lens
   flat-laid h = record { whole = rw (f .bytes-are, f .lens-are) (sum-lengths rs); few = h }
 
@@ -74,7 +71,7 @@ module _ (m : Measures) (fs : List Filled) (e : Edit) (bytes lens : List ℕ) (f
   by-lengths = ap (divisionOf (m .size)) (sym (f .lens-are))
 
   laid-is : cut bytes lens ≡ edited fs e
-  laid-is = flat-cut bytes lens (edited fs e) f
+  laid-is = cut-flat bytes lens (edited fs e) f
 
   divided-stays : divisionOf (m .size) lens ≡ Stays → divided m fs e ≡ cut bytes lens ∷ []
   unfolding divided
@@ -89,9 +86,6 @@ module _ (m : Measures) (fs : List Filled) (e : Edit) (bytes lens : List ℕ) (f
   divided-three at q d = rw (laid-is, by-lengths ∙ d, length-map (edited fs e) (length {A = ℕ}), ← q) (pieces-at (e .ordinal) (edited fs e))
 
 -- ---- what is asked
-
-pub whole-same : (c d : Content) → whole c ≡ whole d → c ≡ d
-whole-same c d e = cc
 
 module _ (m : Measures) (n : ℕ) (area : List ℕ) (entry number at : ℕ) (bytes lens : List ℕ) (r : Ready m n area entry number at bytes lens) where
   abbrev rs : List (List ℕ)
@@ -133,7 +127,7 @@ module _ (m : Measures) (n : ℕ) (area : List ℕ) (entry number at : ℕ) (byt
   three-parts : divisionOf (m .size) lens ≡ Three → divided m (r .entered .content .filled) (r .edit) ≡ partsAt true at (at + 1) rs
   three-parts d =
       divided-three m (r .entered .content .filled) (r .edit) bytes lens (r .flat) at (r .at-is) d
-      ∙ ap (partsAt true at (at + 1)) (flat-cut bytes lens rs (r .flat))
+      ∙ ap (partsAt true at (at + 1)) (cut-flat bytes lens rs (r .flat))
 
   three-filled : divisionOf (m .size) lens ≡ Three → (0 < at) × (at + 1 < length lens)
   three-filled d =
@@ -187,8 +181,8 @@ module _ (m : Measures) (n : ℕ) (area : List ℕ) (entry number at : ℕ) (byt
   unfolding stored
   stays-made after d a c e w q o f =
       let p = stays-plan c e (divided-stays m (c .filled) e bytes lens f d) in
-      let same : c ≡ r .entered .content = whole-same c (r .entered .content) (sym w ∙ r .entered .reads) in
+      let same : c ≡ r .entered .content = same-content m n area c (r .entered .content) w (r .entered .reads) in
       let i : entryAt (c .filled) (e .entry) .num ≡ number = rw (same, q) (sym (r .entered .is)) in
-      let many : length lens ≡ length (cut bytes lens) = flat-many bytes lens (edited (c .filled) e) f ∙ ap length (sym (flat-cut bytes lens (edited (c .filled) e) f)) in
+      let many : length lens ≡ length (cut bytes lens) = flat-many bytes lens (edited (c .filled) e) f ∙ ap length (sym (cut-flat bytes lens (edited (c .filled) e) f)) in
       let s : stretch 0 (length lens) (cut bytes lens) ≡ cut bytes lens = stretch-all (length lens) (cut bytes lens) many in
       rw p (record { answers = refl; leaves = rw i (a ∙ rw s) })

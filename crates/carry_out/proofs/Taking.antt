@@ -13,6 +13,7 @@ use Rattle.measures.specs.declared.Measures.{Measures}
 use Rattle.room.specs.Room.{need}
 use Rattle.interval.specs.Layout.{form}
 use Rattle.interval.specs.Reading.{cut}
+use Rattle.interval.proofs.Cutting.{length-cut}
 use Rattle.index.specs.Meaning.{Meaning}
 use Rattle.index.specs.Reading.{unusedAt, freeCount, numbersAt}
 use Rattle.index.proofs.Sounding.{sound-apart as record-apart}
@@ -70,11 +71,6 @@ module _ (m : Measures) (n : ℕ) (area : List ℕ) (o : Measured m n area) (r :
   free-counted c e = omega (arith, is, unused-there m n area o, unused-is m n area c e)
 
 -- ---- the later parts
-
-length-cut : (bytes lens : List ℕ) → length (cut bytes lens) ≡ length lens
-unfolding cut
-length-cut bytes [] = refl
-length-cut bytes (l ∷ ls) = rw (length-cut (drop l bytes) ls)
 
 stretch-end : {A : Type 0} (first k : ℕ) (xs : List A) → length xs ≡ k → stretch first k xs ≡ drop first xs
 stretch-end first k xs h = take-all (k - first) (drop first xs) (omega (arith, length-drop first xs, h))

@@ -1,7 +1,7 @@
 -- Records whose keys lie between two bounds, and a cut in them: its separator's bound lies between what is left of it and what is right of it.
 use Prim.Native.Nat.{ℕ, zero, suc, _+_, _-_, _≤_, _<_}
-use mathlib.Core.Path.{_≡_, refl, _∙_, sym}
-use mathlib.Core.Bool.{Bool, true, false}
+use mathlib.Core.Path.{_≡_, refl}
+use mathlib.Core.Bool.{true, false}
 use mathlib.Core.List.{List, [], _∷_, _++_, map, map-append}
 use lib.ListN.{length, getD}
 use lib.Seq.{take-append-seam, drop-append-seam}
@@ -9,19 +9,16 @@ use native.Mathlib.Omega.{arith}
 use Rattle.fields.specs.Choice.{no}
 use Rattle.fields.specs.Bytes.{Octets}
 use Rattle.fields.specs.Order.{less}
-use Rattle.fields.proofs.Choices.{false-true, both-split, both-join}
-use Rattle.fields.proofs.Orders.{octets-drop, less-asym, less-trans}
-use Rattle.fields.proofs.Splices.{length-mid}
+use Rattle.fields.proofs.Choices.{both-split, both-join, no-true}
+use Rattle.fields.proofs.Orders.{less-asym, at-most}
+use Rattle.fields.proofs.Octets.{octets-nil, octets-take, octets-drop, octets-part}
 use Rattle.measures.specs.declared.Measures.{Measures}
-use Rattle.interval.specs.Records.{concat, keyOf, keysOf, within, allWithin, ascendFrom, ascending, above, upTo, lengthsFine}
-use Rattle.interval.proofs.Octets.{octets-nil, octets-take}
-use Rattle.interval.proofs.Keys.{within-low, within-rest}
-use Rattle.interval_find.proofs.Search.{ascend-above}
+use Rattle.interval.specs.Records.{concat, keyOf, keysOf, within, ascendFrom, ascending, above, upTo, lengthsFine}
+use Rattle.interval.proofs.Keys.{within-append, key-long, fine-at}
+use Rattle.interval.proofs.Ascending.{above-append, up-append, ascend-above}
 use Rattle.index.specs.Bounds.{bound, cutSeparator}
-use Rattle.index.proofs.Filling.{octets-part}
 use Rattle.index.proofs.Cutting.{cut-below, cut-above}
 use Rattle.division.proofs.Changed.{concat-append}
-use Rattle.area.proofs.Ascending.{no-true}
 use Rattle.change.specs.Parts.{lastOf, firstOf}
 
 -- Records of bytes, with lengths that the measures allow; their keys strictly ascend, above the bound before and up to the bound after.
@@ -50,43 +47,7 @@ octets-apart xs ys o = (rw (take-append-seam xs ys) at (octets-take (length xs) 
 pub concat-octets : (xs ys : List (List ℕ)) → Octets (concat (xs ++ ys)) → Octets (concat xs) × Octets (concat ys)
 concat-octets xs ys o = octets-apart (concat xs) (concat ys) (rw (concat-append xs ys) at o)
 
-above-append : (low : List ℕ) (xs ys : List (List ℕ)) → above low (xs ++ ys) ≡ true → (above low xs ≡ true) × (above low ys ≡ true)
-unfolding above
-above-append low [] ys h = (refl, h)
-above-append low (x ∷ xs) ys h =
-    let s = both-split (less low x) (above low (xs ++ ys)) h in
-    let r = above-append low xs ys (s .1) in
-    (both-join (less low x) (above low xs) (s .0) (r .0), r .1)
-
-upTo-append : (high : List ℕ) (xs ys : List (List ℕ)) → upTo high (xs ++ ys) ≡ true → (upTo high xs ≡ true) × (upTo high ys ≡ true)
-unfolding upTo
-upTo-append high [] ys h = (refl, h)
-upTo-append high (x ∷ xs) ys h =
-    let s = both-split (no (less high x)) (upTo high (xs ++ ys)) h in
-    let r = upTo-append high xs ys (s .1) in
-    (both-join (no (less high x)) (upTo high xs) (s .0) (r .0), r .1)
-
-pub within-append : (least most : ℕ) (xs ys : List ℕ) → allWithin least most (xs ++ ys) ≡ true → (allWithin least most xs ≡ true) × (allWithin least most ys ≡ true)
-unfolding allWithin
-within-append least most [] ys h = (refl, h)
-within-append least most (x ∷ xs) ys h =
-    let s = both-split (within least most x) (allWithin least most (xs ++ ys)) h in
-    let r = within-append least most xs ys (s .1) in
-    (both-join (within least most x) (allWithin least most xs) (s .0) (r .0), r .1)
-
-pub within-join : (least most : ℕ) (xs ys : List ℕ) → allWithin least most xs ≡ true → allWithin least most ys ≡ true → allWithin least most (xs ++ ys) ≡ true
-unfolding allWithin
-within-join least most [] ys h k = k
-within-join least most (x ∷ xs) ys h k =
-    let s = both-split (within least most x) (allWithin least most xs) h in
-    both-join (within least most x) (allWithin least most (xs ++ ys)) (s .0) (within-join least most xs ys (s .1) k)
-
 -- ---- one record
-
-pub fine-at : (m : Measures) (rs : List (List ℕ)) (i : ℕ) → lengthsFine m rs ≡ true → i < length rs → m .least ≤ length (getD rs i [])
-fine-at m [] i f h = absurd (omega arith)
-fine-at m (r ∷ rs) zero f h = within-low (m .least) (m .most) (length r) (map length rs) f
-fine-at m (r ∷ rs) (suc i) f h = fine-at m rs i (within-rest (m .least) (m .most) (length r) (map length rs) f) (omega arith)
 
 pub octets-at : (rs : List (List ℕ)) (i : ℕ) → Octets (concat rs) → Octets (getD rs i [])
 unfolding concat
@@ -101,14 +62,6 @@ above-at m low (r ∷ rs) zero a h = both-split (less low (keyOf m r)) (above lo
 above-at m low (r ∷ rs) (suc i) a h = above-at m low rs i (both-split (less low (keyOf m r)) (above low (keysOf m rs)) a .1) (omega arith)
 
 -- ---- a cut
-
--- what is below something that is at most a bound is at most the bound
-at-most : (b x y : List ℕ) → less x y ≡ true → less b y ≡ false → less b x ≡ false
-at-most b x y l h = go (less b x) refl
-  where
-    go : (t : Bool) → less b x ≡ t → t ≡ false
-    go false e = refl
-    go true e = absurd (false-true (sym h ∙ less-trans b x y e l))
 
 -- Keys that ascend on both sides of a cut ascend over it.
 over-cut : (m : Measures) (r : List ℕ) (p : List (List ℕ)) (q : List ℕ) (qs : List (List ℕ)) → ascendFrom (keyOf m r) (keysOf m (p ++ (q ∷ qs))) ≡ true
@@ -143,10 +96,6 @@ first-lowest m low q qs h l =
 first-at-most : (m : Measures) (high q : List ℕ) (qs : List (List ℕ)) → upTo high (keysOf m (q ∷ qs)) ≡ true → less high (keyOf m q) ≡ false
 unfolding upTo
 first-at-most m high q qs h = no-true (less high (keyOf m q)) (both-split (no (less high (keyOf m q))) (upTo high (keysOf m qs)) h .0)
-
--- the key of a record that is long enough has the key's length
-key-long : (m : Measures) (r : List ℕ) → m .offset + m .key ≤ length r → length (keyOf m r) ≡ m .key
-key-long m r h = length-mid r (m .offset) (m .key) h
 
 -- What a cut makes of records between two bounds: left of it they go up to the bound of its separator, right of it they lie above that.
 pub record Cut (m : Measures) (low high left right : List ℕ) (p qs : List (List ℕ)) : Type 0 where
@@ -186,16 +135,16 @@ cut-here m low high inside r p q qs b =
     a = over-cut m r p q qs (b .ascend)
 
     l : (above low (keysOf m (r ∷ p)) ≡ true) × (above low (keysOf m (q ∷ qs)) ≡ true)
-    l = above-append low (keysOf m (r ∷ p)) (keysOf m (q ∷ qs)) (rw (map-append (keyOf m) (r ∷ p) (q ∷ qs)) at (b .after))
+    l = both-split (above low (keysOf m (r ∷ p))) (above low (keysOf m (q ∷ qs))) (rw (map-append (keyOf m) (r ∷ p) (q ∷ qs), above-append low (keysOf m (r ∷ p)) (keysOf m (q ∷ qs))) at (b .after))
 
     h : (upTo high (keysOf m (r ∷ p)) ≡ true) × (upTo high (keysOf m (q ∷ qs)) ≡ true)
-    h = upTo-append high (keysOf m (r ∷ p)) (keysOf m (q ∷ qs)) (rw (map-append (keyOf m) (r ∷ p) (q ∷ qs)) at (b .within))
+    h = both-split (upTo high (keysOf m (r ∷ p))) (upTo high (keysOf m (q ∷ qs))) (rw (map-append (keyOf m) (r ∷ p) (q ∷ qs), up-append high (keysOf m (r ∷ p)) (keysOf m (q ∷ qs))) at (b .within))
 
     seam : Seam (m .key) low high left right
     seam =
         record {
-          long-left = key-long m (getD (r ∷ p) (length p) []) (omega (arith, fine-at m (r ∷ p) (length p) (f .0) (omega arith)));
-          long-right = key-long m q (omega (arith, fine-at m (q ∷ qs) 0 (f .1) (omega arith)));
+          long-left = key-long m (getD (r ∷ p) (length p) []) (omega (arith, fine-at (m .least) (m .most) (length p) (r ∷ p) (f .0) (omega arith)));
+          long-right = key-long m q (omega (arith, fine-at (m .least) (m .most) 0 (q ∷ qs) (f .1) (omega arith)));
           octets-left = octets-part (getD (r ∷ p) (length p) []) (m .offset) (m .key) (octets-at (r ∷ p) (length p) (o .0));
           octets-right = octets-part q (m .offset) (m .key) (octets-at (q ∷ qs) 0 (o .1));
           rising = a .1;

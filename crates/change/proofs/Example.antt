@@ -6,11 +6,11 @@ use lib.ListN.{length, replicate}
 use native.Mathlib.Omega.{arith}
 use Rattle.fields.specs.Bytes.{Octets}
 use Rattle.fields.specs.Order.{orderOf, common}
+use Rattle.fields.proofs.Octets.{octets-cons, octets-replicate}
 use Rattle.measures.specs.declared.Measures.{Measures}
 use Rattle.measures.specs.Judgement.{measures}
 use Rattle.room.specs.Room.{sum, rdfCount, push, groups, need, fits}
 use Rattle.interval.specs.Records.{allWithin, ascendFrom, ascending, above, upTo}
-use Rattle.interval.proofs.Octets.{octets-cons, octets-replicate}
 use Rattle.index.specs.Bounds.{bound, cutSeparator}
 use Rattle.index.specs.Rules.{boundBefore}
 use Rattle.index.specs.Form.{entrySize, entriesSize, indexSize}

@@ -6,12 +6,13 @@ use mathlib.Core.List.{List, [], _∷_, _++_, map}
 use lib.ListN.{length, take, drop, take-append-drop}
 use native.Mathlib.Omega.{arith}
 use Rattle.fields.specs.Bytes.{Octets}
+use Rattle.fields.proofs.Octets.{octets-append}
 use Rattle.measures.specs.declared.Measures.{Measures}
 use Rattle.room.specs.Room.{need}
 use Rattle.interval.specs.Records.{concat, allWithin, lengthsFine}
 use Rattle.interval.specs.Layout.{layout, LaidOut}
-use Rattle.interval.proofs.Octets.{octets-append}
 use Rattle.interval.proofs.Form.{smallest}
+use Rattle.interval.proofs.Keys.{within-append, within-join}
 use Rattle.division.specs.Changed.{swap}
 use Rattle.division.proofs.Changed.{concat-append, swap-lengths}
 use Rattle.area.specs.Content.{Filled, Content, dataIn}
@@ -20,7 +21,7 @@ use Rattle.area.proofs.Parts.{octets-data}
 use Rattle.area.proofs.Laying.{area-only-laid-out}
 use Rattle.change.specs.Parts.{Edit, entryAt, edited, divided}
 use Rattle.change.specs.Fitting.{lowOf, highOf, Fitting}
-use Rattle.change.proofs.Between.{Between, octets-apart, concat-octets, within-append, within-join}
+use Rattle.change.proofs.Between.{Between, octets-apart, concat-octets}
 use Rattle.change.proofs.Parting.{Parting, Ordered, some-parts, erase-one, change-parting}
 use Rattle.change.proofs.Laying.{used-here}
 

@@ -1,20 +1,19 @@
 -- The index record's meaning after a division: it is that of the new content, it keeps all rules, and it is written as bytes.
 use Prim.Native.Nat.{ℕ, zero, suc, _+_, _-_, _≤_, _<_}
-use mathlib.Core.Path.{_≡_, refl, _∙_, sym, ap}
+use mathlib.Core.Path.{_≡_, refl, _∙_, ap}
 use mathlib.Core.Bool.{true}
 use mathlib.Core.List.{List, [], _∷_, _++_, append-assoc}
 use lib.ListN.{length, getD, take, drop, replicate, length-drop}
-use lib.Seq.{take-suc, take-length, take-take, length-take-le, split-at}
+use lib.Seq.{take-length, take-take, length-take-le, split-at}
 use native.Mathlib.Numerals.{add-one}
 use native.Mathlib.Omega.{arith}
 use native.Mathlib.Nat.{sub-zero}
 use Rattle.fields.specs.Bytes.{Octets, digits}
 use Rattle.fields.specs.Order.{common}
-use Rattle.fields.proofs.Orders.{octets-drop}
 use Rattle.fields.proofs.Fronts.{common-right}
+use Rattle.fields.proofs.Octets.{octets-nil, octets-cons, octets-append, octets-take, octets-drop, octets-part, octets-replicate, octets-digits}
 use Rattle.measures.specs.declared.Measures.{Measures}
 use Rattle.interval.specs.Records.{keyOf}
-use Rattle.interval.proofs.Octets.{octets-nil, octets-cons, octets-append, octets-take, octets-replicate, octets-digits}
 use Rattle.index.specs.Bounds.{bound, cutSeparator}
 use Rattle.index.specs.Meaning.{Entry, Meaning, numbers}
 use Rattle.index.specs.Rules.{rises, keepsRules, boundBefore}
@@ -22,13 +21,12 @@ use Rattle.index.specs.Layout.{pieceBytes, piecesBytes, freeBytes, unusedPlace,
 use Rattle.index.specs.Form.{pack, packed, indexSize, indexBytes}
 use Rattle.index.proofs.Keeping.{separator-short, rises-apart}
 use Rattle.index.specs.Reading.{readIndex}
-use Rattle.index.proofs.Filling.{octets-part}
 use Rattle.index.proofs.Closing.{SeparatorsOctets, read-octets}
 use Rattle.index.proofs.Inserting.{entry, before-snoc}
-use Rattle.index.proofs.Dividing.{ready, divided, divided-keeps}
+use Rattle.index.proofs.Dividing.{ready, divided, divided-keeps, rightmost}
 use Rattle.index_write.specs.Divided.{partsOf, dividedAt}
 use Rattle.area.specs.Content.{Filled, Content, entriesOf, meaningOf}
-use Rattle.area.proofs.Filling.{entriesOf-append}
+use Rattle.area.proofs.Filling.{entriesOf-append, entries-take, entries-drop}
 use Rattle.change.specs.Parts.{entryAt, lastOf, firstOf, cutsOf, taken}
 use Rattle.change.specs.Content.{filledWith, partedAt}
 use Rattle.change.proofs.Between.{Seam}
@@ -39,18 +37,6 @@ use Rattle.change.proofs.Parting.{Ordered, ordered-cut, ordered-rest}
 abbrev pub entryOf : Filled → Entry
 entryOf f = entry (f .sep) (f .num)
 
-pub entriesOf-take : (i : ℕ) (fs : List Filled) → entriesOf (take i fs) ≡ take i (entriesOf fs)
-unfolding entriesOf
-entriesOf-take zero fs = refl
-entriesOf-take (suc i) [] = refl
-entriesOf-take (suc i) (f ∷ fs) = rw (entriesOf-take i fs)
-
-pub entriesOf-drop : (i : ℕ) (fs : List Filled) → entriesOf (drop i fs) ≡ drop i (entriesOf fs)
-unfolding entriesOf
-entriesOf-drop zero fs = refl
-entriesOf-drop (suc i) [] = refl
-entriesOf-drop (suc i) (f ∷ fs) = entriesOf-drop i fs
-
 pub entriesOf-at : (i : ℕ) (fs : List Filled) → getD (entriesOf fs) i (record { sep = []; num = 0 }) ≡ entryOf (entryAt fs i)
 unfolding entriesOf
 entriesOf-at i [] = refl
@@ -58,6 +44,9 @@ entriesOf-at zero (f ∷ fs) = refl
 entriesOf-at (suc i) (f ∷ fs) = entriesOf-at i fs
 
 -- ---- the entries of the parts
+
+pub less-one : (k : ℕ) → suc k - 1 ≡ k
+less-one k = omega arith
 
 -- There is one cut fewer than there are parts.
 pub length-cuts : (m : Measures) (p : List (List ℕ)) (ps : List (List (List ℕ))) → length (cutsOf m (p ∷ ps)) ≡ length ps
@@ -89,10 +78,7 @@ numbers-parts m free e p (q ∷ ps) = rw (numbers-parts m (take (length free - 1
 pub meaning-parted : (m : Measures) (c : Content) (i : ℕ) (p : List (List ℕ)) (ps : List (List (List ℕ)))
     → meaningOf (partedAt m c i (p ∷ ps)) ≡ dividedAt (meaningOf c) i (cutsOf m (p ∷ ps))
 unfolding partedAt dividedAt
-meaning-parted m c i p ps = rw (length-cuts m p ps, less-one, entriesOf-append, entriesOf-append, entries-parts, entriesOf-take, entriesOf-drop, entriesOf-at)
-  where
-    less-one : suc (length ps) - 1 ≡ length ps
-    less-one = omega arith
+meaning-parted m c i p ps = rw (length-cuts m p ps, less-one (length ps), entriesOf-append, entriesOf-append, entries-parts, entries-take, entries-drop, entriesOf-at)
 
 -- ---- the entry that is changed
 
@@ -113,12 +99,6 @@ module _ (c : Content) (i : ℕ) (h : i < length (c .filled)) where
   meaning-one m p = rw (sub-zero (length (c .free)), take-length (c .free), entriesOf-append, entries-around)
 
 -- ---- the rules
-
--- free numbers without the rightmost, and it
-free-last : (free : List ℕ) → 0 < length free → free ≡ take (length free - 1) free ++ (getD free (length free - 1) 0 ∷ [])
-free-last free h =
-    let e : length free ≡ suc (length free - 1) = omega arith in
-    sym (take-length free) ∙ ap (λ (n : ℕ). take n free) e ∙ take-suc free (length free - 1) 0 (omega arith)
 
 -- and without several
 free-fewer : (free : List ℕ) (k : ℕ) → suc k ≤ length free
@@ -153,7 +133,7 @@ module _ (m : Measures) (S n : ℕ) (low end kept : List ℕ) (spare : ℕ) (ins
       let x : Entry = entry s (e .num) in
       let y : Entry = entry (e .sep) a in
       let c = ordered-cut m (boundBefore (m .key) low pre) (bound (m .key) (e .sep)) inside p q ps o in
-      let g : keepsRules S (m .key) n low end (ready kept spare f a pre e post) ≡ true = rw (free-last free (omega arith)) at r in
+      let g : keepsRules S (m .key) n low end (ready kept spare f a pre e post) ≡ true = rw (rightmost free (omega arith)) at r in
       let d : keepsRules S (m .key) n low end (record { kept = kept; spare = spare; free = f; entries = pre ++ (x ∷ y ∷ post) }) ≡ true =
       seam-keeps S (m .key) n low end kept spare f a pre e post (keyOf m (lastOf p)) (keyOf m (firstOf q)) (c .seam) g in
       let t : pre ++ (x ∷ y ∷ post) ≡ (pre ++ (x ∷ [])) ++ (y ∷ post) = simp append-assoc in
@@ -258,5 +238,5 @@ parted-bytes m c i h inside low high p ps o b =
     let new : List Entry = partsOf (cutsOf m (p ∷ ps)) (c .free) old in
     let s = separators-append pre (old ∷ post) (rw (entries-around c i h) at (b .separators)) in
     let t = parts-octets m low high inside (c .free) old p ps o (s .1 .0) in
-    rw (meaning-parted m c i p ps, ← entriesOf-take, ← entriesOf-drop, entriesOf-at)
+    rw (meaning-parted m c i p ps, ← entries-take, ← entries-drop, entriesOf-at)
     (record { kept = b .kept; spare = b .spare; separators = separators-join pre (new ++ post) (s .0) (separators-join new post t (s .1 .1)) })

@@ -25,16 +25,13 @@ use Rattle.change.specs.Fitting.{lowOf, highOf, Fitting}
 use Rattle.change.specs.Places.{placesOf, AllWritten, namedFor, OnlyNamed, Counted}
 use Rattle.change.proofs.Storing.{places-inside, stored-other, stored-there, stored-lent}
 use Rattle.change.proofs.Parting.{Ordered}
-use Rattle.change.proofs.Indexing.{length-taken}
+use Rattle.change.proofs.Indexing.{length-taken, less-one}
 use Rattle.change.proofs.Laying.{laid-parted}
 use Rattle.change.proofs.Taking.{length-more}
 use Rattle.change.proofs.Planning.{make-stores, planned}
 use Rattle.change.proofs.Making.{Making, parted-rules, one-index, making-one, more-places, more-index, making-more}
 use Rattle.change.proofs.After.{after-meaning, records-parted, counted-told}
 use Rattle.change.proofs.Fitted.{fit-laid, edited-parting, edited-ordered, erased-one, one-to-three}
-
-less-one : (k : ℕ) → suc k - 1 ≡ k
-less-one k = omega arith
 
 -- ---- whatever its plan
 

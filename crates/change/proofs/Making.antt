@@ -21,6 +21,7 @@ use Rattle.area.specs.Reading.{width}
 use Rattle.area.specs.Layout.{Lent, AreaLaidOut}
 use Rattle.area.proofs.Parts.{octets-index}
 use Rattle.area.proofs.Laying.{index-read}
+use Rattle.area.proofs.Filling.{entries-take, entries-drop}
 use Rattle.change.specs.Stores.{Store, stored}
 use Rattle.change.specs.Parts.{entryAt, taken}
 use Rattle.change.specs.Plan.{takenStores}
@@ -29,7 +30,7 @@ use Rattle.change.specs.Places.{placesOf, Apart, AllThere, AllWritten, n
 use Rattle.change.proofs.Apart.{these-below, these-apart}
 use Rattle.change.proofs.Storing.{Sized, AllSized, sized-append, there-append, stored-other, stored-there}
 use Rattle.change.proofs.Parting.{Ordered}
-use Rattle.change.proofs.Indexing.{entryOf, entriesOf-take, entriesOf-drop, entriesOf-at, length-cuts, length-taken, meaning-parted, entries-around, meaning-one, parts-keep, MeansBytes, read-bytes, index-octets, parted-bytes}
+use Rattle.change.proofs.Indexing.{entryOf, entriesOf-at, length-cuts, length-taken, meaning-parted, entries-around, meaning-one, parts-keep, MeansBytes, read-bytes, index-octets, parted-bytes}
 use Rattle.change.proofs.Laying.{parts-named}
 use Rattle.change.proofs.Taking.{places-append, taken-places, not-first, among-one, among-places, places-apart, AllBytes, parts-bytes, form-sized, taken-sized, taken-written}
 
@@ -66,7 +67,7 @@ module _ (m : Measures) (n : ℕ) (area : List ℕ) (lent : Lent m n area) (c : 
     pub parted-rules : keepsRules (m .size) (m .key) n [] [] (meaningOf (partedAt m c i (p ∷ ps))) ≡ true
     unfolding dividedAt
     parted-rules =
-        rw (meaning-parted m c i p ps, length-cuts m p ps, ← entriesOf-take, ← entriesOf-drop, entriesOf-at)
+        rw (meaning-parted m c i p ps, length-cuts m p ps, ← entries-take, ← entries-drop, entriesOf-at)
         (parts-keep m (m .size) n [] [] (c .kept) (c .spare) (lent .key-inside) (entriesOf (take i (c .filled))) (entryOf old)
         (entriesOf (drop (i + 1) (c .filled))) (c .free) p ps enough o
         (rw (entries-around c i h) at (laid .index .rules)))

@@ -10,10 +10,10 @@ use native.Mathlib.Omega.{arith}
 use native.Mathlib.Nat.{mul-le-mul-right}
 use borrow.Author.Tests.{ltb-true, ltb-false}
 use Rattle.fields.specs.Bytes.{Octets, part, splice}
-use Rattle.fields.proofs.Splices.{length-splice}
+use Rattle.fields.proofs.Splices.{length-splice, part-here, part-left, part-right}
+use Rattle.fields.proofs.Octets.{octets-store}
 use Rattle.measures.specs.declared.Measures.{Measures}
 use Rattle.area.specs.Layout.{Lent}
-use Rattle.area.proofs.Parts.{part-here, part-left, part-right, octets-store}
 use Rattle.change.specs.Stores.{Store, stored}
 use Rattle.change.specs.Places.{placesOf, Apart, AllThere}
 
@@ -115,3 +115,9 @@ stored-lent m n area ss lent z =
       key-most = lent .key-most;
       key-inside = lent .key-inside;
     }
+
+-- Some stores, then others.
+pub stored-append : (S : ℕ) (area : List ℕ) (xs ys : List Store) → stored S area (xs ++ ys) ≡ stored S (stored S area xs) ys
+unfolding stored
+stored-append S area [] ys = refl
+stored-append S area (x ∷ xs) ys = stored-append S (splice area (x .at * S) (x .bytes)) xs ys

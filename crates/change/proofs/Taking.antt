@@ -1,15 +1,20 @@
 -- The stores that a change makes: which intervals they name, that no interval is named twice, and what they leave there.
-use Prim.Native.Nat.{ℕ, _+_, _<_}
+use Prim.Native.Nat.{ℕ, _+_, _<_, zero, suc, _-_, _≤_}
 use mathlib.Core.Path.{_≡_, refl, sym}
 use mathlib.Core.List.{List, [], _∷_, _++_, List·Memᴰ, List·Memᴰ·head, List·Memᴰ·tail, List·Memᴰ·not-nil, List·Memᴰ·cases-cons, List·Memᴰ·eq-of-singleton}
 use mathlib.Core.Logic.{⊎-elim}
-use lib.ListN.{length, length-append}
+use lib.ListN.{length, length-append, getD, take}
 use native.Mathlib.Omega.{arith}
+use mathlib.Core.Bool.{true}
+use lib.Seq.{length-take-le}
+use borrow.Author.Tests.{lt-ltb}
 use Rattle.fields.specs.Bytes.{Octets}
 use Rattle.measures.specs.declared.Measures.{Measures}
 use Rattle.interval.specs.Records.{concat}
 use Rattle.interval.specs.Layout.{form}
 use Rattle.interval.proofs.Form.{length-form, form-octets}
+use Rattle.index.specs.Meaning.{below}
+use Rattle.index.proofs.Counting.{below-at, below-take}
 use Rattle.division.specs.Fewest.{joined, Held, AllHeld}
 use Rattle.division.proofs.Intervals.{held-need}
 use Rattle.change.specs.Stores.{Store}
@@ -17,6 +22,7 @@ use Rattle.change.specs.Plan.{takenStores}
 use Rattle.change.specs.Places.{placesOf, Apart, AllThere, AllWritten, nexts}
 use Rattle.change.proofs.Between.{concat-octets}
 use Rattle.change.proofs.Storing.{Sized, AllSized}
+use Rattle.change.specs.Parts.{taken}
 
 -- ---- where they stand
 
@@ -39,6 +45,15 @@ length-takenStores S (k ∷ ks) (p ∷ ps) e = rw (length-takenStores S ks ps (o
 -- With two stores more there are two more than parts.
 pub length-more : (S : ℕ) (ks : List ℕ) (ps : List (List (List ℕ))) (a b : Store) → length ks ≡ length ps → length (takenStores S ks ps ++ (a ∷ b ∷ [])) ≡ 2 + length ps
 length-more S ks ps a b e = omega (arith, length-append (takenStores S ks ps) (a ∷ b ∷ []), length-takenStores S ks ps e)
+
+-- The numbers taken are below n.
+pub taken-below : (n k : ℕ) (free : List ℕ) → below n free ≡ true → k ≤ length free → below n (taken k free) ≡ true
+unfolding below taken
+taken-below n zero free h l = refl
+taken-below n (suc k) free h l =
+    let a : getD free (length free - 1) 0 < n = below-at n free (length free - 1) h (omega arith) in
+    let t : length (take (length free - 1) free) ≡ length free - 1 = length-take-le (length free - 1) free (omega arith) in
+    rw (lt-ltb _ _ a) (taken-below n k (take (length free - 1) free) (below-take n (length free - 1) free h) (omega arith))
 
 -- A place after the index record's.
 pub not-first : (num : ℕ) → List·Memᴰ 0 ((num + 1) ∷ []) → ⊥

@@ -8,7 +8,7 @@ use native.Mathlib.Omega.{arith}
 use Rattle.fields.specs.Bytes.{Octets, part}
 use mathlib.Core.Bool.{Bool, true, false}
 use Rattle.fields.specs.Choice.{pick, both}
-use Rattle.index.proofs.Filling.{octets-part}
+use Rattle.fields.proofs.Octets.{octets-part}
 use Rattle.measures.specs.declared.Measures.{Measures}
 use Rattle.area.specs.Content.{Content, recordsOf}
 use Rattle.answers.specs.Answers.{numberOf}

@@ -11,7 +11,8 @@ use Rattle.fields.proofs.Splices.{splice-splice}
 use Rattle.room.specs.Room.{sum}
 use Rattle.room.proofs.Laws.{sum-append}
 use Rattle.interval.specs.Records.{concat}
-use Rattle.interval.proofs.Cutting.{sum-lengths}
+use Rattle.interval.proofs.Cutting.{sum-lengths, cut-concat, concat-cut, map-length-cut}
+use Rattle.interval.specs.Reading.{cut}
 use Rattle.division.specs.Changed.{swap, startOf, Flat}
 
 -- Parts of lists, under a function and put together.
@@ -135,6 +136,17 @@ flat-change bytes lens rs xs k c d g f e h =
         let p : d + g ≡ startOf (k + c) rs = h ∙ ap (λ (l : List ℕ). sum (take (k + c) l)) (f .lens-are) ∙ sym (start-sum (k + c) rs) in
         omega (arith, at)
 
+-- Bytes cut by lengths that take them all are those records, and are cut in no other way.
+pub flat-cut : (bytes lens : List ℕ) → sum lens ≡ length bytes → Flat bytes lens (cut bytes lens)
+flat-cut bytes lens h =
+    record {
+      bytes-are = sym (concat-cut bytes lens (omega arith) ∙ take-all (sum lens) bytes (omega arith));
+      lens-are = sym (map-length-cut bytes lens (omega arith));
+    }
+
+pub cut-flat : (bytes lens : List ℕ) (rs : List (List ℕ)) → Flat bytes lens rs → cut bytes lens ≡ rs
+cut-flat bytes lens rs f = rw (f .bytes-are, f .lens-are) (cut-concat rs)
+
 -- a part of the lengths, and the bytes that go with it, are those records
 pub flat-part : (bytes lens : List ℕ) (rs : List (List ℕ)) (b c : ℕ) → Flat bytes lens rs
     → Flat (take (sum (take c (drop b lens))) (drop (sum (take b lens)) bytes)) (take c (drop b lens)) (take c (drop b rs))
@@ -162,15 +174,3 @@ module _ (out old new : List ℕ) (at gone : ℕ) (inside : at + gone ≤ length
       → b ≡ splice a at new → c ≡ splice b 0 (take at old) → c ≡ splice out 0 (swap at gone new old)
   swapped a b c e f g =
       g ∙ rw (f, e, take-all (length old - (at + gone)) (drop (at + gone) old) (omega (arith, length-drop (at + gone) old))) three-copies
-
--- What was laid down lies at the front, and what lies behind it is as it was.
-module _ (b xs : List ℕ) where
-  pub splice-front : take (length xs) (splice b 0 xs) ≡ xs
-  unfolding splice
-  splice-front = take-append-seam xs (drop (0 + length xs) b)
-
-  pub splice-behind : drop (length xs) (splice b 0 xs) ≡ drop (length xs) b
-  unfolding splice
-  splice-behind =
-      let z : 0 + length xs ≡ length xs = omega arith in
-      drop-append-seam xs (drop (0 + length xs) b) ∙ rw z

@@ -23,6 +23,24 @@ pub both-false : (a : Bool) → both a false ≡ false
 both-false true = refl
 both-false false = refl
 
+pub both-true : (a : Bool) → both a true ≡ a
+both-true true = refl
+both-true false = refl
+
+pub both-assoc : (a b c : Bool) → both (both a b) c ≡ both a (both b c)
+both-assoc true b c = refl
+both-assoc false b c = refl
+
+-- a test that is denied fails
+pub no-true : (a : Bool) → no a ≡ true → a ≡ false
+no-true true e = sym e
+no-true false e = refl
+
+-- and so does one that cannot hold
+pub off : (a : Bool) → (a ≡ true → ⊥) → a ≡ false
+off true h = absurd (h refl)
+off false h = refl
+
 -- the other arm of a pick, where the first is ruled out
 pub pick-false : {A : Type 0} (b : Bool) (x y z : A) → pick b x y ≡ z → (x ≡ z → ⊥) → (b ≡ false) × (y ≡ z)
 pick-false true x y z e n = absurd (n e)

@@ -1,6 +1,7 @@
 pub mod Choices
 pub mod Splices
 pub mod Numbers
+pub mod Octets
 pub mod Orders
 pub mod Answers
 pub mod Fronts

@@ -5,7 +5,7 @@ use mathlib.Core.List.{List, [], _∷_, _++_, append-assoc, append-nil}
 use lib.ListN.{length, getD, take, drop, set, length-append, length-drop}
 use lib.Seq.{getD-append-seam, take-at, drop-at, take-suc, getD-drop, length-take-le}
 use native.Mathlib.Omega.{arith}
-use native.Mathlib.Nat.{div-add-mod', mod-eq-of-lt}
+use native.Mathlib.Nat.{div-add-mod', mod-eq-of-lt, mul-suc}
 use native.Mathlib.Numerals.{add-one}
 use Rattle.fields.specs.Bytes.{Octets, part, number, digits, splice}
 use Rattle.fields.proofs.Splices.{sets-splice, splice-nil, set-splice, length-splice}
@@ -133,3 +133,7 @@ two-is b i x y e f = rw (e, f) (sym (number-2 b i))
 
 pub two-stored : (b : List ℕ) (a x : ℕ) → a + 2 ≤ length b → x < 65536 → set (set b a (x / 256)) (a + 1) (x % 256) ≡ splice b a (digits 2 x)
 two-stored b a x h l = rw (digits-2 x l, add-one) (sets-splice (x / 256 ∷ x % 256 ∷ []) b a h)
+
+-- so many equal parts: one, and the others
+pub one-less : (w c : ℕ) → 0 < c → w * c ≡ w + w * (c - 1)
+one-less w c h = let e : c ≡ suc (c - 1) = omega arith in ap (λ (z : ℕ). w * z) e ∙ omega (arith, mul-suc w (c - 1))

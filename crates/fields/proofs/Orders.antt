@@ -1,24 +1,18 @@
 -- Laws of the order of byte lists.
-use Prim.Native.Nat.{ℕ, zero, suc, _+_, _-_, _*_, _≤_, _<_}
+use Prim.Native.Nat.{ℕ, _+_, _-_, _*_, _≤_, _<_}
 use mathlib.Core.Path.{_≡_, refl, _∙_, sym, ap}
 use mathlib.Core.Bool.{Bool, true, false}
 use mathlib.Core.List.{List, [], _∷_, _++_, append-assoc, append-nil}
 use mathlib.Core.Logic.{_⊎_, inl, inr, ⊎-elim}
-use lib.ListN.{length, getD, take, drop}
+use lib.ListN.{length, getD, take}
 use lib.Dec.{eqb, leb, ltb}
 use native.Mathlib.Omega.{arith}
 use borrow.Author.Tests.{ltb-true, ltb-false, lt-ltb, le-ltb}
 use Rattle.fields.specs.Choice.{pick}
-use Rattle.fields.specs.Bytes.{Octets}
 use Rattle.fields.specs.Order.{orderOf, isLess, less}
 use Rattle.fields.specs.declared.Order.{Order}
 use Rattle.fields.specs.declared.Order.the-variants.{Less, Same, Greater}
-use Rattle.fields.proofs.Choices.{false-true}
-
-pub octets-drop : (n : ℕ) (xs : List ℕ) → Octets xs → Octets (drop n xs)
-octets-drop zero xs o = o
-octets-drop (suc n) [] o = o
-octets-drop (suc n) (x ∷ xs) o = octets-drop n xs (λ i. o (suc i))
+use Rattle.fields.proofs.Choices.{false-true, off}
 
 -- the first difference decides: the order of two lists, then that of what follows them
 abbrev pub andThen : Order → Order → Order
@@ -171,3 +165,7 @@ less-le (x ∷ a) (y ∷ b) (z ∷ c) h k =
 -- transitive
 pub less-trans : (a b c : List ℕ) → less a b ≡ true → less b c ≡ true → less a c ≡ true
 less-trans a b c h k = le-less a b c (less-asym a b h) k
+
+-- what is below something at most b is at most b
+pub at-most : (b x y : List ℕ) → less x y ≡ true → less b y ≡ false → less b x ≡ false
+at-most b x y l h = off (less b x) (λ (e : less b x ≡ true). false-true (sym h ∙ less-trans b x y e l))

@@ -3,10 +3,10 @@ use Prim.Native.Nat.{ℕ, zero, suc, _+_, _-_, _*_, _≤_, _<_}
 use mathlib.Core.Path.{_≡_, refl, _∙_, sym, ap}
 use mathlib.Core.List.{List, [], _∷_, _++_, append-assoc, append-nil}
 use lib.ListN.{length, take, drop, getD, length-append, length-drop, take-append-drop, set, replicate, length-replicate}
-use lib.Seq.{sets, sets-eq, length-take-le, take-at, drop-at, drop-append-add, take-append-le, drop-drop, take-take, drop-cons, drop-length}
+use lib.Seq.{sets, sets-eq, length-take-le, take-at, drop-at, drop-append-add, take-append-le, drop-append-le, drop-drop, take-take, take-nil, drop-cons, drop-length}
 use native.Mathlib.Omega.{arith}
-use native.Mathlib.Nat.{add-assoc, add-zero}
-use Rattle.fields.specs.Bytes.{splice}
+use native.Mathlib.Nat.{add-assoc, add-zero, sub-zero}
+use Rattle.fields.specs.Bytes.{part, splice}
 
 pub sets-splice : (vs l : List ℕ) (i : ℕ) → i + length vs ≤ length l → sets l i vs ≡ splice l i vs
 unfolding splice
@@ -69,6 +69,10 @@ mid-splice xs ys a k h = rw (h, drop-drop)
 pub length-mid : (xs : List ℕ) (a k : ℕ) → a + k ≤ length xs → length (take k (drop a xs)) ≡ k
 length-mid xs a k h = length-take-le k (drop a xs) (simp length-drop (omega arith))
 
+-- a part as a slice shows it
+pub part-is : (xs : List ℕ) (a n : ℕ) → take (a + n - a) (drop a xs) ≡ part xs a n
+part-is xs a n = let z : a + n - a ≡ n = omega arith in rw z
+
 -- one value from the right
 module _ (b : List ℕ) (i to v : ℕ) (k : i ≤ to) (f : to ≤ length b) where
   pub filled-length : length (splice b i (replicate (to - i) v)) ≡ length b
@@ -101,3 +105,58 @@ module _ (d : List ℕ) (at : ℕ) (s : List ℕ) (i : ℕ) (fits : at + length 
       let e : suc (i - 1) ≡ i = omega arith in
       let l = length-drop i s in
       rw (drop-cons s (i - 1) 0 j, e) (set-splice d (at + (i - 1)) (at + i) (getD s (i - 1) 0) (drop i s) (omega arith) (omega arith))
+
+-- ---- parts of parts, and of bytes in which something was stored
+
+pub drop-take : (n m : ℕ) (xs : List ℕ) → drop n (take m xs) ≡ take (m - n) (drop n xs)
+drop-take zero m xs = simp sub-zero
+drop-take (suc n) zero xs =
+    let e : 0 - suc n ≡ 0 = omega arith in
+    rw e
+drop-take (suc n) (suc m) [] = rw take-nil
+drop-take (suc n) (suc m) (x ∷ xs) =
+    let e : suc m - suc n ≡ m - n = omega arith in
+    rw e (drop-take n m xs)
+
+-- a part of a part
+pub part-part : (xs : List ℕ) (a n s l : ℕ) → s + l ≤ n → part (part xs a n) s l ≡ part xs (a + s) l
+part-part xs a n s l h =
+    let i : l ≤ n - s = omega arith in
+    rw (drop-take s n (drop a xs), drop-drop, take-take l (n - s) _ i)
+
+-- the part that was stored
+pub part-here : (b : List ℕ) (a s : ℕ) (new : List ℕ) → a ≤ length b → length new ≡ s → part (splice b a new) a s ≡ new
+unfolding splice
+part-here b a s new h l =
+    let t : length (take a b) ≡ a = length-take-le a b h in
+    rw (drop-at (take a b) (new ++ drop (a + length new) b) a t) (take-at new (drop (a + length new) b) s l)
+
+-- a part that ends before it
+pub part-left : (b : List ℕ) (a : ℕ) (new : List ℕ) (p s : ℕ) → a ≤ length b → p + s ≤ a → part (splice b a new) p s ≡ part b p s
+unfolding splice
+part-left b a new p s h l =
+    let t : length (take a b) ≡ a = length-take-le a b h in
+    let d : s ≤ length (drop p (take a b)) = simp length-drop (omega arith) in
+    let r : List ℕ = new ++ drop (a + length new) b in
+    rw (drop-append-le p (take a b) r (omega arith), take-append-le s (drop p (take a b)) r d, drop-take p a b, take-take s (a - p) (drop p b) (omega arith))
+
+-- a part that begins after it
+pub part-right : (b : List ℕ) (a : ℕ) (new : List ℕ) (p s : ℕ) → a ≤ length b → a + length new ≤ p → part (splice b a new) p s ≡ part b p s
+unfolding splice
+part-right b a new p s h l =
+    let x : List ℕ = take a b ++ new in
+    let e : length x ≡ a + length new = length-append (take a b) new ∙ rw (length-take-le a b h) in
+    let q : p ≡ length x + (p - length x) = omega arith in
+    let f : a + length new + (p - length x) ≡ p = omega arith in
+    let i : drop p (x ++ drop (a + length new) b) ≡ drop p b =
+    ap (λ (y : ℕ). drop y (x ++ drop (a + length new) b)) q ∙ drop-append-add x (drop (a + length new) b) (p - length x) ∙ drop-drop (p - length x) (a + length new) b ∙ rw f in
+    rw (← append-assoc (take a b) new (drop (a + length new) b), i)
+
+-- ---- from the front on
+
+-- what is stored at the front, then what lies behind it
+pub splice-front : (b xs : List ℕ) → splice b 0 xs ≡ xs ++ drop (length xs) b
+splice-front b xs = sym (mid-splice b xs 0 (length xs) refl)
+
+pub take-front : (b xs : List ℕ) (c : ℕ) → c ≡ length xs → take c (splice b 0 xs) ≡ xs
+take-front b xs c h = rw (splice-front b xs) (take-at xs (drop (length xs) b) c (sym h))

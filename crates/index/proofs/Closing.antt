@@ -12,12 +12,13 @@ use Rattle.fields.specs.Choice.{both}
 use Rattle.fields.specs.Bytes.{Octets}
 use Rattle.fields.specs.Order.{less}
 use Rattle.fields.proofs.Choices.{false-true, both-false}
+use Rattle.fields.proofs.Octets.{octets-append, octets-take, octets-part}
 use Rattle.index.specs.Bounds.{empty, bound}
 use Rattle.index.specs.Meaning.{Entry, Meaning}
 use Rattle.index.specs.Rules.{alike, rises, closed, baseFine, keepsRules}
 use Rattle.index.specs.Pieces.{Piece, spelt, spell, frontsFit, pieceSize, piecesSize, lastChars}
 use Rattle.index.specs.Reading.{unusedAt, lastAt, sectionAt, freeCount, lengthAt, pieceAt, piecesAt, piecesIn, readIndex, frame, places, soundIndex}
-use Rattle.index.proofs.Filling.{octets-take, octets-append, octets-part, octets-bound, length-bound, empty-highest}
+use Rattle.index.proofs.Filling.{octets-bound, length-bound, empty-highest}
 use Rattle.index.proofs.Keeping.{alike-same, rules-apart, separator-short, rises-apart}
 use Rattle.index.proofs.Sounding.{sound-apart}
 

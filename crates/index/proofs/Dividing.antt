@@ -1,13 +1,14 @@
 -- A division keeps all rules of the index record, into two parts and into three: document 01, 'Dividing an interval'.
-use Prim.Native.Nat.{ℕ}
-use mathlib.Core.Path.{_≡_, refl, _∙_, sym}
-use mathlib.Core.Bool.{Bool, true, false}
+use Prim.Native.Nat.{ℕ, suc, _-_, _≤_}
+use mathlib.Core.Path.{_≡_, _∙_, sym}
+use mathlib.Core.Bool.{true, false}
 use mathlib.Core.List.{List, [], _∷_, _++_, append-assoc}
-use lib.ListN.{length}
+use lib.ListN.{length, getD, take}
+use lib.Seq.{take-all, take-suc}
+use native.Mathlib.Omega.{arith}
 use Rattle.fields.specs.Bytes.{Octets}
 use Rattle.fields.specs.Order.{less}
-use Rattle.fields.proofs.Choices.{false-true}
-use Rattle.fields.proofs.Orders.{less-trans}
+use Rattle.fields.proofs.Orders.{at-most}
 use Rattle.index.specs.Bounds.{bound, cutSeparator}
 use Rattle.index.specs.Meaning.{Entry, Meaning, numbers, namedOnce}
 use Rattle.index.specs.Rules.{keepsRules, boundBefore}
@@ -24,13 +25,12 @@ abbrev pub divided : List ℕ → ℕ → List ℕ → ℕ → List Entry → En
 divided kept spare free a pre e post s =
     record { kept = kept; spare = spare; free = free; entries = pre ++ (entry s (e .num) ∷ entry (e .sep) a ∷ post) }
 
--- what is at most b and above a makes a at most b
-at-most : (b x y : List ℕ) → less x y ≡ true → less b y ≡ false → less b x ≡ false
-at-most b x y l h = go (less b x) refl
-  where
-    go : (t : Bool) → less b x ≡ t → t ≡ false
-    go false e = refl
-    go true e = absurd (false-true (sym h ∙ less-trans b x y e l))
+-- the rightmost of some numbers, and the others
+pub rightmost : (xs : List ℕ) → 1 ≤ length xs → xs ≡ take (length xs - 1) xs ++ (getD xs (length xs - 1) 0 ∷ [])
+rightmost xs h =
+    let e : suc (length xs - 1) ≡ length xs = omega arith in
+    let t : take (suc (length xs - 1)) xs ≡ xs = take-all (suc (length xs - 1)) xs (omega arith) in
+    sym t ∙ take-suc xs (length xs - 1) 0 (omega arith)
 
 module _ (S K n : ℕ) (low end kept : List ℕ) (spare : ℕ) where
   -- A division into two keeps all rules: the old interval gets the cut's separator, the rightmost free number the old one.

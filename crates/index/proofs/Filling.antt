@@ -1,5 +1,5 @@
 -- Laws of bounds: X'FF' all the way is at the top, and the search rule is the bound rule.
-use Prim.Native.Nat.{ℕ, zero, suc, _-_, _≤_}
+use Prim.Native.Nat.{ℕ, suc, _-_, _≤_}
 use mathlib.Core.Path.{_≡_, refl, _∙_, sym, ap}
 use mathlib.Core.Bool.{Bool, true, false}
 use mathlib.Core.List.{List, [], _∷_, _++_}
@@ -9,38 +9,20 @@ use lib.Dec.{ltb}
 use native.Mathlib.Omega.{arith}
 use borrow.Author.Tests.{le-ltb}
 use Rattle.fields.specs.Choice.{pick}
-use Rattle.fields.specs.Bytes.{Octets, part}
+use Rattle.fields.specs.Bytes.{Octets}
 use Rattle.fields.specs.Order.{orderOf, isLess, less}
 use Rattle.fields.specs.declared.Order.{Order}
 use Rattle.fields.specs.declared.Order.the-variants.{Less, Same, Greater}
-use Rattle.fields.proofs.Orders.{octets-drop, andThen, order-front}
+use Rattle.fields.proofs.Orders.{andThen, order-front}
+use Rattle.fields.proofs.Octets.{octets-append, octets-replicate, octets-drop}
 use Rattle.index.specs.Bounds.{bound}
 
 -- ---- bytes
 
-pub octets-take : (n : ℕ) (xs : List ℕ) → Octets xs → Octets (take n xs)
-octets-take zero xs o i = omega arith
-octets-take (suc n) [] o i = omega arith
-octets-take (suc n) (x ∷ xs) o zero = o 0
-octets-take (suc n) (x ∷ xs) o (suc i) = octets-take n xs (λ j. o (suc j)) i
-
-pub octets-append : (xs ys : List ℕ) → Octets xs → Octets ys → Octets (xs ++ ys)
-octets-append [] ys o p i = p i
-octets-append (x ∷ xs) ys o p zero = o 0
-octets-append (x ∷ xs) ys o p (suc i) = octets-append xs ys (λ j. o (suc j)) p i
-
-octets-top : (n : ℕ) → Octets (replicate n 255)
-octets-top zero i = omega arith
-octets-top (suc n) zero = omega arith
-octets-top (suc n) (suc i) = octets-top n i
-
-pub octets-part : (b : List ℕ) (a l : ℕ) → Octets b → Octets (part b a l)
-octets-part b a l o = octets-take l (drop a b) (octets-drop a b o)
-
 -- A bound of bytes is bytes.
 pub octets-bound : (K : ℕ) (s : List ℕ) → Octets s → Octets (bound K s)
 unfolding bound
-octets-bound K s o = octets-append s (replicate (K - length s) 255) o (octets-top (K - length s))
+octets-bound K s o = octets-append s (replicate (K - length s) 255) o (octets-replicate (K - length s) 255 (omega arith))
 
 -- ---- bounds
 

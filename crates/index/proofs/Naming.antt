@@ -8,18 +8,11 @@ use lib.ListN.{length, length-append}
 use lib.Dec.{eqb, ltb}
 use native.Mathlib.Omega.{arith}
 use native.Mathlib.Nat.{not-suc-le-zero, le-of-suc-le-suc, eq-or-lt-of-le}
-use borrow.Author.Tests.{eqb-true, ltb-true, eq-eqb, ne-eqb}
-use Rattle.fields.specs.Choice.{pick, both}
+use borrow.Author.Tests.{eqb-true, ltb-true}
+use Rattle.fields.specs.Choice.{both}
 use Rattle.fields.proofs.Choices.{both-split}
 use Rattle.index.specs.Meaning.{Entry, Meaning, numbers, named, count, below, once, namedOnce}
-
-pub count-same : (k x : ℕ) (xs : List ℕ) → x ≡ k → count k (x ∷ xs) ≡ count k xs + 1
-unfolding count
-count-same k x xs e = rw (eq-eqb x k e)
-
-pub count-other : (k x : ℕ) (xs : List ℕ) → (x ≡ k → ⊥) → count k (x ∷ xs) ≡ count k xs
-unfolding count
-count-other k x xs e = rw (ne-eqb x k e)
+use Rattle.index.proofs.Counting.{count-same, count-other, count-none, count-cons, count-append, below-append, once-each}
 
 -- the counts of all numbers below n, added up
 unfoldable total : List ℕ → ℕ → ℕ
@@ -81,35 +74,17 @@ pub named-below : (n : ℕ) (xs : List ℕ) → namedOnce n xs ≡ true → belo
 unfolding namedOnce
 named-below n xs e = both-split (below n xs) (once xs n) e .0
 
-pub below-append : (n : ℕ) (xs ys : List ℕ) → below n (xs ++ ys) ≡ both (below n xs) (below n ys)
-unfolding below
-below-append n [] ys = refl
-below-append n (x ∷ xs) ys = rw (below-append n xs ys) (go (ltb x n))
-  where
-    go : (t : Bool) → both t (both (below n xs) (below n ys)) ≡ both (both t (below n xs)) (below n ys)
-    go true = refl
-    go false = refl
+-- Free numbers and those of the entries are below n.
+pub both-below : (n : ℕ) (m : Meaning) → namedOnce n (named m) ≡ true → (below n (m .free) ≡ true) × (below n (numbers (m .entries)) ≡ true)
+both-below n m e =
+    both-split (below n (m .free)) (below n (numbers (m .entries))) (sym (below-append n (m .free) (numbers (m .entries))) ∙ named-below n (named m) e)
+
+-- Each number below n is counted once.
+pub named-each : (n : ℕ) (xs : List ℕ) (k : ℕ) → namedOnce n xs ≡ true → k < n → count k xs ≡ 1
+unfolding namedOnce
+named-each n xs k e h = once-each xs n k (both-split (below n xs) (once xs n) e .1) h
 
 -- ---- a number goes from the free ones to the entries
-
-abbrev unit : ℕ → ℕ → ℕ
-unit k x = pick (eqb x k) 1 0
-
-count-cons : (k x : ℕ) (xs : List ℕ) → count k (x ∷ xs) ≡ unit k x + count k xs
-unfolding count
-count-cons k x xs = go (eqb x k)
-  where
-    go : (t : Bool) → pick t (count k xs + 1) (count k xs) ≡ pick t 1 0 + count k xs
-    go true = omega arith
-    go false = omega arith
-
-count-none : (k : ℕ) → count k [] ≡ 0
-unfolding count
-count-none k = refl
-
-count-append : (k : ℕ) (xs ys : List ℕ) → count k (xs ++ ys) ≡ count k xs + count k ys
-count-append k [] ys = omega (arith, count-none k)
-count-append k (x ∷ xs) ys = omega (arith, count-cons k x xs, count-cons k x (xs ++ ys), count-append k xs ys)
 
 once-same : (xs ys : List ℕ) (n : ℕ) → ((k : ℕ) → count k xs ≡ count k ys) → once xs n ≡ once ys n
 unfolding once

@@ -5,14 +5,13 @@ use mathlib.Core.Bool.{true, false}
 use mathlib.Core.List.{List, []}
 use lib.ListN.{length}
 use native.Mathlib.Omega.{arith}
-use Rattle.fields.specs.Choice.{both}
-use Rattle.fields.proofs.Choices.{false-true, both-split}
-use Rattle.index.specs.Meaning.{Entry, Meaning, numbers, named, below}
+use Rattle.fields.proofs.Choices.{false-true}
+use Rattle.index.specs.Meaning.{Entry, Meaning, numbers, below}
 use Rattle.index.specs.Rules.{keepsRules}
 use Rattle.index.specs.Pieces.{spell}
 use Rattle.index.specs.Layout.{recordLength, LaidOut}
 use Rattle.index.specs.Reading.{readIndex, soundIndex}
-use Rattle.index.proofs.Naming.{free-and-used, named-below, below-append}
+use Rattle.index.proofs.Naming.{free-and-used, both-below}
 use Rattle.index.proofs.Compressing.{length-spell}
 use Rattle.index.proofs.Keeping.{Keeps, rules-apart}
 use Rattle.index.proofs.Placing.{length-layout, frame-there, all-there, read-there, places-there}
@@ -22,14 +21,11 @@ module _ (w S K n : ℕ) (low end : List ℕ) (m : Meaning) (ib : List ℕ) (wid
   kept : Keeps S K n low end m
   kept = rules-apart S K n low end m rules
 
-  below-all : both (below n (m .free)) (below n (numbers (m .entries))) ≡ true
-  below-all = sym (below-append n (m .free) (numbers (m .entries))) ∙ named-below n (named m) (kept .naming)
-
   free-below : below n (m .free) ≡ true
-  free-below = both-split (below n (m .free)) (below n (numbers (m .entries))) below-all .0
+  free-below = both-below n m (kept .naming) .0
 
   used-below : below n (numbers (spell [] (laid .pieces))) ≡ true
-  used-below = rw (laid .spells) (both-split (below n (m .free)) (below n (numbers (m .entries))) below-all .1)
+  used-below = rw (laid .spells) (both-below n m (kept .naming) .1)
 
   every : length (m .free) + length (laid .pieces) ≡ n
   every =

@@ -2,7 +2,7 @@
 use Prim.Native.Nat.{ℕ, _+_, _-_, _^_, _≤_}
 use mathlib.Core.Path.{_≡_, refl, _∙_}
 use mathlib.Core.Bool.{true}
-use mathlib.Core.List.{List, [], _∷_, _++_, append-assoc, append-nil}
+use mathlib.Core.List.{List, [], _∷_, _++_, append-assoc}
 use lib.ListN.{length, drop}
 use lib.Seq.{drop-length}
 use native.Mathlib.Omega.{arith}
@@ -14,7 +14,7 @@ use Rattle.index.specs.Pieces.{Piece, spell, piecesSize, oneByteEach}
 use Rattle.index.specs.Layout.{piecesBytes, freeBytes, unusedPlace, lastPlace, recordLength, header, trailer, layout, LaidOut}
 use Rattle.index.specs.Reading.{unusedAt, lastAt, freeCount, piecesIn, readIndex, soundIndex}
 use Rattle.index.proofs.Sounding.{Sound, sound-apart}
-use Rattle.index.proofs.Taking.{part-at, byte-at, field-at, length-numbersAt, free-at, pieces-at, small-at}
+use Rattle.index.proofs.Taking.{part-at, byte-at, field-at, length-numbersAt, free-at, pieces-at, small-at, trailer-at}
 
 module _ (w K n : ℕ) (low end ib : List ℕ) (o : Octets ib) (some : 31 ≤ length ib) (sound : soundIndex w K n low end ib ≡ true) where
   s : Sound w K n low end ib
@@ -51,18 +51,9 @@ module _ (w K n : ℕ) (low end ib : List ℕ) (o : Octets ib) (some : 31 ≤ le
   ended : drop S ib ≡ []
   ended = drop-length ib
 
-  from-trailer : drop R ib ≡ trailer R
-  unfolding trailer
-  from-trailer =
-      let f = s .framed in
-      let d2 : drop (S - 2) ib ≡ digits 2 0 ++ [] = field-at 2 ib (S - 2) S 0 [] o (omega arith) (omega arith) (f .none) ended in
-      let d4 : drop (S - 4) ib ≡ digits 2 R ++ (digits 2 0 ++ []) = field-at 2 ib (S - 4) (S - 2) R _ o (omega arith) (omega arith) (f .cidf) d2 in
-      let d6 : drop (S - 6) ib ≡ digits 2 R ++ (digits 2 R ++ (digits 2 0 ++ [])) = field-at 2 ib (S - 6) (S - 4) R _ o (omega arith) (omega arith) (f .rdf-length) d4 in
-      byte-at ib R (S - 6) 0 _ (omega arith) (omega arith) (f .rdf) d6 ∙ simp append-nil
-
   from-entries : drop B ib ≡ piecesBytes w ps ++ trailer R
   unfolding piecesIn
-  from-entries = pieces-at w ib R (n - freeCount w ib) (trailer R) o (omega arith) (omega (arith, s .placed .apart)) from-trailer
+  from-entries = pieces-at w ib R (n - freeCount w ib) (trailer R) o (omega arith) (omega (arith, s .placed .apart)) (trailer-at w ib o some (s .framed))
 
   from-unused : drop U ib ≡ gap ++ (piecesBytes w ps ++ trailer R)
   from-unused = part-at ib U (B - U) B _ (omega (arith, s .placed .apart)) from-entries

@@ -12,6 +12,9 @@ use Rattle.fields.proofs.Choices.{both-split}
 use Rattle.index.specs.Rules.{keepsRules}
 use Rattle.index.specs.Pieces.{frontsFit, piecesSize, lastChars}
 use Rattle.index.specs.Reading.{unusedAt, lastAt, sectionAt, freeCount, piecesIn, readIndex, frame, places, soundIndex}
+use Rattle.index.specs.Meaning.{numbers, below}
+use Rattle.index.proofs.Keeping.{rules-apart}
+use Rattle.index.proofs.Naming.{both-below}
 
 -- header values, RDF and CIDF
 pub record Framed (w : ℕ) (ib : List ℕ) : Type 0 where
@@ -83,3 +86,9 @@ sound-apart w K n low end ib h =
     let a2 = both-split (places w n ib) (both (frontsFit [] (piecesIn w n ib)) rules) (a1 .1) in
     let a3 = both-split (frontsFit [] (piecesIn w n ib)) rules (a2 .1) in
     record { framed = frame-apart w ib (a1 .0); placed = places-apart w n ib (a2 .0); fronts = a3 .0; rules = a3 .1 }
+
+-- The numbers that it names are below n.
+pub sound-below : (w K n : ℕ) (low end ib : List ℕ) → soundIndex w K n low end ib ≡ true
+    → (below n (readIndex w n ib .free) ≡ true) × (below n (numbers (readIndex w n ib .entries)) ≡ true)
+sound-below w K n low end ib h =
+    both-below n (readIndex w n ib) (rules-apart (length ib) K n low end (readIndex w n ib) (sound-apart w K n low end ib h .rules) .naming)

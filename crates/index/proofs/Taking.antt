@@ -2,16 +2,18 @@
 use Prim.Native.Nat.{ℕ, zero, suc, _+_, _-_, _*_, _≤_, _<_}
 use mathlib.Core.Path.{_≡_, refl, _∙_, sym, ap}
 use mathlib.Core.Bool.{true}
-use mathlib.Core.List.{List, _∷_, _++_, append-assoc}
+use mathlib.Core.List.{List, _∷_, _++_, append-assoc, [], append-nil}
 use lib.ListN.{length, getD, drop, length-take, length-drop, take-append-drop}
-use lib.Seq.{drop-drop, drop-cons}
+use lib.Seq.{drop-drop, drop-cons, drop-length}
 use native.Mathlib.Omega.{arith}
 use borrow.Author.Tests.{lt-ltb}
+use native.Mathlib.Nat.{mul-suc}
 use Rattle.fields.specs.Bytes.{Octets, part, number, digits}
 use Rattle.fields.proofs.Numbers.{digits-number}
-use Rattle.index.specs.Pieces.{Piece, oneByteEach, pieceSize, piecesSize}
-use Rattle.index.specs.Layout.{pieceBytes, piecesBytes, freeBytes}
-use Rattle.index.specs.Reading.{numbersAt, lengthAt, pieceAt, piecesAt}
+use Rattle.index.specs.Pieces.{Piece, oneByteEach, pieceSize, piecesSize, spell}
+use Rattle.index.specs.Layout.{pieceBytes, piecesBytes, freeBytes, trailer}
+use Rattle.index.specs.Reading.{numbersAt, lengthAt, pieceAt, piecesAt, freeCount, piecesIn, readIndex}
+use Rattle.index.proofs.Sounding.{Framed}
 
 -- l bytes at a, and what follows them
 pub part-at : (b : List ℕ) (a l z : ℕ) (t : List ℕ) → a + l ≡ z → drop z b ≡ t → drop a b ≡ part b a l ++ t
@@ -32,6 +34,29 @@ pub length-numbersAt : (w : ℕ) (b : List ℕ) (a c : ℕ) → length (numbersA
 unfolding numbersAt
 length-numbersAt w b a zero = refl
 length-numbersAt w b a (suc c) = rw (length-numbersAt w b (a + w) c)
+
+-- number i of them
+pub number-at : (w : ℕ) (ib : List ℕ) (a c i : ℕ) → i < c → getD (numbersAt w ib a c) i 0 ≡ number w ib (a + w * i)
+unfolding numbersAt
+number-at w ib a zero i h = absurd (omega arith)
+number-at w ib a (suc c) zero h = let z : a + w * 0 ≡ a = omega arith in rw z
+number-at w ib a (suc c) (suc i) h =
+    let z : a + w * suc i ≡ a + w + w * i = omega (arith, mul-suc w i) in
+    rw z (number-at w ib (a + w) c i (omega arith))
+
+pub length-piecesAt : (w : ℕ) (b : List ℕ) (r k : ℕ) → length (piecesAt w b r k) ≡ k
+unfolding piecesAt
+length-piecesAt w b r zero = refl
+length-piecesAt w b r (suc k) = rw (length-piecesAt w b (r - pieceSize w (pieceAt w b r)) k)
+
+-- what the reading takes for free numbers, and for entries
+pub free-are : (w n : ℕ) (ib : List ℕ) → readIndex w n ib .free ≡ numbersAt w ib 24 (freeCount w ib)
+unfolding readIndex
+free-are w n ib = refl
+
+pub entries-are : (w n : ℕ) (ib : List ℕ) → readIndex w n ib .entries ≡ spell [] (piecesIn w n ib)
+unfolding readIndex
+entries-are w n ib = refl
 
 -- c free numbers that are read from a on
 pub free-at : (w : ℕ) (b : List ℕ) (a c z : ℕ) (t : List ℕ) → Octets b → a + w * c ≡ z → z ≤ length b → drop z b ≡ t
@@ -92,3 +117,14 @@ small-at w b r (suc e) o =
     let f : getD b (r - (w + 2)) 0 < 256 = o (r - (w + 2)) in
     let l : length (pieceAt w b r .chars) < 256 = omega (arith, o (r - (w + 1)), length-take n (drop (r - (w + 2 + n)) b)) in
     rw (lt-ltb _ _ f, lt-ltb _ _ l, small-at w b (r - pieceSize w (pieceAt w b r)) e o)
+
+-- RDF and CIDF of a framed record hold what they must
+pub trailer-at : (w : ℕ) (b : List ℕ) → Octets b → 31 ≤ length b → Framed w b → drop (length b - 7) b ≡ trailer (length b - 7)
+unfolding trailer
+trailer-at w b o large f =
+    let S : ℕ = length b in
+    let R : ℕ = length b - 7 in
+    let d2 : drop (S - 2) b ≡ digits 2 0 ++ [] = field-at 2 b (S - 2) S 0 [] o (omega arith) (omega arith) (f .none) (drop-length b) in
+    let d4 : drop (S - 4) b ≡ digits 2 R ++ (digits 2 0 ++ []) = field-at 2 b (S - 4) (S - 2) R _ o (omega arith) (omega arith) (f .cidf) d2 in
+    let d6 : drop (S - 6) b ≡ digits 2 R ++ (digits 2 R ++ (digits 2 0 ++ [])) = field-at 2 b (S - 6) (S - 4) R _ o (omega arith) (omega arith) (f .rdf-length) d4 in
+    byte-at b R (S - 6) 0 _ (omega arith) (omega arith) (f .rdf) d6 ∙ simp append-nil

@@ -14,13 +14,14 @@ use Rattle.fields.specs.Bytes.{Octets, part, number, splice}
 use Rattle.fields.specs.Order.{orderOf, isLess, less}
 use Rattle.fields.specs.declared.Order.{Order}
 use Rattle.fields.specs.declared.Order.the-variants.{Less, Same, Greater}
-use Rattle.fields.proofs.Choices.{both-split}
+use Rattle.fields.proofs.Choices.{both-split, off}
 use Rattle.fields.proofs.Splices.{splice-after, length-mid}
-use Rattle.fields.proofs.Orders.{octets-drop, andThen, order-prefix, order-front}
+use Rattle.fields.proofs.Orders.{andThen, order-prefix, order-front}
+use Rattle.fields.proofs.Octets.{octets-take, octets-drop}
 use Rattle.index.specs.Bounds.{bound}
 use Rattle.index.specs.Pieces.{Piece, pieceSize}
 use Rattle.index.specs.Reading.{lengthAt, pieceAt, piecesAt}
-use Rattle.index.proofs.Filling.{octets-take, length-bound}
+use Rattle.index.proofs.Filling.{length-bound}
 use Rattle.index_read.specs.declared.Parsed.the-variants.{Of, Bad}
 use Rattle.index_read.specs.Parsing.{frontAt, charsAt, parses, parsedOf}
 use Rattle.index_read.specs.Walk.{someLow, above}
@@ -42,10 +43,6 @@ of-bad e = let z : _≡_ {A = ℕ} 0 1 = cc in omega arith
 
 pub bad-of : {f l at num : ℕ} → Bad ≡ Of f l at num → ⊥
 bad-of e = of-bad (sym e)
-
-pub off : (t : Bool) → (t ≡ true → ⊥) → t ≡ false
-off true h = absurd (h refl)
-off false h = refl
 
 module _ (w : ℕ) (ib : List ℕ) (r edge len K : ℕ) where
   abbrev L : ℕ

@@ -11,13 +11,12 @@ use native.Mathlib.Nat.{mul-le-mul, mul-div-le}
 use borrow.Author.Tests.{eq-eqb, lt-ltb, le-leb, eqb-true, ltb-true, leb-true}
 use Rattle.fields.specs.Choice.{pick}
 use Rattle.fields.specs.Bytes.{part, number}
-use Rattle.fields.proofs.Choices.{both-split}
+use Rattle.fields.proofs.Choices.{both-split, off}
 use Rattle.index.specs.Rules.{baseFine}
 use Rattle.index.specs.Reading.{unusedAt, lastAt, sectionAt, freeCount, frame}
 use Rattle.index.proofs.Sounding.{Framed, frame-apart}
 use Rattle.index_read.specs.declared.Places.the-variants.{At, Nowhere}
 use Rattle.index_read.specs.Walk.{liesWell, placesOf}
-use Rattle.index_read.proofs.Entry.{off}
 
 -- ---- header values, RDF and CIDF
 

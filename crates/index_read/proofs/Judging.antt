@@ -9,7 +9,7 @@ use native.Mathlib.Omega.{arith}
 use borrow.Author.Tests.{eq-eqb, le-leb}
 use Rattle.fields.specs.Choice.{both}
 use Rattle.fields.specs.Bytes.{part}
-use Rattle.fields.proofs.Choices.{false-true, both-false, both-split}
+use Rattle.fields.proofs.Choices.{false-true, both-false, both-split, off}
 use Rattle.index.specs.Meaning.{Entry}
 use Rattle.index.specs.Rules.{rises, closed, baseFine, keepsRules}
 use Rattle.index.specs.Pieces.{Piece, spell, frontsFit, pieceSize, piecesSize, lastChars}
@@ -17,12 +17,13 @@ use Rattle.index.specs.Reading.{unusedAt, lastAt, sectionAt, freeCount, numbers
 use Rattle.index.proofs.Sounding.{sound-apart}
 use Rattle.index.proofs.Keeping.{Keeps, rules-apart}
 use Rattle.index.proofs.Closing.{closed-last, basePlaces, sound-base}
+use Rattle.index.proofs.Taking.{entries-are}
 use Rattle.index_read.specs.declared.Marks.{Marks}
 use Rattle.index_read.specs.declared.Index.the-variants.{Sound, Unsound}
 use Rattle.index_read.specs.declared.Places.the-variants.{At, Nowhere}
 use Rattle.index_read.specs.Check.{width, indexOf}
 use Rattle.index_read.specs.Walk.{placesOf, chain, pieceNumbers, marking, seenAfter, allSeen, emptyMarks, freeAll, usedAll, fineFrom}
-use Rattle.index_read.proofs.Entry.{off, pieces-next}
+use Rattle.index_read.proofs.Entry.{pieces-next}
 use Rattle.index_read.proofs.Header.{Lies, place-good, place-bad}
 use Rattle.index_read.proofs.Chain.{chain-is, numbers-spelt, length-spelt}
 use Rattle.index_read.proofs.Marking.{named-by-marks, marking-append, seen-append}
@@ -43,16 +44,12 @@ closed-some end [] h = absurd (false-true h)
 closed-some end (e ∷ es) h = omega arith
 
 module _ (w K n : ℕ) (ib : List ℕ) where
-  entries-are : readIndex w n ib .entries ≡ spell [] (piecesIn w n ib)
-  unfolding readIndex
-  entries-are = refl
-
   -- The displacements of a sound record are in order before any walk.
   pub sound-lies : soundIndex w K n [] [] ib ≡ true → Lies w n ib
   sound-lies h =
       let s = sound-apart w K n [] [] ib h in
       let k : Keeps (length ib) K n [] [] (readIndex w n ib) = rules-apart (length ib) K n [] [] (readIndex w n ib) (s .rules) in
-      let c : closed [] (spell [] (piecesIn w n ib)) ≡ true = rw entries-are at (k .closing) in
+      let c : closed [] (spell [] (piecesIn w n ib)) ≡ true = rw (entries-are w n ib) at (k .closing) in
       let z : length (lastChars (piecesIn w n ib)) ≡ 0 = ap length (closed-last [] (piecesIn w n ib) c) in
       record {
         section = s .placed .section;

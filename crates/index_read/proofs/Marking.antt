@@ -3,8 +3,8 @@ use mathlib.Core.Path.{_≡_, refl, sym, ap, _∙_, subst}
 use mathlib.Core.Bool.{Bool, true, false}
 use mathlib.Core.List.{List, [], _∷_, _++_}
 use mathlib.Core.Logic.{_⊎_, inl, inr, ⊎-elim}
-use Prim.Native.Nat.{ℕ, zero, suc, _+_, _-_, _*_, _<_, _≤_}
-use native.Mathlib.Nat.{not-suc-le-zero, le-of-suc-le-suc, eq-or-lt-of-le, mul-suc}
+use Prim.Native.Nat.{ℕ, zero, suc, _+_, _-_, _<_, _≤_}
+use native.Mathlib.Nat.{not-suc-le-zero, le-of-suc-le-suc, eq-or-lt-of-le}
 use native.Mathlib.Numerals.{add-one}
 use native.Mathlib.Decide.{ℕ-discrete, decLt}
 use native.Mathlib.Omega.{arith}
@@ -16,8 +16,8 @@ use Rattle.fields.specs.Choice.{pick, both}
 use Rattle.fields.proofs.Choices.{false-true, both-false}
 use Rattle.index.specs.Meaning.{count, below, once, namedOnce}
 use Rattle.index.specs.Reading.{numbersAt}
-use Rattle.index.proofs.Naming.{count-same, count-other}
 use Rattle.fields.specs.Bytes.{number}
+use Rattle.index.proofs.Counting.{count-same, count-other}
 use Rattle.index_read.specs.declared.Marks.{Marks}
 use Rattle.index_read.specs.Walk.{marking, seenAfter, allSeen, freeAll}
 
@@ -181,12 +181,6 @@ mark-end w n m ib at left h = sym (rw h)
 pub free-end : (w : ℕ) (m : Marks) (ib : List ℕ) (at left : ℕ) → left ≡ 0 → m ≡ freeAll m (numbersAt w ib at left)
 unfolding seenAfter numbersAt
 free-end w m ib at left h = let a : m .free + 0 ≡ m .free = omega arith in rw (h, a)
-
--- one number less to come
-pub one-less : (w left : ℕ) → 0 < left → w * left ≡ w + w * (left - 1)
-one-less w left h =
-    let e : left ≡ suc (left - 1) = omega arith in
-    ap (λ (z : ℕ). w * z) e ∙ omega (arith, mul-suc w (left - 1))
 
 -- ---- the last loop
 

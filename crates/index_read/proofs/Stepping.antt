@@ -7,23 +7,26 @@ use mathlib.Core.Bool.{Bool, true}
 use mathlib.Core.List.{List, [], _∷_, _++_}
 use lib.ListN.{length, take, drop, replicate, length-append, length-replicate}
 use lib.Seq.{length-take-le}
-use lib.Dec.{eqb, leb, ltb}
+use lib.Dec.{eqb, leb}
 use native.Mathlib.Omega.{arith}
-use borrow.Author.Tests.{leb-true, ltb-true, ne-eqb}
+use borrow.Author.Tests.{leb-true, ne-eqb}
 use Rattle.fields.specs.Choice.{pick, both}
 use Rattle.fields.specs.Bytes.{part, number}
 use Rattle.fields.specs.Order.{less}
 use Rattle.fields.proofs.Choices.{both-split}
 use Rattle.fields.proofs.Splices.{length-mid}
 use Rattle.index.specs.Bounds.{bound, separator}
-use Rattle.index.specs.Meaning.{Entry, Meaning, numbers, named, below}
+use Rattle.index.specs.Meaning.{Entry, numbers, named, below}
 use Rattle.index.specs.Rules.{boundBefore, closed}
 use Rattle.index.specs.Pieces.{Piece, spelt, spell, pieceSize, lastChars}
 use Rattle.index.specs.Reading.{lastAt, freeCount, lengthAt, pieceAt, piecesAt, piecesIn, readIndex, soundIndex}
-use Rattle.index.proofs.Sounding.{Sound, sound-apart}
+use Rattle.index.proofs.Sounding.{Sound, sound-apart, sound-below}
 use Rattle.index.proofs.Keeping.{Keeps, rules-apart, separator-short}
 use Rattle.index.proofs.Closing.{closed-last}
-use Rattle.index.proofs.Naming.{named-below, below-append}
+use Rattle.index.proofs.Counting.{below-apart}
+use Rattle.index.proofs.Taking.{length-piecesAt, entries-are}
+use Rattle.index.proofs.Compressing.{length-spell}
+use Rattle.index.proofs.Inserting.{before-snoc}
 use Rattle.index_read.specs.declared.Parsed.the-variants.{Of, Bad}
 use Rattle.index_read.specs.Parsing.{frontAt, charsAt, parses, parsedOf}
 use Rattle.index_read.specs.Walk.{chain}
@@ -85,24 +88,10 @@ pub record Standing (w K n : ℕ) (ib : List ℕ) (i r len : ℕ) (ref : List �
   pub fine : chain w K (lastAt ib) r (boundBefore K [] (take i (readIndex w n ib .entries))) ref (piecesAt w ib r (length (readIndex w n ib .entries) - i)) ≡ true
   pub named : below n (numbers (drop i (readIndex w n ib .entries))) ≡ true
 
-length-piecesAt : (w : ℕ) (ib : List ℕ) (r e : ℕ) → length (piecesAt w ib r e) ≡ e
-unfolding piecesAt
-length-piecesAt w ib r zero = refl
-length-piecesAt w ib r (suc e) = rw (length-piecesAt w ib (r - pieceSize w (pieceAt w ib r)) e)
-
-length-spell : (ref : List ℕ) (ps : List Piece) → length (spell ref ps) ≡ length ps
-unfolding spell
-length-spell ref [] = refl
-length-spell ref (p ∷ ps) = rw (length-spell (spelt ref p) ps)
-
 -- As many entries are read as there are intervals that aren't free.
 pub entries-count : (w n : ℕ) (ib : List ℕ) → length (readIndex w n ib .entries) ≡ n - freeCount w ib
 unfolding readIndex piecesIn
 entries-count w n ib = length-spell [] (piecesAt w ib (length ib - 7) (n - freeCount w ib)) ∙ length-piecesAt w ib (length ib - 7) (n - freeCount w ib)
-
-entries-are : (w n : ℕ) (ib : List ℕ) → readIndex w n ib .entries ≡ spell [] (piecesIn w n ib)
-unfolding readIndex
-entries-are w n ib = refl
 
 -- The entries of a sound record make a chain from the RDF to the last-entry displacement.
 pub sound-chain : (w K n : ℕ) (ib : List ℕ) → soundIndex w K n [] [] ib ≡ true → chain w K (lastAt ib) (length ib - 7) [] [] (piecesIn w n ib) ≡ true
@@ -115,12 +104,7 @@ sound-chain w K n ib h =
 
 -- The numbers of its entries are below n.
 pub sound-numbers : (w K n : ℕ) (ib : List ℕ) → soundIndex w K n [] [] ib ≡ true → below n (numbers (readIndex w n ib .entries)) ≡ true
-sound-numbers w K n ib h =
-    let s : Sound w K n [] [] ib = sound-apart w K n [] [] ib h in
-    let k : Keeps (length ib) K n [] [] (readIndex w n ib) = rules-apart (length ib) K n [] [] (readIndex w n ib) (s .rules) in
-    let m : Meaning = readIndex w n ib in
-    let b : both (below n (m .free)) (below n (numbers (m .entries))) ≡ true = sym (below-append n (m .free) (numbers (m .entries))) ∙ named-below n (named m) (k .naming) in
-    both-split (below n (m .free)) (below n (numbers (m .entries))) b .1
+sound-numbers w K n ib h = sound-below w K n [] [] ib h .1
 
 pub standing-start : (w K n : ℕ) (ib : List ℕ) → soundIndex w K n [] [] ib ≡ true → Standing w K n ib 0 (length ib - 7) 0 []
 unfolding boundBefore
@@ -150,17 +134,6 @@ split-more (e ∷ es) zero x ys h =
 split-more (e ∷ es) (suc i) x ys h =
     let q = split-more es i x ys h in
     (q .0, rw (q .1))
-
-before-snoc : (K : ℕ) (low : List ℕ) (es : List Entry) (x : Entry) → boundBefore K low (es ++ (x ∷ [])) ≡ bound K (x .sep)
-unfolding boundBefore
-before-snoc K low [] x = refl
-before-snoc K low (e ∷ es) x = before-snoc K (bound K (e .sep)) es x
-
-below-apart : (n x : ℕ) (xs : List ℕ) → below n (x ∷ xs) ≡ true → (x < n) × (below n xs ≡ true)
-unfolding below
-below-apart n x xs h =
-    let s = both-split (ltb x n) (below n xs) h in
-    (ltb-true x n (s .0), s .1)
 
 -- What the entry that was taken apart is, and where the walk stands after it.
 pub record Stepped (w K n : ℕ) (ib : List ℕ) (i r len : ℕ) (ref : List ℕ) (f l at num : ℕ) : Type 0 where

@@ -11,7 +11,7 @@ use borrow.Author.Tests.{lt-ltb, eq-eqb, ne-eqb, le-leb, ltb-true, eqb-true}
 use Rattle.fields.specs.Choice.{pick, both}
 use Rattle.fields.specs.Bytes.{part, number}
 use Rattle.fields.specs.Order.{orderOf, less}
-use Rattle.fields.proofs.Choices.{false-true, both-split, both-join, both-false}
+use Rattle.fields.proofs.Choices.{false-true, both-split, both-join, both-false, off}
 use Rattle.index.specs.Bounds.{empty, bound, separator}
 use Rattle.index.specs.Pieces.{spelt, pieceSize}
 use Rattle.index.specs.Reading.{lengthAt, pieceAt, piecesAt}
@@ -19,7 +19,7 @@ use Rattle.index_read.specs.declared.Marks.{Marks}
 use Rattle.index_read.specs.declared.Parsed.the-variants.{Of, Bad}
 use Rattle.index_read.specs.Parsing.{frontAt, charsAt, parsedOf}
 use Rattle.index_read.specs.Walk.{above, nextIn, entryOf, chain, pieceNumbers, marking, seenAfter, usedAll, fineFrom}
-use Rattle.index_read.proofs.Entry.{Good, good, off, parses-joined, pieces-next, size-is, place-is, chars-inside, chars-length, held-front}
+use Rattle.index_read.proofs.Entry.{Good, good, parses-joined, pieces-next, size-is, place-is, chars-inside, chars-length, held-front}
 use Rattle.index_read.proofs.Next.{entry-good, entry-bad}
 use Rattle.index_read.proofs.Stepping.{Link, link, Holding, holding-start, holding-step}
 

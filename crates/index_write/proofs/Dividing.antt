@@ -4,7 +4,7 @@ use mathlib.Core.Path.{_≡_, refl, _∙_, sym, ap}
 use mathlib.Core.Bool.{true, false}
 use mathlib.Core.List.{List, [], _∷_, _++_, append-assoc}
 use lib.ListN.{length, getD, take, drop}
-use lib.Seq.{take-at, getD-at, drop-append-add, split-at, length-take-le, take-all, take-suc, take-take}
+use lib.Seq.{take-at, getD-at, drop-append-add, split-at, length-take-le, take-take}
 use native.Mathlib.Omega.{arith}
 use Rattle.fields.specs.Bytes.{Octets}
 use Rattle.fields.specs.Order.{less}
@@ -12,7 +12,7 @@ use Rattle.index.specs.Meaning.{Entry, Meaning}
 use Rattle.index.specs.Bounds.{bound, cutSeparator}
 use Rattle.index.specs.Rules.{closed, keepsRules, boundBefore}
 use Rattle.index.proofs.Inserting.{entry, closed-insert}
-use Rattle.index.proofs.Dividing.{ready, divided, divided-keeps, divided-twice-keeps}
+use Rattle.index.proofs.Dividing.{ready, divided, divided-keeps, divided-twice-keeps, rightmost}
 use Rattle.index_write.specs.Divided.{partsOf, dividedAt}
 
 -- There is one part more than there are cuts.
@@ -55,13 +55,6 @@ divided-closed end m i seps h k =
     (parts-closed end seps (m .free) pre e post (rw s at k))
 
 -- ---- all rules
-
--- the rightmost of some numbers, and the others
-pub rightmost : (xs : List ℕ) → 1 ≤ length xs → xs ≡ take (length xs - 1) xs ++ (getD xs (length xs - 1) 0 ∷ [])
-rightmost xs h =
-    let e : suc (length xs - 1) ≡ length xs = omega arith in
-    let t : take (suc (length xs - 1)) xs ≡ xs = take-all (suc (length xs - 1)) xs (omega arith) in
-    sym t ∙ take-suc xs (length xs - 1) 0 (omega arith)
 
 -- a meaning whose free numbers and entries are known
 pub rebuilt : (m : Meaning) (free : List ℕ) (es : List Entry) → m .free ≡ free → m .entries ≡ es

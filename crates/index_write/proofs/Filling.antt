@@ -6,7 +6,7 @@ use lib.ListN.{length, drop}
 use lib.Seq.{take-take}
 use native.Mathlib.Omega.{arith}
 use Rattle.fields.specs.Bytes.{number, splice}
-use Rattle.fields.proofs.Splices.{length-mid}
+use Rattle.fields.proofs.Splices.{length-mid, part-here}
 use Rattle.index.specs.Meaning.{Entry}
 use Rattle.index.specs.Pieces.{Piece, spelt, spell, pieceSize, piecesSize}
 use Rattle.index.specs.Reading.{lengthAt, pieceAt, piecesAt}
@@ -14,7 +14,6 @@ use Rattle.index.proofs.Inserting.{entry}
 use Rattle.index.proofs.Growing.{separatorBefore}
 use Rattle.index_write.specs.declared.Cursor.{Cursor}
 use Rattle.index_write.specs.Flat.{separators, Readable, Roomy, Added, newest, Newest}
-use Rattle.index_write.proofs.Putting.{part-splice}
 use Rattle.index_write.proofs.Adding.{added-none, added-more}
 use Rattle.index_write.proofs.Walking.{before-append, Next, next}
 
@@ -30,7 +29,7 @@ newest-one sep num c d s l x s' l' x' a h k =
     let e : d .bytes ≡ c .bytes + length sep = a .bytes ∙ rw (one-separator sep num) in
     let z : d .bytes - d .last ≡ length sep = omega arith in
     let g : s' ≡ splice s (c .bytes) sep = a .seps ∙ rw (one-separator sep num) in
-    record { order = omega arith; is = rw (g, z, h) (part-splice s (c .bytes) sep (length sep) k refl) }
+    record { order = omega arith; is = rw (g, z, h) (part-here s (c .bytes) (length sep) sep k refl) }
 
 -- F bytes of the newest separator are F bytes from where it begins.
 pub spelt-newest : (c : Cursor) (s : List ℕ) (p : Piece) → p .front ≤ length (newest c s) → c .last ≤ c .bytes → c .bytes ≤ length s

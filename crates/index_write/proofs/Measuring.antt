@@ -8,7 +8,7 @@ use native.Mathlib.Omega.{arith}
 use native.Mathlib.Numerals.{add-one}
 use Rattle.fields.specs.Bytes.{part, splice}
 use Rattle.fields.specs.Order.{common}
-use Rattle.fields.proofs.Splices.{length-mid}
+use Rattle.fields.proofs.Splices.{length-mid, part-is, splice-front, take-front}
 use Rattle.index.specs.Meaning.{Entry, numbers}
 use Rattle.index.specs.Form.{entrySize, entriesSize}
 use Rattle.index.proofs.Naming.{length-numbers}
@@ -44,10 +44,6 @@ flat-next seps lens nums p i l h k e = rw (add-one i, drop-cons lens i 0 h, drop
 pub flat-none : (seps lens nums : List ℕ) (i : ℕ) → length lens ≤ i → flat seps (drop i lens) nums ≡ []
 unfolding flat
 flat-none seps lens nums i h = rw (drop-of-length-le lens)
-
--- a part that is lent
-pub part-is : (seps : List ℕ) (p l : ℕ) → take (p + l - p) (drop p seps) ≡ part seps p l
-part-is seps p l = let z : p + l - p ≡ l = omega arith in rw z
 
 pub part-long : (seps : List ℕ) (p l : ℕ) → p + l ≤ length seps → length (take (p + l - p) (drop p seps)) ≡ l
 part-long seps p l g = rw (part-is seps p l) (length-mid seps p l g)
@@ -103,13 +99,6 @@ module _ (seps lens : List ℕ) (size q p i : ℕ) (w : Sized seps lens size q p
   size-end h xs e = sym (w .sum xs e ∙ rw (flat-none (drop p seps) lens (drop i xs) i h) (omega arith))
 
 -- ---- what the scratch holds from its front on
-
-splice-front : (b xs : List ℕ) → splice b 0 xs ≡ xs ++ drop (length xs) b
-unfolding splice
-splice-front b xs = let z : 0 + length xs ≡ length xs = omega arith in rw z
-
-pub take-front : (b xs : List ℕ) (c : ℕ) → c ≡ length xs → take c (splice b 0 xs) ≡ xs
-take-front b xs c h = rw (splice-front b xs) (take-at xs (drop (length xs) b) c (sym h))
 
 -- The entries that the scratch was filled with are read from it.
 module _ (es : List Entry) (s l x s' l' x' : List ℕ) (c : ℕ) (c-is : c ≡ length es) (hs : s' ≡ splice s 0 (separators es)) (hl : l' ≡ splice l 0 (lengths es)) where

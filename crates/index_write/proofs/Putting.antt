@@ -2,8 +2,8 @@
 use Prim.Native.Nat.{ℕ, suc, _+_, _-_, _≤_, _<_}
 use mathlib.Core.Path.{_≡_, refl, _∙_, sym, ap}
 use mathlib.Core.List.{List, [], _∷_, _++_}
-use lib.ListN.{length, getD, take, drop, set, length-append, length-drop, take-append-drop, List·getD-append}
-use lib.Seq.{length-take-le, getD-take, getD-drop, take-all, take-at, drop-at, take-append-le, drop-append-le}
+use lib.ListN.{length, getD, take, drop, set, length-append, List·getD-append}
+use lib.Seq.{length-take-le, getD-take, getD-drop, take-all}
 use native.Mathlib.Omega.{arith}
 use Rattle.fields.specs.Bytes.{part, splice}
 use Rattle.fields.specs.Order.{common}
@@ -58,27 +58,6 @@ repeat-none b from at n h k =
     let e : length (part b from n) ≡ n = length-mid b from n (omega arith) in
     let c : b ≡ splice b (at + length (part b from n)) (drop (length (part b from n)) (part b from n)) = copy-none b at (part b from n) in
     rw e at c
-
--- ---- parts of what was stored
-
-pub part-front : (xs ys : List ℕ) (i n : ℕ) → i + n ≤ length xs → part (xs ++ ys) i n ≡ part xs i n
-part-front xs ys i n h =
-    let l : length (drop i xs) ≡ length xs - i = length-drop i xs in
-    rw (drop-append-le i xs ys (omega arith)) (take-append-le n (drop i xs) ys (omega arith))
-
--- what lies left of a store stays
-pub part-splice-left : (b : List ℕ) (a : ℕ) (xs : List ℕ) (i n : ℕ) → i + n ≤ a → a ≤ length b → part (splice b a xs) i n ≡ part b i n
-unfolding splice
-part-splice-left b a xs i n h k =
-    let l : length (take a b) ≡ a = length-take-le a b k in
-    let e : part (take a b ++ drop a b) i n ≡ part b i n = rw (take-append-drop a b) in
-    part-front (take a b) (xs ++ drop (a + length xs) b) i n (omega arith) ∙ sym (part-front (take a b) (drop a b) i n (omega arith)) ∙ e
-
--- what was stored is there
-pub part-splice : (b : List ℕ) (a : ℕ) (xs : List ℕ) (n : ℕ) → a ≤ length b → length xs ≡ n → part (splice b a xs) a n ≡ xs
-unfolding splice
-part-splice b a xs n k e =
-    rw (drop-at (take a b) (xs ++ drop (a + length xs) b) a (length-take-le a b k)) (take-at xs (drop (a + length xs) b) n e)
 
 -- ---- one value stored
 

@@ -2,20 +2,20 @@
 use Prim.Native.Nat.{ℕ, _+_, _-_, _*_, _^_, _≤_}
 use mathlib.Core.Path.{_≡_, refl, _∙_, sym, ap}
 use mathlib.Core.Bool.{true}
-use mathlib.Core.List.{List, [], _∷_, _++_, append-assoc, append-nil}
+use mathlib.Core.List.{List, [], _∷_, _++_, append-assoc}
 use lib.ListN.{length, getD, take, drop, replicate, length-append, length-replicate}
-use lib.Seq.{length-take-le, take-at, drop-at, take-append-le, drop-append-le, take-take, take-add, drop-length}
+use lib.Seq.{length-take-le, take-at, drop-at, take-append-le, drop-append-le, take-take, take-add}
 use native.Mathlib.Omega.{arith}
 use Rattle.fields.specs.Bytes.{Octets, part, splice, digits}
 use Rattle.fields.proofs.Numbers.{length-digits}
 use Rattle.fields.proofs.Splices.{length-splice, length-mid, splice-splice, splice-after}
 use Rattle.index.specs.Meaning.{Entry, Meaning}
 use Rattle.index.specs.Rules.{closed}
-use Rattle.index.specs.Layout.{freeBytes, header, trailer}
+use Rattle.index.specs.Layout.{freeBytes, header}
 use Rattle.index.specs.Form.{entriesSize, entriesBytes, indexSize, indexBytes}
 use Rattle.index.specs.Reading.{numbersAt, frame}
 use Rattle.index.proofs.Sounding.{Framed, frame-apart}
-use Rattle.index.proofs.Taking.{part-at, byte-at, field-at, free-at, length-numbersAt}
+use Rattle.index.proofs.Taking.{part-at, byte-at, field-at, free-at, length-numbersAt, trailer-at}
 use Rattle.index.proofs.Compressing.{length-freeBytes, length-entriesBytes}
 use Rattle.index.proofs.Forming.{form-is}
 use Rattle.index_write.specs.Flat.{renewed}
@@ -33,15 +33,6 @@ module _ (w : ℕ) (b : List ℕ) (o : Octets b) (large : 31 ≤ length b) (old 
 
   f : Framed w b
   f = frame-apart w b old
-
-  -- RDF and CIDF hold what they must
-  bottom : drop R b ≡ trailer R
-  unfolding trailer
-  bottom =
-      let d2 : drop (S - 2) b ≡ digits 2 0 ++ [] = field-at 2 b (S - 2) S 0 [] o (omega arith) (omega arith) (f .none) (drop-length b) in
-      let d4 : drop (S - 4) b ≡ digits 2 R ++ (digits 2 0 ++ []) = field-at 2 b (S - 4) (S - 2) R _ o (omega arith) (omega arith) (f .cidf) d2 in
-      let d6 : drop (S - 6) b ≡ digits 2 R ++ (digits 2 R ++ (digits 2 0 ++ [])) = field-at 2 b (S - 6) (S - 4) R _ o (omega arith) (omega arith) (f .rdf-length) d4 in
-      byte-at b R (S - 6) 0 _ (omega arith) (omega arith) (f .rdf) d6 ∙ simp append-nil
 
   -- and so do the first 18 bytes
   abbrev head : List ℕ
@@ -109,7 +100,7 @@ module _ (w : ℕ) (b : List ℕ) (o : Octets b) (large : 31 ≤ length b) (old 
         let a1 : 24 + w * length (numbersAt w b 24 c) ≡ u = rw (length-numbersAt w b 24 c) in
         let a2 : R - entriesSize w [] es ≡ e = omega arith in
         let a3 : R - indexSize w m ≡ e - u = omega (arith, size) in
-        form-is w S m (omega (arith, size)) ends ∙ rw (a1, a3, a2, header-is, ← free-bytes, ← bottom) (simp append-assoc)
+        form-is w S m (omega (arith, size)) ends ∙ rw (a1, a3, a2, header-is, ← free-bytes, ← (trailer-at w b o large f)) (simp append-assoc)
 
     -- ---- the stores
 

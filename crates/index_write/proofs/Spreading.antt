@@ -14,7 +14,7 @@ use Rattle.index.specs.Reading.{unusedAt, freeCount, pieceAt, piecesAt, numbers
 use Rattle.index.proofs.Sounding.{Sound, sound-apart}
 use Rattle.index.proofs.Keeping.{rules-apart}
 use Rattle.index.proofs.Compressing.{length-spell}
-use Rattle.index.proofs.Taking.{length-numbersAt}
+use Rattle.index.proofs.Taking.{length-numbersAt, free-are, length-piecesAt}
 use Rattle.index.proofs.Inserting.{entry}
 use Rattle.index.proofs.Growing.{separatorBefore}
 use Rattle.index_write.specs.declared.Cursor.{Cursor}
@@ -22,8 +22,7 @@ use Rattle.index_write.specs.Divided.{cuts, partsOf, dividedAt, newMeani
 use Rattle.index_write.specs.Flat.{separators, short, Readable, Roomy, Added, newest, Newest}
 use Rattle.index_write.specs.Prepared.{SoundRecord, Divisible, Prepared}
 use Rattle.index_write.proofs.Adding.{separators-append, added-as, added-more, short-bytes}
-use Rattle.index_write.proofs.Taking.{free-are}
-use Rattle.index_write.proofs.Walking.{rises-short, length-piecesAt, pieces-append, spell-append, readable-first, readable-second, Next, next}
+use Rattle.index_write.proofs.Walking.{rises-short, pieces-append, spell-append, readable-first, readable-second, Next, next}
 use Rattle.index_write.proofs.Dividing.{length-parts, divided-entries}
 
 -- What a sound record gives.
@@ -41,7 +40,7 @@ module _ (n : ℕ) (ib : List ℕ) (old : SoundRecord n ib) where
   unused-inside = omega (arith, sound .placed .apart)
 
   pub free-many : length (readIndex 1 n ib .free) ≡ freeCount 1 ib
-  free-many = rw (free-are n ib) (length-numbersAt 1 ib 24 (freeCount 1 ib))
+  free-many = rw (free-are 1 n ib) (length-numbersAt 1 ib 24 (freeCount 1 ib))
 
   pub entries-are : readIndex 1 n ib .entries ≡ spell [] (piecesAt 1 ib (length ib - 7) (n - freeCount 1 ib))
   unfolding readIndex piecesIn
@@ -151,7 +150,7 @@ module _ (n i : ℕ) (three : Bool) (first second ib s l x : List ℕ) (given : 
 
   pub new-entries : newMeaning 1 n ib i (cuts three first second) .entries ≡ pre ++ (parts ++ post)
   new-entries =
-      rw (← free-are n ib) (divided-entries (readIndex 1 n ib) pre (entry sep (p .num)) post i (cuts three first second) old-entries pre-many)
+      rw (← free-are 1 n ib) (divided-entries (readIndex 1 n ib) pre (entry sep (p .num)) post i (cuts three first second) old-entries pre-many)
 
   pre-bytes : length (separators pre) ≤ 255 * i
   pre-bytes = omega (arith, short-bytes pre (first-readable .few), pre-many)

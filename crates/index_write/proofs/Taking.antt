@@ -7,16 +7,7 @@ use native.Mathlib.Omega.{arith}
 use Rattle.fields.specs.Bytes.{number}
 use Rattle.index.specs.Reading.{unusedAt, freeCount, numbersAt, readIndex}
 use Rattle.index.proofs.Closing.{count-one}
-use Rattle.index.proofs.Taking.{length-numbersAt}
-
--- The j-th of c numbers from place a on.
-pub getD-numbersAt : (w : ℕ) (ib : List ℕ) (a c j : ℕ) → j < c → getD (numbersAt w ib a c) j 0 ≡ number w ib (a + w * j)
-unfolding numbersAt
-getD-numbersAt w ib a zero j h = absurd (omega arith)
-getD-numbersAt w ib a (suc c) zero h = let e : a + w * 0 ≡ a = omega arith in rw e
-getD-numbersAt w ib a (suc c) (suc j) h =
-    let e : a + w + w * j ≡ a + w * suc j = omega arith in
-    getD-numbersAt w ib (a + w) c j (omega arith) ∙ rw e
+use Rattle.index.proofs.Taking.{length-numbersAt, number-at, free-are}
 
 -- The first c' of them.
 pub take-numbersAt : (w : ℕ) (ib : List ℕ) (a c k : ℕ) → k ≤ c → take k (numbersAt w ib a c) ≡ numbersAt w ib a k
@@ -31,13 +22,8 @@ pub taken-is : (ib : List ℕ) (k u r : ℕ) → u ≡ unusedAt ib → k < freeC
 taken-is ib k u r u-is h r-is =
     let c : freeCount 1 ib ≡ unusedAt ib - 24 = count-one ib in
     let e : u - 1 * (k + 1) ≡ 24 + 1 * (freeCount 1 ib - (k + 1)) = omega (arith, c, u-is, h) in
-    r-is ∙ rw e (sym (getD-numbersAt 1 ib 24 (freeCount 1 ib) (freeCount 1 ib - (k + 1)) (omega arith)))
-
--- The free numbers of a record are those between its header and its unused space.
-pub free-are : (n : ℕ) (ib : List ℕ) → readIndex 1 n ib .free ≡ numbersAt 1 ib 24 (freeCount 1 ib)
-unfolding readIndex
-free-are n ib = refl
+    r-is ∙ rw e (sym (number-at 1 ib 24 (freeCount 1 ib) (freeCount 1 ib - (k + 1)) (omega arith)))
 
 pub taken-free : (n : ℕ) (ib : List ℕ) (k r : ℕ) → r ≡ getD (numbersAt 1 ib 24 (freeCount 1 ib)) (freeCount 1 ib - (k + 1)) 0
     → r ≡ getD (readIndex 1 n ib .free) (length (readIndex 1 n ib .free) - (k + 1)) 0
-taken-free n ib k r e = rw (free-are n ib, length-numbersAt 1 ib 24 (freeCount 1 ib)) e
+taken-free n ib k r e = rw (free-are 1 n ib, length-numbersAt 1 ib 24 (freeCount 1 ib)) e

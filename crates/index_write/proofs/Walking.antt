@@ -1,7 +1,7 @@
 -- Laws of entries that are read one after another: the next one, and where the others begin.
 use Prim.Native.Nat.{ℕ, zero, suc, _+_, _-_, _≤_}
 use mathlib.Core.Path.{_≡_, refl, _∙_, sym}
-use mathlib.Core.Bool.{Bool, true, false}
+use mathlib.Core.Bool.{true}
 use mathlib.Core.List.{List, [], _∷_, _++_}
 use lib.ListN.{length, take, length-append}
 use lib.Seq.{length-take-le}
@@ -9,7 +9,7 @@ use lib.Dec.{leb}
 use native.Mathlib.Omega.{arith}
 use borrow.Author.Tests.{leb-true, le-leb}
 use Rattle.fields.specs.Choice.{both}
-use Rattle.fields.proofs.Choices.{both-split}
+use Rattle.fields.proofs.Choices.{both-split, both-assoc}
 use Rattle.index.specs.Bounds.{bound}
 use Rattle.index.specs.Meaning.{Entry}
 use Rattle.index.specs.Rules.{rises}
@@ -19,10 +19,6 @@ use Rattle.index.proofs.Keeping.{separator-short, rises-apart}
 use Rattle.index.proofs.Growing.{separatorBefore}
 use Rattle.index.proofs.Taking.{chars-long}
 use Rattle.index_write.specs.Flat.{short, Readable}
-
-both-assoc : (a b c : Bool) → both (both a b) c ≡ both a (both b c)
-both-assoc true b c = refl
-both-assoc false b c = refl
 
 pub short-append : (xs ys : List Entry) → short (xs ++ ys) ≡ both (short xs) (short ys)
 unfolding short
@@ -37,11 +33,6 @@ rises-short K low (e ∷ es) h r =
     let a = rises-apart K low e es r in
     let s : length (e .sep) ≤ 255 = omega (arith, separator-short K (e .sep) (a .0)) in
     rw (le-leb (length (e .sep)) 255 s, rises-short K (bound K (e .sep)) es h (a .2))
-
-pub length-piecesAt : (w : ℕ) (b : List ℕ) (r k : ℕ) → length (piecesAt w b r k) ≡ k
-unfolding piecesAt
-length-piecesAt w b r zero = refl
-length-piecesAt w b r (suc k) = rw (length-piecesAt w b (r - pieceSize w (pieceAt w b r)) k)
 
 -- ---- some entries, and those after them
 

@@ -9,7 +9,7 @@ use native.Mathlib.Numerals.{add-one}
 use Rattle.fields.specs.Bytes.{part, splice, digits}
 use Rattle.fields.specs.Order.{common}
 use Rattle.fields.proofs.Numbers.{length-digits}
-use Rattle.fields.proofs.Splices.{sets-splice, length-splice, splice-splice, splice-nil, splice-after}
+use Rattle.fields.proofs.Splices.{sets-splice, length-splice, splice-splice, splice-nil, splice-after, part-is}
 use Rattle.index.specs.Meaning.{Entry}
 use Rattle.index.specs.Layout.{piecesBytes}
 use Rattle.index.specs.Form.{packed, entrySize, entryBytes, entriesSize, entriesBytes}
@@ -17,7 +17,7 @@ use Rattle.index.proofs.Compressing.{length-entryBytes, length-entriesBytes}
 use Rattle.index.proofs.Forming.{entry-is, entries-cons}
 use Rattle.index.proofs.Inserting.{entry}
 use Rattle.index_write.specs.Flat.{flat, total}
-use Rattle.index_write.proofs.Measuring.{size-is, part-is, total-next, flat-next, flat-none}
+use Rattle.index_write.proofs.Measuring.{size-is, total-next, flat-next, flat-none}
 
 -- ---- one entry
 

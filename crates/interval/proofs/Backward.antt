@@ -10,15 +10,15 @@ use native.Mathlib.Omega.{arith}
 use borrow.Author.Tests.{eqb-true, eqb-false}
 use Rattle.fields.specs.Choice.{no}
 use Rattle.fields.specs.Bytes.{Octets, part, digits}
-use Rattle.fields.proofs.Choices.{both-split}
+use Rattle.fields.proofs.Choices.{both-split, no-true}
 use Rattle.fields.proofs.Splices.{length-mid}
 use Rattle.fields.proofs.Numbers.{number-below, digits-number}
 use Rattle.measures.specs.declared.Measures.{Measures}
 use Rattle.room.specs.Room.{sum, Group, spelt}
-use Rattle.interval.specs.Records.{concat, lengthsFine}
+use Rattle.interval.specs.Records.{concat, lengthsFine, keysOf, ascending}
 use Rattle.interval.specs.Layout.{groupsBytes, layout, LaidOut}
-use Rattle.interval.specs.Reading.{displacement, unusedField, busy, unusedLength, rdfsAt, rdfsMany, rdfsIn, wellFormed, lengths, recordsIn, formSound}
-use Rattle.interval.proofs.Cutting.{concat-cut, map-length-cut}
+use Rattle.interval.specs.Reading.{displacement, unusedField, busy, unusedLength, rdfsAt, rdfsMany, rdfsIn, wellFormed, lengths, recordsIn, formSound, sound}
+use Rattle.interval.proofs.Cutting.{concat-cut, map-length-cut, sum-lengths}
 use Rattle.interval.proofs.Groups.{rdfsBytes, groups-bytes, lengths-rdfsOf, Grouped, grouped}
 use Rattle.interval.proofs.Written.{rdfs-there}
 
@@ -44,9 +44,10 @@ laid b rs gs d u k h c g p q =
     let j : length (part b d u) ≡ u = length-mid b d u (omega arith) in
     rw (c, g, i, j, p, q) (sym (five-parts b d u k h))
 
-no-true : (t : Bool) → no t ≡ true → t ≡ false
-no-true true e = sym e
-no-true false e = refl
+-- A sound interval has a sound form and ascending keys.
+pub form-and-keys : (m : Measures) (ci : List ℕ) → sound m ci ≡ true → (formSound m ci ≡ true) × (ascending (keysOf m (recordsIn ci)) ≡ true)
+unfolding sound
+form-and-keys m ci h = both-split (formSound m ci) (ascending (keysOf m (recordsIn ci))) h
 
 -- The tests of a sound form, one by one.
 pub record Tests (m : Measures) (ci : List ℕ) : Type 0 where
@@ -81,6 +82,10 @@ module _ (m : Measures) (ci : List ℕ) (h : formSound m ci ≡ true) where
   pub read-lengths : map length (recordsIn ci) ≡ lengths (rdfsIn ci)
   unfolding recordsIn
   read-lengths = map-length-cut ci (lengths (rdfsIn ci)) inside
+
+  -- take the bytes up to the unused space
+  pub read-bytes : length (concat (recordsIn ci)) ≡ displacement ci
+  read-bytes = sym (sum-lengths (recordsIn ci)) ∙ ap sum read-lengths ∙ tests .total
 
   -- and each of them is one that the measures allow
   pub read-lengths-fine : lengthsFine m (recordsIn ci) ≡ true

@@ -1,9 +1,9 @@
 -- Laws of records laid one after another, and of cutting them apart.
-use Prim.Native.Nat.{ℕ, _+_, _-_, _≤_}
-use mathlib.Core.Path.{_≡_, refl, ap}
+use Prim.Native.Nat.{ℕ, _+_, _-_, _≤_, zero, suc, _<_}
+use mathlib.Core.Path.{_≡_, refl, ap, _∙_}
 use mathlib.Core.List.{List, [], _∷_, _++_, map, append-assoc, append-nil}
-use lib.ListN.{length, take, drop, length-append, length-drop}
-use lib.Seq.{take-append-seam, drop-append-seam, length-take-le, take-add}
+use lib.ListN.{length, take, drop, length-append, length-drop, getD}
+use lib.Seq.{take-append-seam, drop-append-seam, length-take-le, take-add, drop-drop}
 use native.Mathlib.Omega.{arith}
 use Rattle.room.specs.Room.{sum}
 use Rattle.interval.specs.Records.{concat}
@@ -38,3 +38,16 @@ unfolding cut sum
 map-length-cut b [] h = refl
 map-length-cut b (l ∷ ls) h =
     rw (length-take-le l b (omega arith), map-length-cut (drop l b) ls (simp length-drop (omega arith)))
+
+-- there are as many pieces as lengths
+pub length-cut : (b ls : List ℕ) → length (cut b ls) ≡ length ls
+unfolding cut
+length-cut b [] = refl
+length-cut b (l ∷ ls) = rw (length-cut (drop l b) ls)
+
+-- piece j
+pub record-at : (bytes lens : List ℕ) (j : ℕ) → j < length lens → getD (cut bytes lens) j [] ≡ take (getD lens j 0) (drop (sum (take j lens)) bytes)
+unfolding cut sum
+record-at bytes [] j h = absurd (omega arith)
+record-at bytes (l ∷ ls) zero h = refl
+record-at bytes (l ∷ ls) (suc j) h = record-at (drop l bytes) ls j (omega arith) ∙ rw (drop-drop (sum (take j ls)) l bytes)

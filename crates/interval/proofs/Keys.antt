@@ -1,35 +1,19 @@
--- Where a record's key lies in the interval.
-use Prim.Native.Nat.{ℕ, zero, suc, _+_, _-_, _≤_}
+-- The first of the records that are cut apart, the limits of lengths, and how long a key is.
+use Prim.Native.Nat.{ℕ, _+_, _≤_, zero, suc, _<_}
 use mathlib.Core.Path.{_≡_, refl}
 use mathlib.Core.Bool.{true}
-use mathlib.Core.List.{List, [], _∷_}
-use lib.ListN.{length, take, drop}
-use lib.Seq.{take-take, drop-drop, take-nil}
+use mathlib.Core.List.{List, _∷_, [], _++_, map}
+use lib.ListN.{length, take, drop, getD}
+use lib.Seq.{drop-drop}
 use lib.Dec.{leb}
 use native.Mathlib.Omega.{arith}
-use native.Mathlib.Nat.{sub-zero}
 use borrow.Author.Tests.{leb-true}
 use Rattle.fields.specs.Choice.{both}
-use Rattle.fields.specs.Bytes.{part}
-use Rattle.fields.proofs.Choices.{both-split}
-use Rattle.interval.specs.Records.{within, allWithin}
+use Rattle.fields.proofs.Choices.{both-split, both-join}
+use Rattle.fields.proofs.Splices.{length-mid}
+use Rattle.measures.specs.declared.Measures.{Measures}
+use Rattle.interval.specs.Records.{within, allWithin, keyOf, lengthsFine}
 use Rattle.interval.specs.Reading.{cut}
-
-pub drop-take : (n m : ℕ) (xs : List ℕ) → drop n (take m xs) ≡ take (m - n) (drop n xs)
-drop-take zero m xs = simp sub-zero
-drop-take (suc n) zero xs =
-    let e : 0 - suc n ≡ 0 = omega arith in
-    rw e
-drop-take (suc n) (suc m) [] = rw take-nil
-drop-take (suc n) (suc m) (x ∷ xs) =
-    let e : suc m - suc n ≡ m - n = omega arith in
-    rw e (drop-take n m xs)
-
--- a key that ends within its record is that part of the interval
-pub key-part : (ci : List ℕ) (at l offset key : ℕ) → offset + key ≤ l → part (take l (drop at ci)) offset key ≡ part ci (at + offset) key
-key-part ci at l offset key h =
-    let i : key ≤ l - offset = omega arith in
-    rw (drop-take offset l (drop at ci), drop-drop, take-take key (l - offset) _ i)
 
 -- the records from a place on: the first, and those after it
 pub cut-cons : (ci : List ℕ) (at l : ℕ) (ls : List ℕ) → cut (drop at ci) (l ∷ ls) ≡ take l (drop at ci) ∷ cut (drop (at + l) ci) ls
@@ -49,3 +33,34 @@ module _ (least most l : ℕ) (ls : List ℕ) (h : allWithin least most (l ∷ l
   pub within-rest : allWithin least most ls ≡ true
   unfolding allWithin
   within-rest = both-split (within least most l) (allWithin least most ls) h .1
+
+-- lengths of two lists
+pub within-append : (least most : ℕ) (xs ys : List ℕ) → allWithin least most (xs ++ ys) ≡ true → (allWithin least most xs ≡ true) × (allWithin least most ys ≡ true)
+unfolding allWithin
+within-append least most [] ys h = (refl, h)
+within-append least most (x ∷ xs) ys h =
+    let s = both-split (within least most x) (allWithin least most (xs ++ ys)) h in
+    let r = within-append least most xs ys (s .1) in
+    (both-join (within least most x) (allWithin least most xs) (s .0) (r .0), r .1)
+
+pub within-join : (least most : ℕ) (xs ys : List ℕ) → allWithin least most xs ≡ true → allWithin least most ys ≡ true → allWithin least most (xs ++ ys) ≡ true
+unfolding allWithin
+within-join least most [] ys h k = k
+within-join least most (x ∷ xs) ys h k =
+    let s = both-split (within least most x) (allWithin least most xs) h in
+    both-join (within least most x) (allWithin least most (xs ++ ys)) (s .0) (within-join least most xs ys (s .1) k)
+
+-- Each of some records whose lengths the measures allow has at least the least.
+pub fine-at : (least most i : ℕ) (rs : List (List ℕ)) → allWithin least most (map length rs) ≡ true → i < length rs → least ≤ length (getD rs i [])
+fine-at least most i [] a h = absurd (omega arith)
+fine-at least most zero (r ∷ rs) a h = within-low least most (length r) (map length rs) a
+fine-at least most (suc i) (r ∷ rs) a h = fine-at least most i rs (within-rest least most (length r) (map length rs) a) (omega arith)
+
+-- no record has a wrong length where there is none
+pub none-fine : (m : Measures) → lengthsFine m [] ≡ true
+unfolding allWithin
+none-fine m = refl
+
+-- the key of a record that is long enough has the key's length
+pub key-long : (m : Measures) (r : List ℕ) → m .offset + m .key ≤ length r → length (keyOf m r) ≡ m .key
+key-long m r h = length-mid r (m .offset) (m .key) h

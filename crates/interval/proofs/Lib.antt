@@ -3,8 +3,8 @@ pub mod Groups
 pub mod Written
 pub mod Forward
 pub mod Backward
-pub mod Octets
 pub mod Form
 pub mod Unsound
 pub mod Vectors
 pub mod Keys
+pub mod Ascending

@@ -14,6 +14,7 @@ use Rattle.fields.specs.declared.Order.the-variants.{Less, Same, Greater}
 use Rattle.measures.specs.declared.Measures.{Measures}
 use Rattle.interval.specs.Records.{concat, keyOf, keysOf, ascending}
 use Rattle.interval.specs.Reading.{displacement, rdfsAt, rdfsMany, rdfs, rdfsIn, lengths, cut, recordsIn, Readable}
+use Rattle.interval.proofs.Ascending.{ascend-tail}
 use Rattle.interval_find.specs.Search.{lower, holds, startOf, placeOf, Within}
 use Rattle.interval_find.specs.Steps.{rest, Ready, Stepped}
 use Rattle.interval_find.specs.declared.Found.{Found}
@@ -21,7 +22,7 @@ use Rattle.interval_find.specs.declared.Found.the-variants.{At, Gap}
 use Rattle.interval_find.specs.declared.Place.{Place}
 use Rattle.interval_find.specs.declared.Step.the-variants.{Record}
 use Rattle.interval_find.proofs.Steps.{recordsFrom, records-step, length-record, key-there, readable-ascends, readable-bytes}
-use Rattle.interval_find.proofs.Search.{ascend-tail, first-less, first-lower, first-holds, place-within}
+use Rattle.interval_find.proofs.Search.{first-less, first-lower, first-holds, place-within}
 
 abbrev pub byOrder : Order → Found → Found → Found → Found
 byOrder Less a b c = a

@@ -11,26 +11,13 @@ use Rattle.fields.specs.Choice.{pick, either}
 use Rattle.fields.specs.Order.{orderOf, isLess, less}
 use Rattle.fields.specs.declared.Order.{Order}
 use Rattle.fields.specs.declared.Order.the-variants.{Less, Same, Greater}
-use Rattle.fields.proofs.Choices.{both-split, both-join, false-true, pick-true, pick-false}
-use Rattle.fields.proofs.Orders.{flip, order-flip, order-same, less-asym, le-less}
+use Rattle.fields.proofs.Choices.{both-split, false-true, pick-true, pick-false}
+use Rattle.fields.proofs.Orders.{flip, order-flip, order-same, less-asym}
 use Rattle.measures.specs.declared.Measures.{Measures}
-use Rattle.interval.specs.Records.{concat, keyOf, keysOf, ascendFrom, ascending, above}
+use Rattle.interval.specs.Records.{concat, keyOf, keysOf, ascending, above}
+use Rattle.interval.proofs.Ascending.{ascend-tail, ascend-above}
 use Rattle.interval_find.specs.Search.{isSame, lower, holds, startOf, placeOf, allBelow, Within}
 use Rattle.interval_find.specs.declared.Found.the-variants.{At, Gap}
-
-pub ascend-tail : (k : List ℕ) (ks : List (List ℕ)) → ascending (k ∷ ks) ≡ true → ascending ks ≡ true
-unfolding ascending ascendFrom
-ascend-tail k [] h = refl
-ascend-tail k (x ∷ ks) h = both-split (less k x) (ascendFrom x ks) h .1
-
--- keys that ascend from one that is not below the bound are above the bound
-pub ascend-above : (low key : List ℕ) (ks : List (List ℕ)) → ascendFrom low ks ≡ true → less low key ≡ false → above key ks ≡ true
-unfolding ascendFrom above
-ascend-above low key [] h e = refl
-ascend-above low key (k ∷ ks) h e =
-    let s = both-split (less low k) (ascendFrom k ks) h in
-    let g : less key k ≡ true = le-less key low k e (s .0) in
-    both-join (less key k) (above key ks) g (ascend-above k key ks (s .1) (less-asym key k g))
 
 greater-same : (o : Order) → isLess o ≡ true → isSame (flip o) ≡ false
 greater-same Less h = refl

@@ -1,5 +1,5 @@
 -- The search for the record that begins at a place, from record to record.
-use Prim.Native.Nat.{ℕ, _+_, _≤_}
+use Prim.Native.Nat.{ℕ, _+_, _≤_, _<_}
 use mathlib.Core.Path.{_≡_, refl, _∙_, sym, ap}
 use mathlib.Core.List.{List, [], _∷_}
 use lib.ListN.{length}
@@ -15,6 +15,12 @@ use Rattle.interval_find.specs.declared.Started.the-variants.{Here, Noth
 use Rattle.interval_find.specs.declared.Place.{Place}
 use Rattle.interval_find.specs.declared.Step.the-variants.{Record}
 use Rattle.interval_find.proofs.Steps.{recordsFrom, records-step, length-record}
+
+-- no record begins before the first
+pub starting-before : (place from : ℕ) (rs : List (List ℕ)) → place < from → startingAt place from rs ≡ []
+unfolding startingAt
+starting-before place from [] h = refl
+starting-before place from (r ∷ rs) h = rw (ne-eqb from place (omega arith)) (starting-before place (from + length r) rs (omega arith))
 
 -- at the start
 pub from-start : (ci : List ℕ) (place p many : ℕ) → p ≡ rdfsAt ci → many ≡ rdfsMany ci

@@ -1,6 +1,6 @@
 -- Places among the records of a sound interval, and what a step from one to the next says.
 use Prim.Native.Nat.{ℕ, zero, suc, _+_, _-_, _*_, _/_, _%_, _≤_, _<_}
-use mathlib.Core.Path.{_≡_, refl, _∙_, sym, ap}
+use mathlib.Core.Path.{_≡_, refl, _∙_, sym}
 use mathlib.Core.Bool.{true}
 use mathlib.Core.List.{List, [], _∷_, _++_}
 use lib.ListN.{length, replicate, take, drop, length-drop}
@@ -12,13 +12,13 @@ use borrow.Author.Tests.{leb-true}
 use Rattle.fields.specs.Choice.{both}
 use Rattle.fields.specs.Bytes.{part}
 use Rattle.fields.proofs.Choices.{both-split, false-true}
+use Rattle.fields.proofs.Splices.{part-part}
 use Rattle.measures.specs.declared.Measures.{Measures}
 use Rattle.room.specs.Room.{sum}
-use Rattle.interval.proofs.Keys.{key-part, cut-cons, within-low}
+use Rattle.interval.proofs.Keys.{cut-cons, within-low}
 use Rattle.interval.specs.Records.{concat, keyOf, keysOf, within, allWithin, ascending}
-use Rattle.interval.specs.Reading.{displacement, unusedField, rdfsAt, rdfsMany, rdfs, rdfsIn, wellFormed, lengths, cut, recordsIn, formSound, sound, Readable}
-use Rattle.interval.proofs.Cutting.{sum-lengths}
-use Rattle.interval.proofs.Backward.{Tests, form-tests, read-lengths, read-lengths-fine}
+use Rattle.interval.specs.Reading.{displacement, unusedField, rdfsAt, rdfsMany, rdfs, rdfsIn, wellFormed, lengths, cut, recordsIn, formSound, Readable}
+use Rattle.interval.proofs.Backward.{Tests, form-tests, read-lengths, read-lengths-fine, form-and-keys, read-bytes}
 use Rattle.rdf.specs.Front.{frontOf, Small}
 use Rattle.rdf.specs.declared.Front.the-variants.{Run, Damaged}
 use Rattle.rdf.proofs.Fronts.{stops, steps}
@@ -29,13 +29,11 @@ use Rattle.interval_find.specs.declared.Step.the-variants.{Record}
 -- What the readers of a sound interval know of it.
 module _ (m : Measures) (ci : List ℕ) (r : Readable m ci) where
   pub readable-form : formSound m ci ≡ true
-  unfolding sound
-  readable-form = both-split (formSound m ci) (ascending (keysOf m (recordsIn ci))) (r .stands) .0
+  readable-form = form-and-keys m ci (r .stands) .0
 
   -- the keys of the records strictly ascend
   pub readable-ascends : ascending (keysOf m (recordsIn ci)) ≡ true
-  unfolding sound
-  readable-ascends = both-split (formSound m ci) (ascending (keysOf m (recordsIn ci))) (r .stands) .1
+  readable-ascends = form-and-keys m ci (r .stands) .1
 
   tests : Tests m ci
   tests = form-tests m ci readable-form
@@ -49,7 +47,7 @@ module _ (m : Measures) (ci : List ℕ) (r : Readable m ci) where
 
   -- the records take the bytes up to the unused space
   pub readable-bytes : length (concat (recordsIn ci)) ≡ displacement ci
-  readable-bytes = sym (sum-lengths (recordsIn ci)) ∙ ap sum (read-lengths m ci readable-form) ∙ tests .total
+  readable-bytes = read-bytes m ci readable-form
 
   -- the place before the first record
   pub ready-first : (p many : ℕ) → p ≡ rdfsAt ci → many ≡ rdfsMany ci → Ready (m .least) (m .most) ci p (record { at = 0; left = many; len = 0; more = 0 })
@@ -139,7 +137,7 @@ module _ (m : Measures) (ci : List ℕ) (p : ℕ) (c : Place) (r : Ready (m .lea
   length-record = length-take-le l (drop at ci) (simp length-drop (omega (arith, lies)))
 
   pub key-there : keyOf m (take l (drop at ci)) ≡ part ci (at + m .offset) (m .key)
-  key-there = key-part ci at l (m .offset) (m .key) long
+  key-there = part-part ci at l (m .offset) (m .key) long
 
   pub key-lies : at + m .offset + m .key ≤ length ci
   key-lies = omega (arith, lies, long)

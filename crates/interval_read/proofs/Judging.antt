@@ -11,12 +11,13 @@ use Rattle.fields.specs.Choice.{pick, both, no}
 use Rattle.fields.specs.Bytes.{part}
 use Rattle.fields.specs.Order.{less}
 use Rattle.fields.proofs.Choices.{both-split, both-false, false-true}
+use Rattle.fields.proofs.Splices.{part-part}
 use Rattle.measures.specs.declared.Measures.{Measures}
 use Rattle.room.specs.Room.{sum}
 use Rattle.interval.specs.Records.{keyOf, keysOf, allWithin, ascending, ascendFrom}
 use Rattle.interval.specs.Reading.{busy, displacement, rdfsAt, rdfsMany, rdfsIn, rdfs, wellFormed, lengths, cut, recordsIn, formSound, sound}
 use Rattle.interval.proofs.Backward.{form-tests, read-lengths, read-lengths-fine}
-use Rattle.interval.proofs.Keys.{key-part, cut-cons, within-low, within-rest}
+use Rattle.interval.proofs.Keys.{cut-cons, within-low, within-rest}
 use Rattle.interval_read.specs.Verdict.{lastStart, verdictOf}
 use Rattle.interval_read.specs.Walk.{tailFine, tailOf, keysFrom, judged, walked}
 use Rattle.interval_read.specs.declared.Tail.{Tail}
@@ -37,7 +38,7 @@ pub keys-are : (m : Measures) (ci : List ℕ) (at : ℕ) (ls : List ℕ) → m .
 keys-are m ci at [] k h = unfold keysFrom cut in refl
 keys-are m ci at (l ∷ ls) k h =
     let lo = within-low (m .least) (m .most) l ls h in
-    let e : keyOf m (take l (drop at ci)) ≡ part ci (at + m .offset) (m .key) = key-part ci at l (m .offset) (m .key) (omega arith) in
+    let e : keyOf m (take l (drop at ci)) ≡ part ci (at + m .offset) (m .key) = part-part ci at l (m .offset) (m .key) (omega arith) in
     let i = keys-are m ci (at + l) ls k (within-rest (m .least) (m .most) l ls h) in
     from-more (m .offset) (m .key) ci at l ls ∙ rw (cut-cons ci at l ls, e, i)
 

@@ -1,13 +1,12 @@
 -- Keys by their places, and how a run of them ascends.
-use Prim.Native.Nat.{ℕ, zero, suc, _+_, _-_, _*_, _≤_, _<_}
-use mathlib.Core.Path.{_≡_, refl, _∙_, sym, ap}
+use Prim.Native.Nat.{ℕ, zero, suc, _+_, _-_, _≤_, _<_}
+use mathlib.Core.Path.{_≡_, refl, _∙_, sym}
 use mathlib.Core.Bool.{Bool, true, false}
 use mathlib.Core.List.{List, [], _∷_, _++_, map}
 use lib.ListN.{length, getD, take, drop, replicate, length-drop}
 use lib.Seq.{take-take, drop-drop, length-take-le}
 use lib.Dec.{eqb, leb}
 use native.Mathlib.Omega.{arith}
-use native.Mathlib.Nat.{mul-add, mul-one}
 use borrow.Author.Tests.{leb-true}
 use Rattle.fields.specs.Choice.{pick, both}
 use Rattle.fields.specs.Bytes.{part}
@@ -20,13 +19,6 @@ use Rattle.room.specs.Room.{sum}
 use Rattle.interval.specs.Records.{keyOf, keysOf, within, allWithin, ascending, ascendFrom}
 use Rattle.interval.specs.Reading.{cut}
 use Rattle.interval_read.specs.Walk.{keysAt, keysFrom}
-
--- products, one more
-pub one-more : (l c : ℕ) → l * suc c ≡ l + l * c
-one-more l c = let e : suc c ≡ 1 + c = omega arith in rw e (mul-add l 1 c ∙ rw (mul-one l))
-
-pub one-less : (l c : ℕ) → 0 < c → l * c ≡ l + l * (c - 1)
-one-less l c h = let e : c ≡ suc (c - 1) = omega arith in ap (λ (k : ℕ). l * k) e ∙ one-more l (c - 1)
 
 -- one key of a run
 pub keys-more : (key : ℕ) (ci : List ℕ) (at len c : ℕ) → 0 < c → keysAt key ci at len c ≡ part ci at key ∷ keysAt key ci (at + len) len (c - 1)

@@ -6,12 +6,12 @@ use mathlib.Core.List.{List, [], _∷_, _++_}
 use lib.ListN.{length, replicate}
 use lib.Dec.{eqb}
 use native.Mathlib.Omega.{arith}
-use native.Mathlib.Nat.{mul-le-mul-right, one-mul}
+use native.Mathlib.Nat.{mul-le-mul-right, one-mul, mul-suc}
 use borrow.Author.Tests.{eq-eqb, ne-eqb}
 use Rattle.fields.specs.Choice.{pick, both}
 use Rattle.fields.specs.Bytes.{part}
 use Rattle.fields.specs.Order.{less}
-use Rattle.fields.proofs.Choices.{both-false}
+use Rattle.fields.proofs.Choices.{both-false, both-true, both-assoc}
 use Rattle.measures.specs.declared.Measures.{Measures}
 use Rattle.room.specs.Room.{sum}
 use Rattle.interval.specs.Records.{ascendFrom}
@@ -21,7 +21,7 @@ use Rattle.interval_read.specs.Verdict.{lastStart}
 use Rattle.interval_read.specs.Walk.{keysAt, keysFrom, judged, walked}
 use Rattle.interval_read.specs.declared.Verdict.{Verdict}
 use Rattle.interval_read.specs.declared.Verdict.the-variants.{Sound, Unsound}
-use Rattle.interval_read.proofs.Keys.{one-more, one-less, keys-none, ascend-none}
+use Rattle.interval_read.proofs.Keys.{keys-none, ascend-none}
 
 -- where the last record begins, of records from a place on of which one was passed
 unfoldable pub lastFrom : ℕ → ℕ → List ℕ → ℕ
@@ -45,14 +45,14 @@ last-run last at l zero ls =
     let f : at + l * 1 ≡ at + l = omega arith in
     rw (e, f)
 last-run last at l (suc c) ls =
-    let e : at + l + l * c ≡ at + l * suc c = omega (arith, one-more l c) in
-    let f : at + l + l * suc c ≡ at + l * suc (suc c) = omega (arith, one-more l (suc c)) in
+    let e : at + l + l * c ≡ at + l * suc c = omega (arith, mul-suc l c) in
+    let f : at + l + l * suc c ≡ at + l * suc (suc c) = omega (arith, mul-suc l (suc c)) in
     last-run at (at + l) l c ls ∙ rw (e, f)
 
 pub last-runs : (last at l c : ℕ) (ls : List ℕ) → 0 < c → lastFrom last at (replicate c l ++ ls) ≡ lastFrom (at + l * c - l) (at + l * c) ls
 last-runs last at l zero ls h = absurd (omega arith)
 last-runs last at l (suc c) ls h =
-    let e : at + l * suc c - l ≡ at + l * c = omega (arith, one-more l c) in
+    let e : at + l * suc c - l ≡ at + l * c = omega (arith, mul-suc l c) in
     rw e (last-run last at l c ls)
 
 -- one key, by record and by run
@@ -65,14 +65,6 @@ at-cons : (key : ℕ) (ci prev : List ℕ) (at l c : ℕ)
     → ascendFrom prev (keysAt key ci at l (suc c)) ≡ both (less prev (part ci at key)) (ascendFrom (part ci at key) (keysAt key ci (at + l) l c))
 unfolding keysAt ascendFrom
 at-cons key ci prev at l c = refl
-
-both-true : (b : Bool) → both b true ≡ b
-both-true true = refl
-both-true false = refl
-
-both-assoc : (x y z : Bool) → both x (both y z) ≡ both (both x y) z
-both-assoc true y z = refl
-both-assoc false y z = refl
 
 -- the keys of a run, then those after it
 keys-run : (offset key : ℕ) (ci prev : List ℕ) (at l c : ℕ) (ls : List ℕ)
@@ -89,14 +81,14 @@ keys-run offset key ci prev at l zero ls =
     none q x = rw (keys-none, ascend-none)
 keys-run offset key ci prev at l (suc c) ls =
     let k : List ℕ = part ci (at + offset) key in
-    let e : at + l + l * c ≡ at + l * suc c = omega (arith, one-more l c) in
-    let f : at + l + l * suc c ≡ at + l * suc (suc c) = omega (arith, one-more l (suc c)) in
+    let e : at + l + l * c ≡ at + l * suc c = omega (arith, mul-suc l c) in
+    let f : at + l + l * suc c ≡ at + l * suc (suc c) = omega (arith, mul-suc l (suc c)) in
     let g : at + l + offset ≡ at + offset + l = omega arith in
     let i = rw (e, f, g) at (keys-run offset key ci k (at + l) l c ls) in
     let z : Bool = ascendFrom (part ci (at + l * suc c + offset) key) (keysFrom offset key ci (at + l * suc (suc c)) ls) in
     from-cons offset key ci prev at l (replicate (suc c) l ++ ls)
     ∙ ap (both (less prev k)) i
-    ∙ both-assoc (less prev k) (ascendFrom k (keysAt key ci (at + offset + l) l (suc c))) z
+    ∙ sym (both-assoc (less prev k) (ascendFrom k (keysAt key ci (at + offset + l) l (suc c))) z)
     ∙ ap (λ (b : Bool). both b z) (sym (at-cons key ci prev (at + offset) l (suc c)))
 
 keys-runs : (offset key : ℕ) (ci prev : List ℕ) (at l c : ℕ) (ls : List ℕ) → 0 < c
@@ -104,7 +96,7 @@ keys-runs : (offset key : ℕ) (ci prev : List ℕ) (at l c : ℕ) (ls : List �
     ≡ both (ascendFrom prev (keysAt key ci (at + offset) l c)) (ascendFrom (part ci (at + l * c - l + offset) key) (keysFrom offset key ci (at + l * c) ls))
 keys-runs offset key ci prev at l zero ls h = absurd (omega arith)
 keys-runs offset key ci prev at l (suc c) ls h =
-    let e : at + l * suc c - l ≡ at + l * c = omega (arith, one-more l c) in
+    let e : at + l * suc c - l ≡ at + l * c = omega (arith, mul-suc l c) in
     rw e (keys-run offset key ci prev at l c ls)
 
 -- where the key before lies, if there is one

@@ -13,10 +13,11 @@ use Rattle.area.specs.Content.{Content}
 use Rattle.area.specs.Reading.{whole, readArea}
 use Rattle.area.specs.Layout.{Lent}
 use Rattle.area.proofs.Parts.{fits-lent}
+use Rattle.area.proofs.Filling.{entries-take}
 use Rattle.change.specs.Fitting.{Fitting}
 use Rattle.answers.specs.Model.{Change, insert, update, erase}
 use Rattle.answers.specs.Changing.{Outcome}
-use Rattle.answers.proofs.Edits.{Proper, entries-take}
+use Rattle.answers.proofs.Edits.{Proper}
 use Rattle.answers.proofs.Accepted.{editOf, Accepted}
 
 -- Bytes whose length is not refused are lent as the laws ask.

@@ -14,13 +14,14 @@ use Rattle.measures.specs.declared.Judged.the-variants as judged
 use Rattle.interval.specs.Records.{keyOf, within}
 use Rattle.area.specs.Content.{Content, recordsOf, baseOf}
 use Rattle.area.specs.Reading.{Reading, damaged, whole, readArea}
-use Rattle.change.specs.Plan.{Plan, noInterval, noRoom, stores, planOf}
+use Rattle.change.specs.Plan.{planOf}
 use Rattle.answers.specs.Answers.{numberOf}
 use Rattle.answers.specs.Records.{withKey, lyingAt}
 use Rattle.answers.specs.Reading.{Given, refused, handOut, getRead, getJudged, getOf, getAtRead, getAtJudged, getAtOf, Gives}
-use Rattle.answers.specs.Changing.{Outcome, kept, editFor, carryOut, insertNew, insertRead, insertJudged, insertOf, updateOld, updateRead, updateJudged, updateOf, eraseOld, eraseRead, eraseJudged, eraseOf, Makes}
+use Rattle.answers.specs.Changing.{Outcome, kept, editFor, insertNew, insertRead, insertJudged, insertOf, updateOld, updateRead, updateJudged, updateOf, eraseOld, eraseRead, eraseJudged, eraseOf, Makes}
 use Rattle.answers.specs.declared.Answer.{Answer}
 use Rattle.answers.specs.declared.Answer.the-variants.{Found, Damaged, Short, Outside, WrongLength, Present, Absent, NoRecord}
+use Rattle.answers.proofs.Order.{refused-spares as carry-spares}
 use Rattle.promises.specs.Harmless.{Refusal, RefusedHarmless}
 
 -- an outcome that is no refusal, or that leaves the area; and so for what a get gives
@@ -31,11 +32,6 @@ abbrev SparesOutput : List ℕ → Given → Type 0
 SparesOutput out g = Refusal (g .answer) → g .output ≡ out
 
 -- ---- changes
-
-carry-spares : (m : Measures) (area : List ℕ) (p : Plan) → Spares area (carryOut m area p)
-carry-spares m area noInterval n = refl
-carry-spares m area noRoom n = refl
-carry-spares m area (stores ss) n = absurd (n refl)
 
 -- what holds of both arms holds of the choice
 choose : (P : Outcome → Type 0) (t : Bool) (x y : Outcome) → P x → P y → P (pick t x y)

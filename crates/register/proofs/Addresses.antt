@@ -14,24 +14,24 @@ use borrow.Author.Tests.{eqb-true, eqb-false, eq-eqb, ne-eqb, ltb-true, ltb-fals
 use Rattle.fields.specs.Choice.{pick, both}
 use Rattle.fields.specs.Bytes.{part, number}
 use Rattle.fields.proofs.Choices.{both-split}
+use Rattle.fields.proofs.Splices.{part-part}
 use Rattle.measures.specs.declared.Measures.{Measures}
 use Rattle.interval.specs.Records.{concat, keysOf, ascending, above, upTo, allWithin, lengthsFine}
 use Rattle.interval.specs.Reading.{recordsIn, displacement, formSound, sound}
-use Rattle.interval.proofs.Backward.{read-lengths-fine, read-lengths, form-tests, read-concat}
-use Rattle.interval.proofs.Cutting.{sum-lengths}
+use Rattle.interval.proofs.Backward.{read-lengths-fine, form-tests, read-concat, form-and-keys, read-bytes}
 use Rattle.interval.proofs.Keys.{within-low, within-rest}
 use Rattle.interval_find.specs.Search.{startingAt, startedOf}
 use Rattle.interval_find.specs.declared.Started.{Started}
 use Rattle.interval_find.specs.declared.Started.the-variants as started
 use Rattle.index.specs.Bounds.{bound}
 use Rattle.index.specs.Meaning.{Entry, Meaning, numbers, named, count, below, once, namedOnce}
-use Rattle.index.proofs.Naming.{count-same, count-other, named-below, below-append}
 use Rattle.index.specs.Reading.{readIndex}
+use Rattle.index.proofs.Counting.{count-same, count-other, count-append, once-each, below-apart, count-out}
+use Rattle.index.proofs.Naming.{both-below}
 use Rattle.area.specs.Content.{Content, Filled, indexIn, dataIn, fill, entriesOf, meaningOf, baseOf}
-use Rattle.area.specs.Soundness.{soundFree, soundUsed}
+use Rattle.area.specs.Soundness.{soundUsed}
 use Rattle.area.specs.Reading.{readArea, whole}
 use Rattle.area.proofs.Sounding.{Sound, AllFree, AllUsed, sound-apart, sound-rules, sound-filled, sound-reads}
-use Rattle.area.proofs.Roles.{once-each, count-among}
 use Rattle.area_read.specs.Measured.{Measured}
 use Rattle.area_read.proofs.Places.{length-data}
 use Rattle.seek.specs.Sought.{Whole, soughtAt, lyingOf}
@@ -39,8 +39,9 @@ use Rattle.seek.specs.declared.Lying.{Lying}
 use Rattle.seek.specs.declared.Lying.the-variants.{Here, Nowhere}
 use Rattle.seek.proofs.Readables.{each-sound}
 use Rattle.answers.specs.Records.{lyingAt}
-use Rattle.register.proofs.Finding.{part-part}
 use Rattle.index_read.proofs.Header.{base-kept}
+use Rattle.interval_find.proofs.Starting.{starting-before}
+use Rattle.area.proofs.Intervals.{free-apart}
 
 -- ---- one interval
 
@@ -59,11 +60,6 @@ starting-shift b place from (r ∷ rs) =
         go true h = eq-eqb (b + from) (b + place) (omega (arith, eqb-true from place h))
         go false h = ne-eqb (b + from) (b + place) (λ z. eqb-false from place h (omega arith))
 
-starting-before : (place from : ℕ) (rs : List (List ℕ)) → place < from → startingAt place from rs ≡ []
-unfolding startingAt
-starting-before place from [] h = refl
-starting-before place from (r ∷ rs) h = rw (ne-eqb from place (omega arith)) (starting-before place (from + length r) rs (omega arith))
-
 starting-after : (least most place from : ℕ) (rs : List (List ℕ)) → 1 ≤ least → allWithin least most (map length rs) ≡ true → from + length (concat rs) ≤ place → startingAt place from rs ≡ []
 unfolding startingAt concat
 starting-after least most place from [] s w h = refl
@@ -78,26 +74,11 @@ record Fine (m : Measures) (ci : List ℕ) : Type 0 where
   bytes : length (concat (recordsIn ci)) + 4 ≤ length ci
 
 sound-fine : (m : Measures) (ci : List ℕ) → sound m ci ≡ true → Fine m ci
-unfolding sound
 sound-fine m ci h =
-    let f = both-split (formSound m ci) (ascending (keysOf m (recordsIn ci))) h .0 in
-    let t = form-tests m ci f in
-    record { lengths = read-lengths-fine m ci f; bytes = omega (arith, t .total, t .adds-up, sum-lengths (recordsIn ci), ap Rattle.room.specs.Room.sum (read-lengths m ci f)) }
-
--- a free interval holds no record
-empty-free : (m : Measures) (ci : List ℕ) → soundFree m ci ≡ true → recordsIn ci ≡ []
-unfolding soundFree
-empty-free m ci f = go (recordsIn ci) (eqb-true (length (recordsIn ci)) 0 (both-split (sound m ci) (eqb (length (recordsIn ci)) 0) f .1))
-  where
-    go : (rs : List (List ℕ)) → length rs ≡ 0 → rs ≡ []
-    go [] h = refl
-    go (r ∷ rs) h = absurd (omega arith)
+    let f = form-and-keys m ci h .0 in
+    record { lengths = read-lengths-fine m ci f; bytes = omega (arith, read-bytes m ci f, form-tests m ci f .adds-up) }
 
 -- ---- the address in an area
-
-below-apart : (n x : ℕ) (xs : List ℕ) → below n (x ∷ xs) ≡ true → (x < n) × (below n xs ≡ true)
-unfolding below
-below-apart n x xs h = let s = both-split (ltb x n) (below n xs) h in (ltb-true x n (s .0), s .1)
 
 count-zero : (q x : ℕ) (xs : List ℕ) → count q (x ∷ xs) ≡ 0 → (x ≡ q → ⊥) × (count q xs ≡ 0)
 unfolding count
@@ -106,15 +87,6 @@ count-zero q x xs = go (eqb x q) refl
     go : (b : Bool) → eqb x q ≡ b → pick b (count q xs + 1) (count q xs) ≡ 0 → (x ≡ q → ⊥) × (count q xs ≡ 0)
     go true e h = absurd (omega arith)
     go false e h = (eqb-false x q e, h)
-
-count-both : (k : ℕ) (xs ys : List ℕ) → count k (xs ++ ys) ≡ count k xs + count k ys
-unfolding count
-count-both k [] ys = omega arith
-count-both k (x ∷ xs) ys = go (eqb x k) (count-both k xs ys)
-  where
-    go : (b : Bool) → count k (xs ++ ys) ≡ count k xs + count k ys → pick b (count k (xs ++ ys) + 1) (count k (xs ++ ys)) ≡ pick b (count k xs + 1) (count k xs) + count k ys
-    go true i = omega arith
-    go false i = i
 
 -- an interval whose number is another does not reach the address
 module _ (m : Measures) (n : ℕ) (area : List ℕ) (o : Measured m n area) (base address q t : ℕ) (is : address ≡ base + q * m .size + t) (small : t < m .size) where
@@ -187,7 +159,7 @@ module _ (m : Measures) (n : ℕ) (area : List ℕ) (o : Measured m n area) (bas
   free-empty (k ∷ ks) a z = go (eqb k q) refl (λ y. free-empty ks (a .1) y)
     where
       go : (x : Bool) → eqb k q ≡ x → (1 ≤ count q ks → recordsIn (dataIn m area q) ≡ []) → recordsIn (dataIn m area q) ≡ []
-      go true h i = rw (← eqb-true k q h) (empty-free m (dataIn m area k) (a .0))
+      go true h i = rw (← eqb-true k q h) (free-apart m (dataIn m area k) (a .0) .1)
       go false h i = i (omega (arith, count-other q k ks (eqb-false k q h)))
 
 -- ---- the record that begins there
@@ -250,12 +222,6 @@ starting-bytes least most place from (x ∷ rs) s w h r xs e =
 
 -- ---- what the search by address says of the reading
 
-count-out : (q n : ℕ) (xs : List ℕ) → below n xs ≡ true → n ≤ q → count q xs ≡ 0
-count-out q n [] b h = unfold count in refl
-count-out q n (x ∷ xs) b h =
-    let s = below-apart n x xs b in
-    count-other q x xs (omega (arith, s .0)) ∙ count-out q n xs (s .1) h
-
 zero-of : (a b : ℕ) → (b ≡ 1 → ⊥) → a + b ≡ 1 → b ≡ 0
 zero-of a zero d e = refl
 zero-of a (suc b) d e = absurd (d (omega arith))
@@ -276,9 +242,7 @@ module _ (m : Measures) (n : ℕ) (area : List ℕ) (o : Measured m n area) (w :
 
   names : (below n (w .content .free) ≡ true) × (below n (numbers (entriesOf (w .content .filled))) ≡ true)
   names =
-      let k = sound-rules m n area (w .content) s in
-      let b = sym (below-append n (w .content .free) (numbers (entriesOf (w .content .filled)))) ∙ named-below n (named (meaningOf (w .content))) (k .naming) in
-      both-split (below n (w .content .free)) (below n (numbers (entriesOf (w .content .filled)))) b
+      both-below n (meaningOf (w .content)) (sound-rules m n area (w .content) s .naming)
 
   filled-is : lyingAt m base address (w .content .filled) ≡ lyingAt m base address (fill m area (entriesOf (w .content .filled)))
   filled-is = ap (lyingAt m base address) (sound-filled m n area (w .content) s)
@@ -313,7 +277,7 @@ module _ (m : Measures) (n : ℕ) (area : List ℕ) (o : Measured m n area) (w :
         let k = sound-rules m n area (w .content) s in
         let z = both-split (below n (named (meaningOf (w .content)))) (once (named (meaningOf (w .content))) n) (k .naming) in
         let e = once-each (named (meaningOf (w .content))) n ((address - base) / m .size) (z .1) l in
-        let c = count-both ((address - base) / m .size) (w .content .free) (numbers (entriesOf (w .content .filled))) in
+        let c = count-append ((address - base) / m .size) (w .content .free) (numbers (entriesOf (w .content .filled))) in
         filled-is ∙ go (eqb (count ((address - base) / m .size) (numbers (entriesOf (w .content .filled)))) 1) refl (omega arith)
       where
         go : (b : Bool) → eqb (count ((address - base) / m .size) (numbers (entriesOf (w .content .filled)))) 1 ≡ b

@@ -11,6 +11,7 @@ use Rattle.fields.specs.Bytes.{Octets, part}
 use Rattle.measures.specs.declared.Measures.{Measures}
 use Rattle.interval.specs.Records.{concat, keyOf, within}
 use Rattle.interval.specs.Reading.{recordsIn}
+use Rattle.interval.proofs.Keys.{key-long}
 use Rattle.interval_find.specs.Search.{lower, startOf, holds, placeOf}
 use Rattle.interval_find.specs.declared.Found.the-variants.{At, Gap}
 use Rattle.index.specs.Meaning.{Entry, numbers}
@@ -18,6 +19,7 @@ use Rattle.index.specs.Search.{leadsTo}
 use Rattle.division.proofs.Changed.{concat-none, concat-one}
 use Rattle.area.specs.Content.{Filled, dataIn, recordsOf, entriesOf}
 use Rattle.area.specs.Layout.{Lent}
+use Rattle.area.proofs.Filling.{entries-take}
 use Rattle.area_read.specs.Measured.{Measured}
 use Rattle.change.specs.Parts.{Edit, entryAt}
 use Rattle.change.specs.Plan.{planOf}
@@ -27,7 +29,7 @@ use Rattle.seek.specs.declared.Spot.{Spot}
 use Rattle.answers.specs.Records.{withKey}
 use Rattle.answers.specs.Changing.{editFor, makeEdit, Makes}
 use Rattle.answers.specs.declared.Answer.{Answer}
-use Rattle.answers.proofs.Edits.{Proper, entries-take, led-entry, key-long, key-octets, within-least, insert-proper, update-proper, erase-proper}
+use Rattle.answers.proofs.Edits.{Proper, led-entry, key-octets, within-least, insert-proper, update-proper, erase-proper}
 use Rattle.carry_out.specs.declared.Made.{Made}
 use Rattle.register.specs.Told.{answerFor}
 use Rattle.carry_out.specs.Carried.{MadeEdit}

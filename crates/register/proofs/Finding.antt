@@ -1,18 +1,17 @@
 -- What a search found is the record of the reading: by key and by address.
-use Prim.Native.Nat.{ℕ, zero, suc, _+_, _-_, _*_, _/_, _%_, _≤_, _<_}
+use Prim.Native.Nat.{ℕ, zero, suc, _+_, _*_, _/_, _%_, _≤_, _<_}
 use mathlib.Core.Path.{_≡_, refl, _∙_, sym, ap}
 use mathlib.Core.Bool.{Bool, true, false}
 use mathlib.Core.List.{List, [], _∷_, _++_, append-nil}
-use lib.ListN.{length, getD, take, drop, length-drop}
-use lib.Seq.{take-take, drop-drop}
+use lib.ListN.{length, getD, take, length-drop}
 use native.Mathlib.Omega.{arith}
 use Rattle.fields.specs.Choice.{pick, both}
 use Rattle.fields.specs.Bytes.{Octets, part}
 use Rattle.fields.proofs.Choices.{both-split}
+use Rattle.fields.proofs.Splices.{part-part}
 use Rattle.measures.specs.declared.Measures.{Measures}
 use Rattle.interval.specs.Records.{keysOf, ascending, above, upTo}
 use Rattle.interval.specs.Reading.{recordsIn, displacement, formSound, sound, Readable}
-use Rattle.interval.proofs.Keys.{drop-take}
 use Rattle.interval_find.specs.Search.{placeOf, Within}
 use Rattle.interval_find.specs.declared.Found.the-variants.{At, Gap}
 use Rattle.interval_find.proofs.Parts.{place-bytes}
@@ -34,12 +33,6 @@ use Rattle.seek.specs.declared.Spot.{Spot}
 use Rattle.seek.proofs.Readables.{readable}
 use Rattle.answers.specs.Records.{withKey}
 use Rattle.answers.proofs.Keys.{with-append, with-below, with-above, with-at, with-gap}
-
--- a part of a part
-pub part-part : (xs : List ℕ) (a n s l : ℕ) → s + l ≤ n → part (part xs a n) s l ≡ part xs (a + s) l
-part-part xs a n s l h =
-    let i : l ≤ n - s = omega arith in
-    rw (drop-take s n (drop a xs), drop-drop, take-take l (n - s) _ i)
 
 -- the number of the entry behind some others
 number-there : (pre : List Filled) (f : Filled) (post : List Filled) → getD (numbers (entriesOf (pre ++ (f ∷ post)))) (length pre) 0 ≡ f .num

@@ -9,30 +9,22 @@ use Rattle.fields.specs.Choice.{both, no}
 use Rattle.fields.specs.Bytes.{part}
 use Rattle.fields.specs.Order.{less}
 use Rattle.fields.proofs.Choices.{both-split, false-true}
-use Rattle.fields.proofs.Orders.{less-trans}
+use Rattle.fields.proofs.Orders.{less-trans, less-asym}
 use Rattle.room.specs.Room.{sum}
 use Rattle.room.proofs.Laws.{sum-cons}
 use Rattle.interval.specs.Records.{ascendFrom, above, upTo}
+use Rattle.interval.proofs.Ascending.{ascend-above}
 use Rattle.interval_read.specs.Verdict.{lastStart}
 use Rattle.interval_read.specs.Walk.{keysFrom}
 use Rattle.interval_read.proofs.Keys.{empty-below, ascend-cons}
 use Rattle.interval_read.proofs.Judging.{from-more}
-
--- above a bound that is below the first
-ascend-above : (low k : List ℕ) (ks : List (List ℕ)) → less low k ≡ true → ascendFrom k ks ≡ true → above low ks ≡ true
-unfolding above ascendFrom
-ascend-above low k [] h a = refl
-ascend-above low k (x ∷ xs) h a =
-    let s = both-split (less k x) (ascendFrom x xs) a in
-    let l : less low x ≡ true = less-trans low k x h (s .0) in
-    rw l (ascend-above low x xs l (s .1))
 
 pub above-first : (low k : List ℕ) (ks : List (List ℕ)) → ascendFrom k ks ≡ true → above low (k ∷ ks) ≡ less low k
 unfolding above
 above-first low k ks a = go (less low k) refl
   where
     go : (b : Bool) → less low k ≡ b → both b (above low ks) ≡ b
-    go true e = ascend-above low k ks e a
+    go true e = ascend-above k low ks a (less-asym low k e)
     go false e = refl
 
 -- the last of some keys
@@ -63,6 +55,11 @@ up-to-last high k (x ∷ xs) a =
     go true e i f = rw (f e)
     go false e i f = i
 
+-- where the last record begins, if there are two or more
+pub start-more : (l k : ℕ) (ls : List ℕ) → lastStart (l ∷ k ∷ ls) ≡ l + lastStart (k ∷ ls)
+unfolding lastStart
+start-more l k ls = refl
+
 -- by place: the last key of records of these lengths
 pub last-from : (offset key : ℕ) (ci : List ℕ) (at l : ℕ) (ls : List ℕ)
     → lastKey (part ci (at + offset) key) (keysFrom offset key ci (at + l) ls) ≡ part ci (at + lastStart (l ∷ ls) + offset) key
@@ -71,8 +68,5 @@ last-from offset key ci at l (k ∷ ls) =
     let e : at + l + lastStart (k ∷ ls) + offset ≡ at + lastStart (l ∷ k ∷ ls) + offset = omega (arith, start-more l k ls) in
     rw (from-more offset key ci (at + l) k ls) (more (part ci (at + offset) key) (part ci (at + l + offset) key) (keysFrom offset key ci (at + l + k) ls) ∙ last-from offset key ci (at + l) k ls ∙ rw e)
   where
-    start-more : (l k : ℕ) (ls : List ℕ) → lastStart (l ∷ k ∷ ls) ≡ l + lastStart (k ∷ ls)
-    start-more l k ls = unfold lastStart in refl
-
     more : (p q : List ℕ) (r : List (List ℕ)) → lastKey p (q ∷ r) ≡ lastKey q r
     more p q r = unfold lastKey in refl

@@ -10,13 +10,13 @@ use borrow.Author.Tests.{eqb-true, eqb-false}
 use Rattle.fields.specs.Choice.{pick, both, no}
 use Rattle.fields.specs.Bytes.{part}
 use Rattle.fields.specs.Order.{less}
-use Rattle.fields.proofs.Choices.{both-split, false-true, pick-true}
+use Rattle.fields.proofs.Choices.{false-true, pick-true}
 use Rattle.measures.specs.declared.Measures.{Measures}
 use Rattle.room.specs.Room.{sum}
 use Rattle.room.proofs.Laws.{sum-cons}
 use Rattle.interval.specs.Records.{keysOf, allWithin, ascending, ascendFrom, above, upTo}
 use Rattle.interval.specs.Reading.{displacement, rdfsIn, rdfsMany, lengths, cut, recordsIn, formSound, sound}
-use Rattle.interval.proofs.Backward.{form-tests, read-lengths, read-lengths-fine}
+use Rattle.interval.proofs.Backward.{form-tests, read-lengths, read-lengths-fine, form-and-keys}
 use Rattle.interval.proofs.Keys.{within-low, within-rest}
 use Rattle.interval_read.specs.Verdict.{lastStart, verdictOf}
 use Rattle.interval_read.specs.Walk.{keysFrom}
@@ -27,7 +27,7 @@ use Rattle.interval_read.proofs.Judging.{from-more, keys-are}
 use Rattle.area.specs.Soundness.{soundFree}
 use Rattle.role.specs.Opened.{openedOf}
 use Rattle.role.specs.declared.Opened.the-variants.{Sound, Bad}
-use Rattle.role.proofs.Ends.{above-first, up-to-last, lastKey, last-from}
+use Rattle.role.proofs.Ends.{above-first, up-to-last, lastKey, last-from, start-more}
 
 -- the verdict taken apart
 pub record Told (m : Measures) (ci : List ℕ) (count last : ℕ) : Type 0 where
@@ -62,10 +62,6 @@ pub free-not : (m : Measures) (ci : List ℕ) → sound m ci ≡ false → false
 unfolding soundFree
 free-not m ci e = rw e
 
-start-more : (l k : ℕ) (ls : List ℕ) → lastStart (l ∷ k ∷ ls) ≡ l + lastStart (k ∷ ls)
-unfolding lastStart
-start-more l k ls = refl
-
 start-one : (l : ℕ) → lastStart (l ∷ []) ≡ 0
 unfolding lastStart
 start-one l = refl
@@ -79,12 +75,10 @@ last-room least most l (k ∷ ls) h =
 -- the keys of a sound interval by their places
 module _ (m : Measures) (ci : List ℕ) (some : 1 ≤ m .key) (inside : m .offset + m .key ≤ m .least) (h : sound m ci ≡ true) where
   form : formSound m ci ≡ true
-  unfolding sound
-  form = both-split (formSound m ci) (ascending (keysOf m (recordsIn ci))) h .0
+  form = form-and-keys m ci h .0
 
   rises : ascending (keysOf m (recordsIn ci)) ≡ true
-  unfolding sound
-  rises = both-split (formSound m ci) (ascending (keysOf m (recordsIn ci))) h .1
+  rises = form-and-keys m ci h .1
 
   keys-from : keysOf m (recordsIn ci) ≡ keysFrom (m .offset) (m .key) ci 0 (map length (recordsIn ci))
   unfolding recordsIn

@@ -10,7 +10,7 @@ use native.Mathlib.Omega.{arith}
 use native.Mathlib.Numerals.{add-one}
 use borrow.Author.Tests.{eqb-true, eqb-false, eq-eqb, ne-eqb, le-leb}
 use Rattle.fields.specs.Choice.{pick, both}
-use Rattle.fields.proofs.Choices.{both-false}
+use Rattle.fields.proofs.Choices.{both-false, both-true}
 use Rattle.room.specs.Room.{sum, rdfCount, push, groups, need}
 use Rattle.room.specs.Steps.{starts, again, ahead, ended, behind, lastOf, runOf, roomOf, also}
 use Rattle.room.specs.declared.Room.{Room}
@@ -38,10 +38,6 @@ module _ (r : Room) (l : ℕ) where
   also-more e f g = rw (ne-eqb (r .run) 0 e, eq-eqb (r .last) l f, ne-eqb (r .run) 1 g)
 
 -- Adding a record to the room of some gives the room of all.
-
-both-true : (t : Bool) → both t true ≡ t
-both-true true = refl
-both-true false = refl
 
 rdfs-snoc : (ls : List ℕ) (l : ℕ) (t : Bool) → ended ls l ≡ t
     → rdfCount (groups (ls ++ l ∷ [])) ≡ pick t (rdfCount (groups ls)) (rdfCount (groups ls) + 1)

@@ -7,10 +7,10 @@ use lib.ListN.{length, take, drop, getD, length-append, length-map}
 use lib.Seq.{length-take-le, take-take, take-add, drop-cons}
 use native.Mathlib.Omega.{arith}
 use Rattle.fields.specs.Bytes.{splice}
+use Rattle.fields.proofs.Splices.{drop-take, take-front}
 use Rattle.measures.specs.declared.Measures.{Measures}
 use Rattle.interval.specs.Records.{concat, keysOf, ascending}
 use Rattle.interval.specs.Reading.{displacement, recordsIn, Readable}
-use Rattle.interval.proofs.Keys.{drop-take}
 use Rattle.interval.proofs.Backward.{read-concat}
 use Rattle.interval_find.specs.Search.{startOf, placeOf}
 use Rattle.interval_find.specs.declared.Found.the-variants.{At, Gap}
@@ -19,7 +19,7 @@ use Rattle.interval_find.proofs.Search.{start-most, place-at, place-gap}
 use Rattle.interval_find.proofs.Gather.{records-few}
 use Rattle.division.specs.Changed as changed
 use Rattle.division.specs.Changed.{swap}
-use Rattle.division.proofs.Changed.{concat-append, concat-one, three-copies, swap-length, swap-small, swap-concat, swap-lengths, splice-front}
+use Rattle.division.proofs.Changed.{concat-append, concat-one, three-copies, swap-length, swap-small, swap-concat, swap-lengths}
 use Rattle.scratch.specs.Changed.{Goes, Changed}
 use Rattle.scratch.specs.declared.Flat.{Flat}
 
@@ -45,7 +45,7 @@ module _ (m : Measures) (ci : List ℕ) (r : Readable m ci) where
   lengths-few = omega (arith, records-few m ci r, r .small)
 
   pub told : (b₀ b : List ℕ) (n : ℕ) → n ≡ length (recordsIn ci) → b ≡ splice b₀ 0 (map length (recordsIn ci)) → take n b ≡ map length (recordsIn ci)
-  told b₀ b n k e = rw (k, e, ← length-map (recordsIn ci) length) (splice-front b₀ (map length (recordsIn ci)))
+  told b₀ b n k e = rw (k, e, ← length-map (recordsIn ci) length) (take-front b₀ (map length (recordsIn ci)) _ refl)
 
 -- The bytes of the records that go end where the next record starts, and lie within those of all.
 module _ (rs : List (List ℕ)) (ordinal start gone span : ℕ) (goes : Goes rs ordinal start gone span) where
@@ -116,6 +116,6 @@ pub changed-flat : (bytes₀ lens₀ bytes lens : List ℕ) (rs : List (List ℕ
     → changed.Flat (take (f .bytes) bytes) (take (f .count) lens) rs
 changed-flat bytes₀ lens₀ bytes lens rs f c =
     record {
-      bytes-are = rw (c .total, c .bytes-are) (splice-front bytes₀ (concat rs));
-      lens-are = rw (c .many, c .lens-are, ← length-map rs length) (splice-front lens₀ (map length rs));
+      bytes-are = rw (c .total, c .bytes-are) (take-front bytes₀ (concat rs) _ refl);
+      lens-are = rw (c .many, c .lens-are, ← length-map rs length) (take-front lens₀ (map length rs) _ refl);
     }

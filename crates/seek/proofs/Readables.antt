@@ -4,40 +4,34 @@ use mathlib.Core.Path.{_≡_, refl, _∙_, sym, ap}
 use mathlib.Core.Bool.{Bool, true, false}
 use mathlib.Core.List.{List, [], _∷_, _++_, List·Memᴰ, List·Memᴰ·head, List·Memᴰ·tail, List·Memᴰ·not-nil, List·Memᴰ·cases-cons, List·Memᴰ·append-cases}
 use mathlib.Core.Logic.{⊎-elim}
-use lib.ListN.{length}
-use lib.Dec.{eqb}
 use native.Mathlib.Omega.{arith}
-use Rattle.fields.specs.Choice.{both}
 use Rattle.fields.proofs.Choices.{both-split}
 use Rattle.measures.specs.declared.Measures.{Measures}
-use Rattle.interval.specs.Records.{keysOf, above, upTo}
-use Rattle.interval.specs.Reading.{recordsIn, sound, Readable}
+use Rattle.interval.specs.Reading.{sound, Readable}
 use Rattle.index.specs.Bounds.{bound}
 use Rattle.index.specs.Meaning.{Entry, Meaning, numbers, named, below, once, namedOnce}
 use Rattle.index.specs.Reading.{soundIndex}
+use Rattle.index.proofs.Counting.{once-each, count-among}
 use Rattle.area.specs.Content.{Content, indexIn, dataIn, meaningOf}
-use Rattle.area.specs.Soundness.{soundFree, soundUsed}
 use Rattle.area.specs.Reading.{readArea, whole}
 use Rattle.area.proofs.Sounding.{Sound, AllFree, AllUsed, sound-apart, sound-rules}
-use Rattle.area.proofs.Roles.{once-each, count-among}
+use Rattle.area.proofs.Intervals.{free-apart, used-apart}
 use Rattle.area_read.specs.Measured.{Measured}
 use Rattle.area_read.proofs.Places.{length-data}
 use Rattle.seek.specs.Sought.{Whole}
 
 free-each : (m : Measures) (area : List ℕ) (ks : List ℕ) (k : ℕ) → AllFree m area ks → List·Memᴰ k ks → sound m (dataIn m area k) ≡ true
-unfolding soundFree
 free-each m area [] k a i = absurd (List·Memᴰ·not-nil i)
 free-each m area (x ∷ ks) k a i =
-    ⊎-elim (λ (q : k ≡ x). rw q (both-split (sound m (dataIn m area x)) (eqb (length (recordsIn (dataIn m area x))) 0) (a .0) .0))
+    ⊎-elim (λ (q : k ≡ x). rw q (free-apart m (dataIn m area x) (a .0) .0))
     (λ (j : List·Memᴰ k ks). free-each m area ks k (a .1) j)
     (List·Memᴰ·cases-cons i)
 
 used-each : (m : Measures) (area low : List ℕ) (es : List Entry) (k : ℕ) → AllUsed m area low es → List·Memᴰ k (numbers es) → sound m (dataIn m area k) ≡ true
-unfolding soundUsed
 used-each m area low [] k a i = absurd (List·Memᴰ·not-nil i)
 used-each m area low (e ∷ es) k a i =
     ⊎-elim
-    (λ (q : k ≡ e .num). rw q (both-split (sound m (dataIn m area (e .num))) (both (above low (keysOf m (recordsIn (dataIn m area (e .num))))) (upTo (bound (m .key) (e .sep)) (keysOf m (recordsIn (dataIn m area (e .num)))))) (a .0) .0))
+    (λ (q : k ≡ e .num). rw q (used-apart m low (bound (m .key) (e .sep)) (dataIn m area (e .num)) (a .0) .0))
     (λ (j : List·Memᴰ k (numbers es)). used-each m area (bound (m .key) (e .sep)) es k (a .1) j)
     (List·Memᴰ·cases-cons i)
 

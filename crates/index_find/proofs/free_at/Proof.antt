@@ -1,4 +1,4 @@
-use Rattle.index_find.proofs.Free.{number-at}
+use Rattle.index.proofs.Taking.{number-at}
 use Rattle.index.specs.Reading.{freeCount}
 use denote.Ref.{now}
 use mathlib.Core.Path.{sym, _∙_}

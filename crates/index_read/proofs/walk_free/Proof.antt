@@ -1,13 +1,14 @@
 use Rattle.index.specs.Reading.{numbersAt}
 use Rattle.fields.proofs.Choices.{false-true}
 use Rattle.index_read.specs.Walk.{marking, freeAll}
-use Rattle.index_read.proofs.Marking.{mark-big, mark-again, mark-on, mark-end, free-on, free-end, one-less}
+use Rattle.index_read.proofs.Marking.{mark-big, mark-again, mark-on, mark-end, free-on, free-end}
 use denote.Ref.{now}
 use lib.ListN.{length}
 use native.Mathlib.Omega.{arith}
 use Prim.Native.Nat.{_+_, _*_, _<_, _≤_, _^_}
 use mathlib.Core.Path.{_≡_, refl, sym, _∙_}
 use borrow.Author.Needs.{needs}
+use Rattle.fields.proofs.Numbers.{one-less}
 use Rattle.index_read.proofs.walk_free.Statement.{statement}
 use Rattle.index_read.proofs.walk_free.Tie as tie
 

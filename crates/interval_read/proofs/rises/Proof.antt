@@ -6,9 +6,10 @@ use borrow.Author.Needs.{needs}
 use Rattle.fields.specs.Bytes.{part}
 use Rattle.fields.specs.Order.{orderOf}
 use Rattle.fields.proofs.Answers.{not-less}
+use Rattle.fields.proofs.Numbers.{one-less}
 use Rattle.interval.specs.Records.{ascendFrom}
 use Rattle.interval_read.specs.Walk.{keysAt}
-use Rattle.interval_read.proofs.Keys.{one-less, run-on, run-stops, keys-none, ascend-none}
+use Rattle.interval_read.proofs.Keys.{run-on, run-stops, keys-none, ascend-none}
 use Rattle.interval_read.proofs.rises.Statement.{statement}
 use Rattle.interval_read.proofs.rises.Tie as tie
 

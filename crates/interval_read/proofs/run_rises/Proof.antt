@@ -1,8 +1,9 @@
 use mathlib.Core.Path.{_≡_, _∙_, sym}
 use native.Mathlib.Omega.{arith}
 use borrow.Author.Tests.{eq-eqb, ne-eqb}
-use Rattle.interval_read.proofs.Keys.{one-less, run-first}
+use Rattle.interval_read.proofs.Keys.{run-first}
 use borrow.Author.Needs.{needs}
+use Rattle.fields.proofs.Numbers.{one-less}
 use Rattle.interval_read.proofs.run_rises.Statement.{statement}
 use Rattle.interval_read.proofs.run_rises.Tie as tie
 

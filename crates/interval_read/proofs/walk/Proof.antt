@@ -5,12 +5,12 @@ use lib.ListN.{length}
 use native.Mathlib.Omega.{arith}
 use borrow.Author.Needs.{needs}
 use borrow.Author.Tests.{eq-eqb, ne-eqb, not-true, not-false}
+use Rattle.fields.proofs.Numbers.{one-less}
 use Rattle.interval.specs.Reading.{rdfs}
 use Rattle.rdf.specs.Front.{frontOf}
 use Rattle.rdf.specs.declared.Front.the-variants.{Run, Damaged}
 use Rattle.rdf.proofs.Fronts.{Step, steps, stops, front-within}
 use Rattle.rdf.proofs.Rdfs.{prod16}
-use Rattle.interval_read.proofs.Keys.{one-less}
 use Rattle.interval_read.proofs.Walking.{Come, set-out, ended, no-group, too-long, falls, goes-on}
 use Rattle.interval_read.proofs.walk.Statement.{statement}
 use Rattle.interval_read.proofs.walk.Tie as tie

@@ -1,9 +1,9 @@
--- Lists of bytes: what is put together of bytes is bytes.
+-- Lists of bytes: what is taken from bytes or put together of bytes is bytes.
 use Prim.Native.Nat.{ℕ, zero, suc, _+_, _/_, _%_, _<_}
 use mathlib.Core.List.{List, [], _∷_, _++_}
-use lib.ListN.{take, replicate}
+use lib.ListN.{length, take, drop, replicate}
 use native.Mathlib.Omega.{arith}
-use Rattle.fields.specs.Bytes.{Octets, digits}
+use Rattle.fields.specs.Bytes.{Octets, part, splice, digits}
 
 -- no bytes
 pub octets-nil : Octets []
@@ -24,6 +24,22 @@ pub octets-take : (n : ℕ) (xs : List ℕ) → Octets xs → Octets (take n xs)
 octets-take zero xs o = octets-nil
 octets-take (suc n) [] o = o
 octets-take (suc n) (x ∷ xs) o = octets-cons x (take n xs) (o 0) (octets-take n xs (λ i. o (suc i)))
+
+-- what follows a front
+pub octets-drop : (n : ℕ) (xs : List ℕ) → Octets xs → Octets (drop n xs)
+octets-drop zero xs o = o
+octets-drop (suc n) [] o = o
+octets-drop (suc n) (x ∷ xs) o = octets-drop n xs (λ i. o (suc i))
+
+-- a part
+pub octets-part : (b : List ℕ) (a l : ℕ) → Octets b → Octets (part b a l)
+octets-part b a l o = octets-take l (drop a b) (octets-drop a b o)
+
+-- bytes stored among bytes
+pub octets-store : (b : List ℕ) (a : ℕ) (new : List ℕ) → Octets b → Octets new → Octets (splice b a new)
+unfolding splice
+octets-store b a new o p =
+    octets-append (take a b) (new ++ drop (a + length new) b) (octets-take a b o) (octets-append new (drop (a + length new) b) p (octets-drop (a + length new) b o))
 
 -- one byte many times
 pub octets-replicate : (n x : ℕ) → x < 256 → Octets (replicate n x)
