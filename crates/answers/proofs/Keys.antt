@@ -15,7 +15,7 @@ use Rattle.fields.specs.Order.{orderOf, less, isLess}
 use Rattle.fields.specs.Table.{sameList}
 use Rattle.fields.specs.declared.Order.{Order}
 use Rattle.fields.specs.declared.Order.the-variants.{Less, Same, Greater}
-use Rattle.fields.proofs.Choices.{both-split, false-true}
+use Rattle.fields.proofs.Choices.{both-split, false-true, off}
 use Rattle.fields.proofs.Orders.{less-irrefl, order-refl}
 use Rattle.measures.specs.declared.Measures.{Measures}
 use Rattle.interval.specs.Records.{keyOf, keysOf, ascending, above}
@@ -39,20 +39,16 @@ same-means (x ∷ a) (y ∷ b) h =
     let q : a ≡ b = same-means a b (s .1) in
     cc
 
--- a list below another is not the same
+-- Lists that differ are told apart,
+pub differ : (a b : List ℕ) → (a ≡ b → ⊥) → sameList a b ≡ false
+differ a b n = off (sameList a b) (λ (e : sameList a b ≡ true). n (same-means a b e))
+
+-- and one is not the same as another below it, or above.
 pub less-differs : (a b : List ℕ) → less a b ≡ true → sameList a b ≡ false
-less-differs a b h = go (sameList a b) refl
-  where
-    go : (t : Bool) → sameList a b ≡ t → t ≡ false
-    go true e = absurd (false-true (sym (less-irrefl b) ∙ rw (same-means a b e) at h))
-    go false e = refl
+less-differs a b h = differ a b (λ (e : a ≡ b). false-true (sym (less-irrefl b) ∙ rw e at h))
 
 pub more-differs : (a b : List ℕ) → less b a ≡ true → sameList a b ≡ false
-more-differs a b h = go (sameList a b) refl
-  where
-    go : (t : Bool) → sameList a b ≡ t → t ≡ false
-    go true e = absurd (false-true (sym (less-irrefl b) ∙ rw (same-means a b e) at h))
-    go false e = refl
+more-differs a b h = differ a b (λ (e : a ≡ b). false-true (sym (less-irrefl b) ∙ rw e at h))
 
 pub with-append : (m : Measures) (key : List ℕ) (xs ys : List (List ℕ)) → withKey m key (xs ++ ys) ≡ withKey m key xs ++ withKey m key ys
 unfolding withKey

@@ -1,27 +1,26 @@
 -- Records by their address: at most one lies at an address, since starts within an interval ascend, records end within their interval, and every interval in use is named once.
-use Prim.Native.Nat.{ℕ, zero, suc, _+_, _*_, _≤_, _<_}
+use Prim.Native.Nat.{ℕ, _+_, _*_, _≤_, _<_}
 use mathlib.Core.Path.{_≡_, refl, _∙_, ap}
 use mathlib.Core.Bool.{Bool, true, false}
 use mathlib.Core.List.{List, [], _∷_, _++_, map, map-append, List·Memᴰ, List·Memᴰ·head, List·Memᴰ·tail, List·Memᴰ·not-nil, List·Memᴰ·cases-cons, List·Memᴰ·eq-of-singleton, Memᴰ·append-right}
 use mathlib.Core.Logic.{⊎-elim}
-use lib.ListN.{length, getD, take, drop, length-append, length-take}
-use lib.Dec.{eqb, ltb}
+use lib.ListN.{length, getD, drop, length-take}
+use lib.Dec.{ltb}
 use native.Mathlib.Omega.{arith}
 use native.Mathlib.Nat.{mul-le-mul-right, le-trans}
-use borrow.Author.Tests.{eqb-true, eq-eqb, ne-eqb, ltb-true, ltb-false}
-use Rattle.fields.specs.Choice.{pick}
+use borrow.Author.Tests.{ltb-true, ltb-false}
 use Rattle.measures.specs.declared.Measures.{Measures}
 use Rattle.interval.specs.Records.{concat, allWithin, lengthsFine}
-use Rattle.interval.specs.Reading.{recordsIn, sound}
-use Rattle.interval.proofs.Backward.{form-tests, read-lengths-fine, form-and-keys, read-bytes}
-use Rattle.interval.proofs.Keys.{within-low, within-rest, within-join, fine-at}
+use Rattle.interval.specs.Reading.{recordsIn}
+use Rattle.interval.proofs.Backward.{in-size}
+use Rattle.interval.proofs.Keys.{within-join, fine-at}
 use Rattle.interval_find.specs.Search.{startingAt, startOf}
 use Rattle.interval_find.proofs.Search.{start-record}
 use Rattle.index.specs.Bounds.{bound}
 use Rattle.index.specs.Meaning.{Entry, numbers, count, once, namedOnce}
 use Rattle.index.proofs.Counting.{count-same, count-more, count-some, below-among, count-append}
 use Rattle.index.proofs.Naming.{named-below, named-each}
-use Rattle.interval_find.proofs.Starting.{starting-before}
+use Rattle.interval_find.proofs.Starting.{starting-there, starting-is}
 use Rattle.area.specs.Content.{Filled, Content, dataIn, recordsOf, fill, entriesOf}
 use Rattle.area.specs.Reading.{whole, readArea}
 use Rattle.area.proofs.Sounding.{AllUsed, sound-apart, sound-filled}
@@ -29,45 +28,6 @@ use Rattle.area.proofs.Intervals.{used-apart}
 use Rattle.area.proofs.Ascending.{numbers-once}
 use Rattle.answers.specs.Records.{lyingAt}
 use Rattle.answers.specs.Finding.{Lies}
-
--- ---- within one interval
-
-start-zero : (rs : List (List ℕ)) → startOf 0 rs ≡ 0
-unfolding concat
-start-zero rs = refl
-
-start-suc : (i : ℕ) (r : List ℕ) (rs : List (List ℕ)) → startOf (suc i) (r ∷ rs) ≡ length r + startOf i rs
-unfolding concat
-start-suc i r rs = length-append r (concat (take i rs))
-
-module _ (least most : ℕ) (some : 1 ≤ least) where
-  -- the record that starts at a place is the only one that is found there
-  starting-there : (i place from : ℕ) (rs : List (List ℕ)) → allWithin least most (map length rs) ≡ true → i < length rs → place ≡ from + startOf i rs
-      → startingAt place from rs ≡ getD rs i [] ∷ []
-  unfolding startingAt
-  starting-there i place from [] a h e = absurd (omega arith)
-  starting-there zero place from (r ∷ rs) a h e =
-      let l = within-low least most (length r) (map length rs) a in
-      let q : from ≡ place = omega (arith, start-zero (r ∷ rs)) in
-      rw (eq-eqb from place q, starting-before place (from + length r) rs (omega arith))
-  starting-there (suc i) place from (r ∷ rs) a h e =
-      let l = within-low least most (length r) (map length rs) a in
-      let q : place ≡ from + length r + startOf i rs = omega (arith, start-suc i r rs) in
-      rw (ne-eqb from place (omega arith)) (starting-there i place (from + length r) rs (within-rest least most (length r) (map length rs) a) (omega arith) q)
-
--- what is found at a place starts there
-starting-is : (place from : ℕ) (rs : List (List ℕ)) (x : List ℕ) (xs : List (List ℕ)) → startingAt place from rs ≡ x ∷ xs
-    → (i : ℕ) × (i < length rs) × (getD rs i [] ≡ x) × (place ≡ from + startOf i rs)
-unfolding startingAt
-starting-is place from [] x xs e = absurd (let z : _≡_ {A = ℕ} 0 1 = cc in omega arith)
-starting-is place from (r ∷ rs) x xs e = go (eqb from place) refl (λ (f : startingAt place (from + length r) rs ≡ x ∷ xs). starting-is place (from + length r) rs x xs f) e
-  where
-    go : (t : Bool) → eqb from place ≡ t
-        → (startingAt place (from + length r) rs ≡ x ∷ xs → (i : ℕ) × (i < length rs) × (getD rs i [] ≡ x) × (place ≡ from + length r + startOf i rs))
-        → pick t (r ∷ startingAt place (from + length r) rs) (startingAt place (from + length r) rs) ≡ x ∷ xs
-        → (i : ℕ) × (i < suc (length rs)) × (getD (r ∷ rs) i [] ≡ x) × (place ≡ from + startOf i (r ∷ rs))
-    go true q i f = (0, omega arith, cc, omega (arith, eqb-true from place q, start-zero (r ∷ rs)))
-    go false q i f = let j = i f in (suc (j .0), omega (arith, j .1), j .2, omega (arith, j .3, start-suc (j .0) r rs))
 
 -- ---- over all entries
 
@@ -209,12 +169,6 @@ apart-join m (f ∷ fs) s o =
         let ns : List ℕ = numbers (entriesOf fs) in
         let j : List·Memᴰ (f .num) ns = rw e at (number-among g fs i) in
         omega (arith, o (f .num) (List·Memᴰ·head refl), count-same (f .num) (f .num) ns refl, count-some (f .num) ns j)
-
--- a sound interval's records are in size
-in-size : (m : Measures) (ci : List ℕ) → sound m ci ≡ true → (lengthsFine m (recordsIn ci) ≡ true) × (length (concat (recordsIn ci)) + 4 ≤ length ci)
-in-size m ci h =
-    let f = form-and-keys m ci h .0 in
-    (read-lengths-fine m ci f, omega (arith, read-bytes m ci f, form-tests m ci f .adds-up))
 
 filled-in-size : (m : Measures) (area low : List ℕ) (es : List Entry) → AllUsed m area low es → (f : Filled) → List·Memᴰ f (fill m area es) → InSize m f
 unfolding fill

@@ -17,18 +17,10 @@ use Rattle.interval.proofs.Ascending.{ascend-tail, ascend-above, ascend-apart}
 use Rattle.interval_find.specs.Search.{lower}
 use Rattle.answers.specs.Records.{withKey}
 use Rattle.answers.specs.Model.{add, replace, remove, total, Change, insert, update, erase, makeChange, makeAll, Legal, AllLegal, gained, gainedAll, lost, lostAll}
-use Rattle.answers.proofs.Keys.{same-means, with-above, with-cons}
+use Rattle.answers.proofs.Keys.{same-means, with-above, with-cons, differ}
 use Rattle.answers.proofs.Around.{with-here, add-here, replace-here, remove-here, ascend-put, ascend-join, missing, standing}
 
 -- ---- in any list
-
--- Lists that differ are told apart.
-pub differ : (a b : List ℕ) → (a ≡ b → ⊥) → sameList a b ≡ false
-differ a b n = go (sameList a b) refl
-  where
-    go : (t : Bool) → sameList a b ≡ t → t ≡ false
-    go true e = absurd (n (same-means a b e))
-    go false e = refl
 
 -- what is added or left out is not seen by another key
 with-skip : (m : Measures) (k r : List ℕ) (rs : List (List ℕ)) → (keyOf m r ≡ k → ⊥) → withKey m k (r ∷ rs) ≡ withKey m k rs

@@ -102,20 +102,24 @@ module _ (m : Measures) (n : ℕ) (area : List ℕ) (long : length area ≡ (n +
   pub index-splice-length : length (splice area 0 new) ≡ length area
   index-splice-length = length-splice area 0 new (omega arith)
 
--- An area that was lent as the laws ask still is, after bytes of one interval's size were stored as an interval.
+-- An area that was lent as the laws ask still is, with other bytes of the same length;
+pub lent-other : (m : Measures) (n : ℕ) (area after : List ℕ) → Lent m n area → Octets after → length after ≡ length area → Lent m n after
+lent-other m n area after lent o e =
+    record {
+      octets = o;
+      long = e ∙ lent .long;
+      few = lent .few;
+      large = lent .large;
+      small = lent .small;
+      key-some = lent .key-some;
+      key-most = lent .key-most;
+      key-inside = lent .key-inside;
+    }
+
+-- so too after bytes of one interval's size were stored as an interval.
 module _ (m : Measures) (n : ℕ) (area : List ℕ) (lent : Lent m n area) (new : List ℕ) (size : length new ≡ m .size) (o : Octets new) where
   lent-stored : (a : ℕ) → length (splice area a new) ≡ length area → Lent m n (splice area a new)
-  lent-stored a e =
-      record {
-        octets = octets-store area a new (lent .octets) o;
-        long = e ∙ lent .long;
-        few = lent .few;
-        large = lent .large;
-        small = lent .small;
-        key-some = lent .key-some;
-        key-most = lent .key-most;
-        key-inside = lent .key-inside;
-      }
+  lent-stored a e = lent-other m n area (splice area a new) lent (octets-store area a new (lent .octets) o) e
 
   -- as a data interval,
   pub lent-data : (k : ℕ) → k < n → Lent m n (splice area ((k + 1) * m .size) new)

@@ -5,14 +5,14 @@ use mathlib.Core.Bool.{Bool, true, false}
 use mathlib.Core.List.{List, [], _∷_, _++_, List·Memᴰ, List·Memᴰ·not-nil, List·Memᴰ·cases-cons, List·Memᴰ·append-cases, Memᴰ·append-left, Memᴰ·append-right}
 use mathlib.Core.Logic.{⊎-elim}
 use native.Mathlib.Omega.{arith}
-use Rattle.fields.proofs.Choices.{both-split}
 use Rattle.measures.specs.declared.Measures.{Measures}
 use Rattle.interval.specs.Reading.{recordsIn}
 use Rattle.index.specs.Bounds.{bound}
-use Rattle.index.specs.Meaning.{Entry, Meaning, numbers, named, count, below, once, namedOnce}
+use Rattle.index.specs.Meaning.{Entry, Meaning, numbers, named, count}
 use Rattle.index.specs.Rules.{boundBefore}
 use Rattle.index.proofs.Keeping.{rules-apart}
-use Rattle.index.proofs.Counting.{once-each, count-among}
+use Rattle.index.proofs.Counting.{count-among}
+use Rattle.index.proofs.Naming.{named-each}
 use Rattle.area.specs.Content.{dataIn}
 use Rattle.area.specs.Soundness.{soundFree, soundUsed, unsoundFree, unsoundUsed, unsoundData}
 use Rattle.area.specs.Layout.{Lent, IndexInterval}
@@ -42,11 +42,9 @@ names (e ∷ es) k i = ⊎-elim (λ (q : k ≡ e .num). here q) (λ (j : List·M
 
 -- Where the index record keeps the rules, every interval has a role.
 pub every-role : (m : Measures) (n : ℕ) (ix : Meaning) (ib : List ℕ) → IndexInterval m n ix ib → (k : ℕ) → k < n → Role ix k
-unfolding namedOnce
 every-role m n ix ib i k h =
     let r = rules-apart (m .size) (m .key) n [] [] ix (i .rules) in
-    let s = both-split (below n (named ix)) (once (named ix) n) (r .naming) in
-    let c : 1 ≤ count k (named ix) = omega (arith, once-each (named ix) n k (s .1) h) in
+    let c : 1 ≤ count k (named ix) = omega (arith, named-each n (named ix) k (r .naming) h) in
     ⊎-elim (λ (j : List·Memᴰ k (ix .free)). free j)
     (λ (j : List·Memᴰ k (numbers (ix .entries))). let x = names (ix .entries) k j in used (x .pre) (x .sep) (x .post) (x .split))
     (List·Memᴰ·append-cases (ix .free) (count-among k (named ix) c))

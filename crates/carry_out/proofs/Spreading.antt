@@ -4,7 +4,7 @@ use mathlib.Core.Path.{_≡_, refl, _∙_, sym, ap}
 use mathlib.Core.Bool.{true, false}
 use mathlib.Core.List.{List, [], _∷_, map}
 use lib.ListN.{length, take, drop, length-map, length-drop}
-use lib.Seq.{take-all, take-length, drop-drop}
+use lib.Seq.{take-all, drop-drop}
 use native.Mathlib.Omega.{arith}
 use Rattle.fields.specs.Bytes.{splice}
 use Rattle.measures.specs.declared.Measures.{Measures}
@@ -34,12 +34,9 @@ use Rattle.carry_out.specs.Asked.{stretch, Laid, Writable, Cuttable, par
 use Rattle.carry_out.specs.Carried.{MadeDivided, MadeOf}
 use Rattle.carry_out.specs.declared.Made.{Made}
 use Rattle.carry_out.specs.declared.Made.the-variants.{Written}
+use Rattle.carry_out.proofs.Taking.{stretch-end}
 
 -- ---- stretches
-
--- The stretch from the first element to the end is all.
-stretch-all : {A : Type 0} (k : ℕ) (xs : List A) → k ≡ length xs → stretch 0 k xs ≡ xs
-stretch-all k xs e = let z : k - 0 ≡ length xs = omega arith in rw z (take-length xs)
 
 -- The lengths of a stretch are the stretch of the lengths.
 stretch-lengths : (a b : ℕ) (rs : List (List ℕ)) → map length (stretch a b rs) ≡ stretch a b (map length rs)
@@ -112,7 +109,7 @@ module _ (m : Measures) (n : ℕ) (area : List ℕ) (entry number at : ℕ) (byt
         laid = laid;
         order = omega arith;
         inside = omega arith;
-        fits = rw (stretch-all (length lens) lens refl) (is-stays (m .size) lens d);
+        fits = rw (stretch-end 0 (length lens) lens refl) (is-stays (m .size) lens d);
         small = r .entered .measured .small;
         there = data-ends m n area (r .entered .measured) number (r .entered .within);
       }
@@ -184,5 +181,5 @@ module _ (m : Measures) (n : ℕ) (area : List ℕ) (entry number at : ℕ) (byt
       let same : c ≡ r .entered .content = same-content m n area c (r .entered .content) w (r .entered .reads) in
       let i : entryAt (c .filled) (e .entry) .num ≡ number = rw (same, q) (sym (r .entered .is)) in
       let many : length lens ≡ length (cut bytes lens) = flat-many bytes lens (edited (c .filled) e) f ∙ ap length (sym (cut-flat bytes lens (edited (c .filled) e) f)) in
-      let s : stretch 0 (length lens) (cut bytes lens) ≡ cut bytes lens = stretch-all (length lens) (cut bytes lens) many in
+      let s : stretch 0 (length lens) (cut bytes lens) ≡ cut bytes lens = stretch-end 0 (length lens) (cut bytes lens) (sym many) in
       rw p (record { answers = refl; leaves = rw i (a ∙ rw s) })

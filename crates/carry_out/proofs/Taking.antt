@@ -72,7 +72,8 @@ module _ (m : Measures) (n : ℕ) (area : List ℕ) (o : Measured m n area) (r :
 
 -- ---- the later parts
 
-stretch-end : {A : Type 0} (first k : ℕ) (xs : List A) → length xs ≡ k → stretch first k xs ≡ drop first xs
+-- A stretch to the end is what follows its first element.
+pub stretch-end : {A : Type 0} (first k : ℕ) (xs : List A) → length xs ≡ k → stretch first k xs ≡ drop first xs
 stretch-end first k xs h = take-all (k - first) (drop first xs) (omega (arith, length-drop first xs, h))
 
 -- each has room in an interval

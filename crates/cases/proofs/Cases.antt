@@ -20,6 +20,8 @@ use Rattle.index.specs.Layout.{pieceBytes, piecesBytes, freeBytes, header, trai
 use Rattle.index.specs.Form.{packed, entriesSize, entrySize, indexSize, indexBytes}
 use Rattle.index.specs.Search.{leadsTo}
 use Rattle.fields.specs.Order.{orderOf}
+use Rattle.index.proofs.Inserting.{entry}
+use Rattle.index.proofs.Vectors.{meaning}
 use Rattle.division.specs.Division.{gap, fitting, better, bestTo, bestCut, byCut, divisionOf, counts, parts}
 use Rattle.division.specs.Changed.{swap}
 
@@ -44,12 +46,6 @@ inserted ls at l = swap at 0 (l ∷ []) ls
 
 abbrev updated : List ℕ → ℕ → ℕ → List ℕ
 updated ls at l = swap at 1 (l ∷ []) ls
-
-abbrev entry : List ℕ → ℕ → Entry
-entry s n = record { sep = s; num = n }
-
-abbrev meaning : List ℕ → List Entry → Meaning
-meaning fs es = record { kept = replicate 12 0; spare = 0; free = fs; entries = es }
 
 -- the writer's index record has these bytes from place p on
 abbrev has : Meaning → ℕ → List ℕ → Bool

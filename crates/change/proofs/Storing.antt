@@ -1,6 +1,6 @@
 -- Stores one after another: each interval that is stored once holds its bytes, every other is as it was, and the area keeps its length.
 use Prim.Native.Nat.{ℕ, _+_, _*_, _≤_}
-use mathlib.Core.Path.{_≡_, refl, _∙_}
+use mathlib.Core.Path.{_≡_, refl, _∙_, sym}
 use mathlib.Core.Bool.{Bool, true, false}
 use mathlib.Core.List.{List, [], _∷_, _++_, List·Memᴰ, List·Memᴰ·head, List·Memᴰ·tail, List·Memᴰ·not-nil, List·Memᴰ·cases-cons}
 use mathlib.Core.Logic.{⊎-elim}
@@ -14,6 +14,7 @@ use Rattle.fields.proofs.Splices.{length-splice, part-here, part-left, part-rig
 use Rattle.fields.proofs.Octets.{octets-store}
 use Rattle.measures.specs.declared.Measures.{Measures}
 use Rattle.area.specs.Layout.{Lent}
+use Rattle.area.proofs.Parts.{lent-other}
 use Rattle.change.specs.Stores.{Store, stored}
 use Rattle.change.specs.Places.{placesOf, Apart, AllThere}
 
@@ -105,16 +106,7 @@ module _ (S n : ℕ) where
 -- An area that was lent as the laws ask still is, whatever whole intervals of bytes were stored.
 pub stored-lent : (m : Measures) (n : ℕ) (area : List ℕ) (ss : List Store) → Lent m n area → AllSized (m .size) n ss → Lent m n (stored (m .size) area ss)
 stored-lent m n area ss lent z =
-    record {
-      octets = stored-octets (m .size) n area ss (lent .octets) z;
-      long = stored-length (m .size) n area ss (lent .long) z;
-      few = lent .few;
-      large = lent .large;
-      small = lent .small;
-      key-some = lent .key-some;
-      key-most = lent .key-most;
-      key-inside = lent .key-inside;
-    }
+    lent-other m n area (stored (m .size) area ss) lent (stored-octets (m .size) n area ss (lent .octets) z) (stored-length (m .size) n area ss (lent .long) z ∙ sym (lent .long))
 
 -- Some stores, then others.
 pub stored-append : (S : ℕ) (area : List ℕ) (xs ys : List Store) → stored S area (xs ++ ys) ≡ stored S (stored S area xs) ys

@@ -23,6 +23,9 @@ pub both-false : (a : Bool) → both a false ≡ false
 both-false true = refl
 both-false false = refl
 
+pub both-none : (a b : Bool) → both a (both b false) ≡ false
+both-none a b = rw (both-false b) (both-false a)
+
 pub both-true : (a : Bool) → both a true ≡ a
 both-true true = refl
 both-true false = refl

@@ -74,6 +74,12 @@ common-differs (x ∷ a) (y ∷ b) h k e = go (eqb x y) refl (common-differs a b
     go true q i h k e = i (omega arith) (omega arith) e
     go false q i h k e = eqb-false x y q e
 
+-- nothing is in common with nothing
+pub common-none : (a : List ℕ) → common a [] ≡ 0
+unfolding common
+common-none [] = refl
+common-none (x ∷ a) = refl
+
 -- the front from place i on: one byte more, or its end
 module _ (a b : List ℕ) (i : ℕ) where
   pub front-more : i < length a → i < length b → getD a i 0 ≡ getD b i 0 → common (drop i a) (drop i b) ≡ suc (common (drop (i + 1) a) (drop (i + 1) b))
@@ -87,11 +93,7 @@ module _ (a b : List ℕ) (i : ℕ) where
   pub front-ends : (i ≡ length a) ⊎ (i ≡ length b) → common (drop i a) (drop i b) ≡ 0
   unfolding common
   front-ends (inl e) = let h : length a ≤ i = omega arith in rw (drop-of-length-le a)
-  front-ends (inr e) = let h : length b ≤ i = omega arith in rw (drop-of-length-le b) (none (drop i a))
-    where
-      none : (xs : List ℕ) → common xs [] ≡ 0
-      none [] = refl
-      none (x ∷ xs) = refl
+  front-ends (inr e) = let h : length b ≤ i = omega arith in rw (drop-of-length-le b) (common-none (drop i a))
 
 -- what the byte after the common front decides
 module _ (a b : List ℕ) (i : ℕ) (front : i ≡ common a b) where

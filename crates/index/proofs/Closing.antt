@@ -11,7 +11,7 @@ use borrow.Author.Tests.{eqb-true, leb-true, leb-false, eq-eqb, ne-eqb, le-leb, 
 use Rattle.fields.specs.Choice.{both}
 use Rattle.fields.specs.Bytes.{Octets}
 use Rattle.fields.specs.Order.{less}
-use Rattle.fields.proofs.Choices.{false-true, both-false}
+use Rattle.fields.proofs.Choices.{false-true, both-false, both-none}
 use Rattle.fields.proofs.Octets.{octets-append, octets-take, octets-part}
 use Rattle.index.specs.Bounds.{empty, bound}
 use Rattle.index.specs.Meaning.{Entry, Meaning}
@@ -146,16 +146,12 @@ sound-base w K n low ib = go (closed [] (spell [] (piecesIn w n ib))) refl
     rules : Bool
     rules = keepsRules (length ib) K n low [] (readIndex w n ib)
 
-    off : (f p : Bool) → both p (both f false) ≡ false
-    off f true = both-false f
-    off f false = refl
-
     go : (t : Bool) → closed [] (spell [] (piecesIn w n ib)) ≡ t
         → both (frame w ib) (both (places w n ib) (both (frontsFit [] (piecesIn w n ib)) (keepsRules (length ib) K n low [] (readIndex w n ib))))
         ≡ both (frame w ib) (both (basePlaces w n ib) (both (frontsFit [] (piecesIn w n ib)) (keepsRules (length ib) K n low [] (readIndex w n ib))))
     go true c = rw (places-base w n ib c)
     go false c =
-        rw (rules-closed (length ib) K n low (readIndex w n ib) (unfold readIndex in c), off (frontsFit [] (piecesIn w n ib)) (places w n ib), off (frontsFit [] (piecesIn w n ib)) (basePlaces w n ib))
+        rw (rules-closed (length ib) K n low (readIndex w n ib) (unfold readIndex in c), both-none (places w n ib) (frontsFit [] (piecesIn w n ib)), both-none (basePlaces w n ib) (frontsFit [] (piecesIn w n ib)))
 
 -- With one-byte numbers the free count is what U says, and the first equation is that U is 24 at least.
 pub count-one : (ib : List ℕ) → freeCount 1 ib ≡ unusedAt ib - 24

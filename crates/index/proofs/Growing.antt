@@ -11,7 +11,7 @@ use Rattle.fields.specs.Bytes.{Octets}
 use Rattle.fields.specs.Order.{less, common}
 use Rattle.fields.proofs.Choices.{false-true}
 use Rattle.fields.proofs.Orders.{less-inv}
-use Rattle.fields.proofs.Fronts.{common-left, common-right}
+use Rattle.fields.proofs.Fronts.{common-left, common-right, common-none}
 use Rattle.index.specs.Bounds.{bound}
 use Rattle.index.specs.Meaning.{Entry}
 use Rattle.index.specs.Rules.{rises}
@@ -28,11 +28,6 @@ common-same x y a b h = rw (eq-eqb x y h)
 common-other : (x y : ℕ) (a b : List ℕ) → (x ≡ y → ⊥) → common (x ∷ a) (y ∷ b) ≡ 0
 unfolding common
 common-other x y a b h = rw (ne-eqb x y h)
-
-common-none : (a : List ℕ) → common a [] ≡ 0
-unfolding common
-common-none [] = refl
-common-none (x ∷ a) = refl
 
 none-common : (a : List ℕ) → common [] a ≡ 0
 unfolding common

@@ -17,11 +17,9 @@ use Rattle.index.specs.Layout.{pieceBytes, piecesBytes, freeBytes, heade
 use Rattle.index.specs.Form.{packed, entriesSize, entrySize, indexSize, indexBytes}
 use Rattle.index.specs.Reading.{numbersAt, piecesAt, piecesIn, readIndex, frame, places, soundIndex}
 use Rattle.index.specs.Search.{leadsTo}
+use Rattle.index.proofs.Inserting.{entry}
 
-abbrev entry : List ℕ → ℕ → Entry
-entry s n = record { sep = s; num = n }
-
-abbrev meaning : List ℕ → List Entry → Meaning
+abbrev pub meaning : List ℕ → List Entry → Meaning
 meaning fs es = record { kept = replicate 12 0; spare = 0; free = fs; entries = es }
 
 -- the bytes of the writer's form from place p on

@@ -9,7 +9,7 @@ use native.Mathlib.Omega.{arith}
 use borrow.Author.Tests.{eqb-true, eqb-false, leb-true, leb-false, eq-eqb, ne-eqb}
 use Rattle.fields.specs.Choice.{both}
 use Rattle.fields.specs.Order.{less}
-use Rattle.fields.proofs.Choices.{both-false, false-true}
+use Rattle.fields.proofs.Choices.{both-false, false-true, both-none}
 use Rattle.index.specs.Bounds.{empty, bound, separator}
 use Rattle.index.specs.Meaning.{numbers}
 use Rattle.index.specs.Rules.{alike, rises, closed}
@@ -33,16 +33,8 @@ closed-after ref p (q ∷ ps) = closed-after (spelt ref p) q ps
 -- the same tests in another order
 shuffle : (a b c p f r l : Bool) → both a (both b (both c (both p (both f (both r l))))) ≡ both p (both (both a f) (both (both b (both c r)) l))
 shuffle true true true p f r l = refl
-shuffle true true false p f r l = sym (go p f)
-  where
-    go : (p f : Bool) → both p (both f false) ≡ false
-    go true f = both-false f
-    go false f = refl
-shuffle true false c p f r l = sym (go p f)
-  where
-    go : (p f : Bool) → both p (both f false) ≡ false
-    go true f = both-false f
-    go false f = refl
+shuffle true true false p f r l = sym (both-none p f)
+shuffle true false c p f r l = sym (both-none p f)
 shuffle false b c p f r l = sym (both-false p)
 
 same-eqb : (a b c d : ℕ) → (a ≡ b → c ≡ d) → (c ≡ d → a ≡ b) → eqb a b ≡ eqb c d

@@ -11,7 +11,7 @@ use borrow.Author.Tests.{lt-ltb, eq-eqb, ne-eqb, le-leb, ltb-true, eqb-true}
 use Rattle.fields.specs.Choice.{pick, both}
 use Rattle.fields.specs.Bytes.{part, number}
 use Rattle.fields.specs.Order.{orderOf, less}
-use Rattle.fields.proofs.Choices.{false-true, both-split, both-join, both-false, off}
+use Rattle.fields.proofs.Choices.{false-true, both-split, both-join, off, both-none, both-true}
 use Rattle.index.specs.Bounds.{empty, bound, separator}
 use Rattle.index.specs.Pieces.{spelt, pieceSize}
 use Rattle.index.specs.Reading.{lengthAt, pieceAt, piecesAt}
@@ -27,11 +27,7 @@ use Rattle.index_read.proofs.Stepping.{Link, link, Holding, holding-sta
 
 shuffle : (a b c d x p q y : Bool) → both (both a (both b (both c (both d x)))) (both p (both q y)) ≡ both a (both b (both c (both d (both p (both q (both x y))))))
 shuffle true true true true true p q y = refl
-shuffle true true true true false p q y = sym (go p q)
-  where
-    go : (p q : Bool) → both p (both q false) ≡ false
-    go true q = both-false q
-    go false q = refl
+shuffle true true true true false p q y = sym (both-none p q)
 shuffle true true true false x p q y = refl
 shuffle true true false d x p q y = refl
 shuffle true false c d x p q y = refl
@@ -53,11 +49,7 @@ fine-step w K n e ib seen low ref r left h =
 
 fine-end : (w K n e : ℕ) (ib seen low ref : List ℕ) (r : ℕ) → fineFrom w K n e ib seen low ref r 0 ≡ both (eqb r e) (empty ref)
 unfolding fineFrom chain marking piecesAt
-fine-end w K n e ib seen low ref r = go (both (eqb r e) (empty ref))
-  where
-    go : (t : Bool) → both t true ≡ t
-    go true = refl
-    go false = refl
+fine-end w K n e ib seen low ref r = both-true (both (eqb r e) (empty ref))
 
 -- what entries that pass say: of their chain, and of the first number
 fine-apart : (w K n e : ℕ) (ib seen low ref : List ℕ) (r left : ℕ) → 0 < left → fineFrom w K n e ib seen low ref r left ≡ true

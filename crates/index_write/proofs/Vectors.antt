@@ -2,20 +2,17 @@
 use Prim.Native.Nat.{ℕ}
 use mathlib.Core.Path.{_≡_, refl}
 use mathlib.Core.List.{List, [], _∷_}
-use lib.ListN.{replicate}
 use Rattle.fields.specs.Bytes.{number, digits}
 use Rattle.fields.specs.Order.{common}
 use Rattle.index.specs.Bounds.{cutSeparator}
-use Rattle.index.specs.Meaning.{Entry, Meaning}
+use Rattle.index.specs.Meaning.{Meaning}
 use Rattle.index.specs.Pieces.{spell, piecesSize, lastChars}
 use Rattle.index.specs.Layout.{pieceBytes, piecesBytes, freeBytes, header, trailer, layout}
 use Rattle.index.specs.Form.{packed, entrySize, entriesSize, indexSize, indexBytes}
 use Rattle.index.specs.Reading.{numbersAt, piecesAt, piecesIn, readIndex}
 use Rattle.index.proofs.Inserting.{entry}
+use Rattle.index.proofs.Vectors.{meaning}
 use Rattle.index_write.specs.Divided.{partsOf, dividedAt, newMeaning}
-
-abbrev meaning : List ℕ → List Entry → Meaning
-meaning fs es = record { kept = replicate 12 0; spare = 0; free = fs; entries = es }
 
 abbrev left : List ℕ
 left = 0xC1 ∷ 0xF1 ∷ 0xF2 ∷ 0xF3 ∷ []

@@ -118,3 +118,9 @@ module _ (m : Measures) (ci : List ℕ) (h : formSound m ci ≡ true) where
               (ap (digits 2) whole-field ∙ digits-number 2 ci (length ci - 2) o (omega (arith, tests .adds-up)));
           size = refl;
         }
+
+-- A sound interval's records have lengths that the measures allow, and leave room for its control bytes.
+pub in-size : (m : Measures) (ci : List ℕ) → sound m ci ≡ true → (lengthsFine m (recordsIn ci) ≡ true) × (length (concat (recordsIn ci)) + 4 ≤ length ci)
+in-size m ci h =
+    let f = form-and-keys m ci h .0 in
+    (read-lengths-fine m ci f, omega (arith, read-bytes m ci f, form-tests m ci f .adds-up))

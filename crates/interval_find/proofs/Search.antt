@@ -165,12 +165,17 @@ module _ (m : Measures) (key : List ℕ) (rs : List (List ℕ)) (i s l : ℕ) (e
   pub place-at-holds : holds m key rs ≡ true
   place-at-holds = at-is .0
 
+  -- which record, where it begins, and how long it is
+  pub at-place : (i ≡ lower m key rs) × (s ≡ startOf i rs) × (l ≡ length (getD rs i []))
+  at-place =
+      let s' : startOf (lower m key rs) rs ≡ s = cc (at-is .1) in
+      let l' : length (getD rs (lower m key rs) []) ≡ l = cc (at-is .1) in
+      rw (← at-lower) (refl, sym s', sym l')
+
   pub place-at : ascending (keysOf m rs) ≡ true → (i < length rs) × (keyOf m (getD rs i []) ≡ key) × (s ≡ startOf i rs) × (l ≡ length (getD rs i []))
   place-at up =
       let h = held m key rs up place-at-holds in
-      let s' : startOf (lower m key rs) rs ≡ s = cc (at-is .1) in
-      let l' : length (getD rs (lower m key rs) []) ≡ l = cc (at-is .1) in
-      rw (← at-lower) (h .0, h .1, sym s', sym l')
+      (rw (at-place .0) (h .0), rw (at-place .0) (h .1), at-place .1, at-place .2)
 
   -- the keys before it are below, those after it above
   pub place-at-around : ascending (keysOf m rs) ≡ true → (allBelow key (keysOf m (take i rs)) ≡ true) × (above key (keysOf m (drop (i + 1) rs)) ≡ true)
@@ -185,10 +190,11 @@ module _ (m : Measures) (key : List ℕ) (rs : List (List ℕ)) (i s : ℕ) (e :
   gap-lower : lower m key rs ≡ i
   gap-lower = cc (gap-is .1)
 
+  pub gap-place : (i ≡ lower m key rs) × (s ≡ startOf i rs)
+  gap-place = let s' : startOf (lower m key rs) rs ≡ s = cc (gap-is .1) in rw (← gap-lower) (refl, sym s')
+
   pub place-gap : (holds m key rs ≡ false) × (i ≤ length rs) × (s ≡ startOf i rs)
-  place-gap =
-      let s' : startOf (lower m key rs) rs ≡ s = cc (gap-is .1) in
-      rw (← gap-lower) (gap-is .0, lower-most m key rs, sym s')
+  place-gap = (gap-is .0, rw (gap-place .0) (lower-most m key rs), gap-place .1)
 
   -- the keys before it are below, the others above
   pub place-gap-around : ascending (keysOf m rs) ≡ true → (allBelow key (keysOf m (take i rs)) ≡ true) × (above key (keysOf m (drop i rs)) ≡ true)

@@ -4,32 +4,29 @@ use mathlib.Core.Path.{_≡_, refl, _∙_, sym, ap}
 use mathlib.Core.Bool.{Bool, true, false}
 use mathlib.Core.List.{List, [], _∷_, _++_, map, append-nil, List·Memᴰ, List·Memᴰ·not-nil, List·Memᴰ·cases-cons}
 use mathlib.Core.Logic.{⊎-elim}
-use lib.ListN.{length, take, drop, length-append, length-take}
-use lib.Seq.{drop-append-add, take-append-seam}
+use lib.ListN.{length, drop, length-append}
 use lib.Dec.{eqb, ltb, leb}
 use native.Mathlib.Omega.{arith}
-use native.Mathlib.Nat.{div-add-mod', mod-lt, mul-le-mul-right, add-mul, one-mul, eq-or-lt-of-le, zero-add}
+use native.Mathlib.Nat.{div-add-mod', mod-lt, mul-le-mul-right, add-mul, one-mul, eq-or-lt-of-le}
 use native.Mathlib.Decide.{decLt}
 use borrow.Author.Tests.{eqb-true, eqb-false, eq-eqb, ne-eqb, ltb-true, ltb-false, leb-true, leb-false}
-use Rattle.fields.specs.Choice.{pick, both}
+use Rattle.fields.specs.Choice.{pick}
 use Rattle.fields.specs.Bytes.{part, number}
-use Rattle.fields.proofs.Choices.{both-split}
 use Rattle.fields.proofs.Splices.{part-part}
 use Rattle.measures.specs.declared.Measures.{Measures}
-use Rattle.interval.specs.Records.{concat, keysOf, ascending, above, upTo, allWithin, lengthsFine}
-use Rattle.interval.specs.Reading.{recordsIn, displacement, formSound, sound}
-use Rattle.interval.proofs.Backward.{read-lengths-fine, form-tests, read-concat, form-and-keys, read-bytes}
+use Rattle.interval.specs.Records.{concat, allWithin, lengthsFine}
+use Rattle.interval.specs.Reading.{recordsIn, sound, Readable}
+use Rattle.interval.proofs.Backward.{in-size}
 use Rattle.interval.proofs.Keys.{within-low, within-rest}
 use Rattle.interval_find.specs.Search.{startingAt, startedOf}
 use Rattle.interval_find.specs.declared.Started.{Started}
 use Rattle.interval_find.specs.declared.Started.the-variants as started
 use Rattle.index.specs.Bounds.{bound}
-use Rattle.index.specs.Meaning.{Entry, Meaning, numbers, named, count, below, once, namedOnce}
+use Rattle.index.specs.Meaning.{Entry, Meaning, numbers, named, count, below}
 use Rattle.index.specs.Reading.{readIndex}
-use Rattle.index.proofs.Counting.{count-same, count-other, count-append, once-each, below-apart, count-out}
-use Rattle.index.proofs.Naming.{both-below}
+use Rattle.index.proofs.Counting.{count-same, count-other, count-append, below-apart, count-out}
+use Rattle.index.proofs.Naming.{both-below, named-each}
 use Rattle.area.specs.Content.{Content, Filled, indexIn, dataIn, fill, entriesOf, meaningOf, baseOf}
-use Rattle.area.specs.Soundness.{soundUsed}
 use Rattle.area.specs.Reading.{readArea, whole}
 use Rattle.area.proofs.Sounding.{Sound, AllFree, AllUsed, sound-apart, sound-rules, sound-filled, sound-reads}
 use Rattle.area_read.specs.Measured.{Measured}
@@ -37,11 +34,11 @@ use Rattle.area_read.proofs.Places.{length-data}
 use Rattle.seek.specs.Sought.{Whole, soughtAt, lyingOf}
 use Rattle.seek.specs.declared.Lying.{Lying}
 use Rattle.seek.specs.declared.Lying.the-variants.{Here, Nowhere}
-use Rattle.seek.proofs.Readables.{each-sound}
+use Rattle.seek.proofs.Readables.{readable}
 use Rattle.answers.specs.Records.{lyingAt}
 use Rattle.index_read.proofs.Header.{base-kept}
-use Rattle.interval_find.proofs.Starting.{starting-before}
-use Rattle.area.proofs.Intervals.{free-apart}
+use Rattle.interval_find.proofs.Starting.{starting-before, starting-begins}
+use Rattle.area.proofs.Intervals.{free-apart, used-apart}
 
 -- ---- one interval
 
@@ -68,16 +65,6 @@ starting-after least most place from (r ∷ rs) s w h =
     let a = length-append r (concat rs) in
     rw (ne-eqb from place (omega arith)) (starting-after least most place (from + length r) rs s (within-rest least most (length r) (map length rs) w) (omega arith))
 
--- a sound interval holds fewer bytes of records than it has
-record Fine (m : Measures) (ci : List ℕ) : Type 0 where
-  lengths : lengthsFine m (recordsIn ci) ≡ true
-  bytes : length (concat (recordsIn ci)) + 4 ≤ length ci
-
-sound-fine : (m : Measures) (ci : List ℕ) → sound m ci ≡ true → Fine m ci
-sound-fine m ci h =
-    let f = form-and-keys m ci h .0 in
-    record { lengths = read-lengths-fine m ci f; bytes = omega (arith, read-bytes m ci f, form-tests m ci f .adds-up) }
-
 -- ---- the address in an area
 
 count-zero : (q x : ℕ) (xs : List ℕ) → count q (x ∷ xs) ≡ 0 → (x ≡ q → ⊥) × (count q xs ≡ 0)
@@ -93,13 +80,13 @@ module _ (m : Measures) (n : ℕ) (area : List ℕ) (o : Measured m n area) (bas
   elsewhere : (k : ℕ) → k < n → sound m (dataIn m area k) ≡ true → (k ≡ q → ⊥) → startingAt address (base + k * m .size) (recordsIn (dataIn m area k)) ≡ []
   elsewhere k h s d = go (decLt k q)
     where
-      f : Fine m (dataIn m area k)
-      f = sound-fine m (dataIn m area k) s
+      f : (lengthsFine m (recordsIn (dataIn m area k)) ≡ true) × (length (concat (recordsIn (dataIn m area k))) + 4 ≤ length (dataIn m area k))
+      f = in-size m (dataIn m area k) s
 
       go : Dec (k < q) → startingAt address (base + k * m .size) (recordsIn (dataIn m area k)) ≡ []
       go (yes l) =
           let c : (k + 1) * m .size ≤ q * m .size = mul-le-mul-right (m .size) (omega arith) in
-          starting-after (m .least) (m .most) address (base + k * m .size) (recordsIn (dataIn m area k)) (omega (arith, o .inside, o .key-some)) (f .lengths) (omega (arith, f .bytes, length-data m n area o k h, add-mul k 1 (m .size), one-mul (m .size)))
+          starting-after (m .least) (m .most) address (base + k * m .size) (recordsIn (dataIn m area k)) (omega (arith, o .inside, o .key-some)) (f .0) (omega (arith, f .1, length-data m n area o k h, add-mul k 1 (m .size), one-mul (m .size)))
       go (no l) =
           let g : q < k = ⊎-elim (λ (e : q ≡ k). absurd (d (sym e))) (λ (e : q < k). e) (eq-or-lt-of-le (omega arith)) in
           let i : q + 1 ≤ k = omega arith in
@@ -118,17 +105,13 @@ module _ (m : Measures) (n : ℕ) (area : List ℕ) (o : Measured m n area) (bas
   unfolding lyingAt fill
   lying-cons e es = refl
 
-  used-sound : (low : List ℕ) (e : Entry) → soundUsed m low (bound (m .key) (e .sep)) (dataIn m area (e .num)) ≡ true → sound m (dataIn m area (e .num)) ≡ true
-  unfolding soundUsed
-  used-sound low e h = both-split (sound m (dataIn m area (e .num))) (both (above low (keysOf m (recordsIn (dataIn m area (e .num))))) (upTo (bound (m .key) (e .sep)) (keysOf m (recordsIn (dataIn m area (e .num)))))) h .0
-
   -- no entry has the number, or one has
   lying-none : (low : List ℕ) (es : List Entry) → AllUsed m area low es → below n (numbers es) ≡ true → count q (numbers es) ≡ 0 → lyingAt m base address (fill m area es) ≡ []
   lying-none low [] a b z = unfold lyingAt fill in refl
   lying-none low (e ∷ es) a b z =
       let s = below-apart n (e .num) (numbers es) b in
       let k = count-zero q (e .num) (numbers es) z in
-      lying-cons e es ∙ rw (elsewhere (e .num) (s .0) (used-sound low e (a .0)) (k .0), lying-none (bound (m .key) (e .sep)) es (a .1) (s .1) (k .1))
+      lying-cons e es ∙ rw (elsewhere (e .num) (s .0) (used-apart m low (bound (m .key) (e .sep)) (dataIn m area (e .num)) (a .0) .0) (k .0), lying-none (bound (m .key) (e .sep)) es (a .1) (s .1) (k .1))
 
   lying-one : (low : List ℕ) (es : List Entry) → AllUsed m area low es → below n (numbers es) ≡ true → count q (numbers es) ≡ 1
       → lyingAt m base address (fill m area es) ≡ startingAt t 0 (recordsIn (dataIn m area q))
@@ -149,7 +132,7 @@ module _ (m : Measures) (n : ℕ) (area : List ℕ) (o : Measured m n area) (bas
       go false h i =
           let p : e .num ≡ q → ⊥ = eqb-false (e .num) q h in
           let s = below-apart n (e .num) (numbers es) b in
-          lying-cons e es ∙ rw (elsewhere (e .num) (s .0) (used-sound low e (a .0)) p) (i (sym (count-other q (e .num) (numbers es) p) ∙ z))
+          lying-cons e es ∙ rw (elsewhere (e .num) (s .0) (used-apart m low (bound (m .key) (e .sep)) (dataIn m area (e .num)) (a .0) .0) p) (i (sym (count-other q (e .num) (numbers es) p) ∙ z))
 
   free-empty : (ks : List ℕ) → AllFree m area ks → 1 ≤ count q ks → recordsIn (dataIn m area q) ≡ []
   free-empty [] a z = absurd (none z)
@@ -161,64 +144,6 @@ module _ (m : Measures) (n : ℕ) (area : List ℕ) (o : Measured m n area) (bas
       go : (x : Bool) → eqb k q ≡ x → (1 ≤ count q ks → recordsIn (dataIn m area q) ≡ []) → recordsIn (dataIn m area q) ≡ []
       go true h i = rw (← eqb-true k q h) (free-apart m (dataIn m area k) (a .0) .1)
       go false h i = i (omega (arith, count-other q k ks (eqb-false k q h)))
-
--- ---- the record that begins there
-
-record Begins (bytes : List ℕ) (place : ℕ) (r : List ℕ) (xs : List (List ℕ)) : Type 0 where
-  alone : xs ≡ []
-  is : r ≡ part bytes place (length r)
-  inside : place + length r ≤ length bytes
-
-part-behind : (xs ys : List ℕ) (a l : ℕ) → part (xs ++ ys) (length xs + a) l ≡ part ys a l
-part-behind xs ys a l = rw (drop-append-add xs ys a)
-
-begins-on : (x bytes : List ℕ) (place from : ℕ) (r : List ℕ) (xs : List (List ℕ)) → from + length x ≤ place → Begins bytes (place - (from + length x)) r xs → Begins (x ++ bytes) (place - from) r xs
-begins-on x bytes place from r xs h b =
-    let e : place - from ≡ length x + (place - (from + length x)) = omega arith in
-    record {
-      alone = b .alone;
-      is = rw e (b .is ∙ sym (part-behind x bytes (place - (from + length x)) (length r)));
-      inside = omega (arith, b .inside, length-append x bytes);
-    }
-
-starting-cons : (place from : ℕ) (x : List ℕ) (rs : List (List ℕ)) (b : Bool) → eqb from place ≡ b
-    → startingAt place from (x ∷ rs) ≡ pick b (x ∷ startingAt place (from + length x) rs) (startingAt place (from + length x) rs)
-unfolding startingAt
-starting-cons place from x rs b e = rw e
-
-starting-bytes : (least most place from : ℕ) (rs : List (List ℕ)) → 1 ≤ least → allWithin least most (map length rs) ≡ true → from ≤ place
-    → (r : List ℕ) (xs : List (List ℕ)) → startingAt place from rs ≡ r ∷ xs → Begins (concat rs) (place - from) r xs
-starting-bytes least most place from [] s w h r xs e = absurd (none e)
-  where
-    none : startingAt place from [] ≡ r ∷ xs → ⊥
-    none k = unfold startingAt in (let z : _≡_ {A = ℕ} 0 1 = cc in omega arith)
-starting-bytes least most place from (x ∷ rs) s w h r xs e =
-    go (eqb from place) refl (decLt place (from + length x)) (λ l k. starting-bytes least most place (from + length x) rs s (within-rest least most (length x) (map length rs) w) l r xs k)
-  where
-    lo : least ≤ length x
-    lo = within-low least most (length x) (map length rs) w
-
-    more : concat (x ∷ rs) ≡ x ++ concat rs
-    more = unfold concat in refl
-
-    go : (b : Bool) → eqb from place ≡ b → Dec (place < from + length x)
-        → (from + length x ≤ place → startingAt place (from + length x) rs ≡ r ∷ xs → Begins (concat rs) (place - (from + length x)) r xs) → Begins (concat (x ∷ rs)) (place - from) r xs
-    go true q d i =
-        let p : from ≡ place = eqb-true from place q in
-        let f : startingAt place (from + length x) rs ≡ [] = starting-before place (from + length x) rs (omega (arith, lo)) in
-        let k : x ∷ [] ≡ r ∷ xs = sym (starting-cons place from x rs true q ∙ rw f) ∙ e in
-        let z : place - from ≡ 0 = omega arith in
-        let rx : x ≡ r = cc in
-        let y : xs ≡ [] = cc in
-        record { alone = y; is = rw (more, z, ← rx) (sym (take-append-seam x (concat rs))); inside = rw (more, z, ← rx) (omega (arith, length-append x (concat rs))) }
-    go false q (yes d) i =
-        absurd (none (sym (starting-before place (from + length x) rs d) ∙ sym (starting-cons place from x rs false q) ∙ e))
-      where
-        none : [] ≡ r ∷ xs → ⊥
-        none k = let z : _≡_ {A = ℕ} 0 1 = cc in omega arith
-    go false q (no d) i =
-        let l : from + length x ≤ place = omega arith in
-        rw more (begins-on x (concat rs) place from r xs l (i l (sym (starting-cons place from x rs false q) ∙ e)))
 
 -- ---- what the search by address says of the reading
 
@@ -241,8 +166,7 @@ module _ (m : Measures) (n : ℕ) (area : List ℕ) (o : Measured m n area) (w :
   entries = entriesOf (w .content .filled)
 
   names : (below n (w .content .free) ≡ true) × (below n (numbers (entriesOf (w .content .filled))) ≡ true)
-  names =
-      both-below n (meaningOf (w .content)) (sound-rules m n area (w .content) s .naming)
+  names = both-below n (meaningOf (w .content)) (sound-rules m n area (w .content) s .naming)
 
   filled-is : lyingAt m base address (w .content .filled) ≡ lyingAt m base address (fill m area (entriesOf (w .content .filled)))
   filled-is = ap (lyingAt m base address) (sound-filled m n area (w .content) s)
@@ -272,11 +196,8 @@ module _ (m : Measures) (n : ℕ) (area : List ℕ) (o : Measured m n area) (w :
 
     -- one of them
     within : (address - base) / m .size < n → lyingAt m base address (w .content .filled) ≡ startingAt ((address - base) % m .size) 0 (recordsIn (dataIn m area ((address - base) / m .size)))
-    unfolding namedOnce
     within l =
-        let k = sound-rules m n area (w .content) s in
-        let z = both-split (below n (named (meaningOf (w .content)))) (once (named (meaningOf (w .content))) n) (k .naming) in
-        let e = once-each (named (meaningOf (w .content))) n ((address - base) / m .size) (z .1) l in
+        let e = named-each n (named (meaningOf (w .content))) ((address - base) / m .size) (sound-rules m n area (w .content) s .naming) l in
         let c = count-append ((address - base) / m .size) (w .content .free) (numbers (entriesOf (w .content .filled))) in
         filled-is ∙ go (eqb (count ((address - base) / m .size) (numbers (entriesOf (w .content .filled)))) 1) refl (omega arith)
       where
@@ -294,7 +215,7 @@ abbrev pub Lies : List ℕ → List (List ℕ) → Lying → Type 0
 Lies area rs (Here from len) = rs ≡ part area from len ∷ []
 Lies area rs Nowhere = rs ≡ []
 
-module _ (m : Measures) (n : ℕ) (area : List ℕ) (o : Measured m n area) (k : ℕ) (h : k < n) (sd : sound m (dataIn m area k) ≡ true) where
+module _ (m : Measures) (n : ℕ) (area : List ℕ) (o : Measured m n area) (k : ℕ) (h : k < n) (d : Readable m (dataIn m area k)) where
   -- the record that begins at a place of an interval, as a part of the area
   one-record : (place : ℕ) (rs : List (List ℕ)) → startingAt place 0 (recordsIn (dataIn m area k)) ≡ rs → (x : Started) → startedOf rs ≡ x
       → Lies area rs (lyingOf ((k + 1) * m .size + place) x)
@@ -302,20 +223,10 @@ module _ (m : Measures) (n : ℕ) (area : List ℕ) (o : Measured m n area) (k :
   one-record place [] e (started.Here len) y = absurd (let z : _≡_ {A = ℕ} 0 1 = cc in omega arith)
   one-record place (r ∷ rs) e started.Nothing y = absurd (let z : _≡_ {A = ℕ} 0 1 = cc in omega arith)
   one-record place (r ∷ rs) e (started.Here len) y =
-      let f = sound-fine m (dataIn m area k) sd in
-      let b = starting-bytes (m .least) (m .most) place 0 (recordsIn (dataIn m area k)) (omega (arith, o .inside, o .key-some)) (f .lengths) (omega arith) r rs e in
-      let z : place - 0 ≡ place = omega arith in
+      let b = starting-begins m (dataIn m area k) d place r rs e in
       let l : length r ≡ len = cc in
-      let i : r ≡ part (concat (recordsIn (dataIn m area k))) place len = rw (z, l) at (b .is) in
-      let c : concat (recordsIn (dataIn m area k)) ≡ take (displacement (dataIn m area k)) (dataIn m area k) = read-concat m (dataIn m area k) (form-of sd) in
-      let u : part (take (displacement (dataIn m area k)) (dataIn m area k)) place len ≡ part (dataIn m area k) place len = part-part (dataIn m area k) 0 (displacement (dataIn m area k)) place len (omega (arith, b .inside, ap length c, length-take-most (displacement (dataIn m area k)) (dataIn m area k))) ∙ ap (λ (x : ℕ). part (dataIn m area k) x len) (zero-add place) in
-      rw (b .alone, i, c, u) (ap (λ (v : List ℕ). v ∷ []) (part-part area ((k + 1) * m .size) (m .size) place len (omega (arith, b .inside, f .bytes, length-data m n area o k h))))
-    where
-      form-of : sound m (dataIn m area k) ≡ true → formSound m (dataIn m area k) ≡ true
-      form-of y = unfold sound in both-split (formSound m (dataIn m area k)) (ascending (keysOf m (recordsIn (dataIn m area k)))) y .0
-
-      length-take-most : (d : ℕ) (xs : List ℕ) → length (take d xs) ≤ d
-      length-take-most d xs = omega (arith, length-take d xs)
+      let i : r ≡ part (dataIn m area k) place len = sym (rw l at (b .is)) in
+      rw (b .alone, i) (ap (λ (v : List ℕ). v ∷ []) (part-part area ((k + 1) * m .size) (m .size) place len (omega (arith, b .inside, length-data m n area o k h))))
 
 pub sought-lies : (m : Measures) (n : ℕ) (area : List ℕ) (o : Measured m n area) (w : Whole m n area) (address : ℕ)
     → Lies area (lyingAt m (baseOf (w .content)) address (w .content .filled)) (soughtAt m n area address)
@@ -336,4 +247,4 @@ sought-lies m n area o w address =
     go false false p r =
         let l = leb-false n ((address - baseOf (w .content)) / m .size) r in
         rw (within m n area o w address (ltb-false address (baseOf (w .content)) p) l)
-        (one-record m n area o ((address - baseOf (w .content)) / m .size) l (each-sound m n area (w .content) (w .reads) ((address - baseOf (w .content)) / m .size) l) ((address - baseOf (w .content)) % m .size) _ refl _ refl)
+        (one-record m n area o ((address - baseOf (w .content)) / m .size) l (readable m n area o w ((address - baseOf (w .content)) / m .size) l) ((address - baseOf (w .content)) % m .size) _ refl _ refl)

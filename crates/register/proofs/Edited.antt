@@ -1,23 +1,23 @@
 -- The edit that a request makes where its search ended is the one of its meaning, and one that fits.
-use Prim.Native.Nat.{ℕ, zero, suc, _+_, _*_, _≤_, _<_}
-use mathlib.Core.Path.{_≡_, refl, _∙_, sym, ap}
-use mathlib.Core.Bool.{Bool, true, false}
+use Prim.Native.Nat.{ℕ, _+_, _*_, _≤_, _<_}
+use mathlib.Core.Path.{_≡_, _∙_, sym, ap}
+use mathlib.Core.Bool.{true}
 use mathlib.Core.List.{List, [], _∷_}
 use lib.ListN.{length, getD, take, drop}
 use lib.Seq.{drop-cons}
 use native.Mathlib.Omega.{arith}
-use Rattle.fields.specs.Choice.{pick}
 use Rattle.fields.specs.Bytes.{Octets, part}
 use Rattle.measures.specs.declared.Measures.{Measures}
 use Rattle.interval.specs.Records.{concat, keyOf, within}
 use Rattle.interval.specs.Reading.{recordsIn}
 use Rattle.interval.proofs.Keys.{key-long}
-use Rattle.interval_find.specs.Search.{lower, startOf, holds, placeOf}
+use Rattle.interval_find.specs.Search.{lower, startOf, holds}
 use Rattle.interval_find.specs.declared.Found.the-variants.{At, Gap}
 use Rattle.index.specs.Meaning.{Entry, numbers}
 use Rattle.index.specs.Search.{leadsTo}
+use Rattle.interval_find.proofs.Search.{gap-place, at-place}
 use Rattle.division.proofs.Changed.{concat-none, concat-one}
-use Rattle.area.specs.Content.{Filled, dataIn, recordsOf, entriesOf}
+use Rattle.area.specs.Content.{dataIn, recordsOf, entriesOf}
 use Rattle.area.specs.Layout.{Lent}
 use Rattle.area.proofs.Filling.{entries-take}
 use Rattle.area_read.specs.Measured.{Measured}
@@ -34,41 +34,8 @@ use Rattle.carry_out.specs.declared.Made.{Made}
 use Rattle.register.specs.Told.{answerFor}
 use Rattle.carry_out.specs.Carried.{MadeEdit}
 use Rattle.carry_out.specs.Asked.{Edits}
-use Rattle.register.proofs.Finding.{entries-are, key-found, key-absent}
+use Rattle.register.proofs.Finding.{entries-are, key-found, key-absent, number-at}
 use Rattle.register.proofs.Changing.{carried}
-
--- ---- the place that a search told
-
-gap-place : (m : Measures) (key : List ℕ) (rs : List (List ℕ)) (i t : ℕ) → placeOf m key rs ≡ Gap i t → (i ≡ lower m key rs) × (t ≡ startOf i rs)
-unfolding placeOf
-gap-place m key rs i t e = go (holds m key rs) e
-  where
-    n : ℕ
-    n = lower m key rs
-
-    go : (b : Bool) → pick b (At n (startOf n rs) (length (getD rs n []))) (Gap n (startOf n rs)) ≡ Gap i t → (i ≡ n) × (t ≡ startOf i rs)
-    go true g = absurd (let z : _≡_ {A = ℕ} 0 1 = cc in omega arith)
-    go false g =
-        let a : n ≡ i = cc g in
-        let b : startOf n rs ≡ t = cc g in
-        (sym a, sym b ∙ ap (λ (k : ℕ). startOf k rs) a)
-
-at-place : (m : Measures) (key : List ℕ) (rs : List (List ℕ)) (i t l : ℕ) → placeOf m key rs ≡ At i t l
-    → (i ≡ lower m key rs) × (t ≡ startOf i rs) × (l ≡ length (getD rs i []))
-unfolding placeOf
-at-place m key rs i t l e = go (holds m key rs) e
-  where
-    n : ℕ
-    n = lower m key rs
-
-    go : (b : Bool) → pick b (At n (startOf n rs) (length (getD rs n []))) (Gap n (startOf n rs)) ≡ At i t l
-        → (i ≡ n) × (t ≡ startOf i rs) × (l ≡ length (getD rs i []))
-    go true g =
-        let a : n ≡ i = cc g in
-        let b : startOf n rs ≡ t = cc g in
-        let d : length (getD rs n []) ≡ l = cc g in
-        (sym a, sym b ∙ ap (λ (k : ℕ). startOf k rs) a, sym d ∙ ap (λ (k : ℕ). length (getD rs k [])) a)
-    go false g = absurd (let z : _≡_ {A = ℕ} 0 1 = cc in omega arith)
 
 -- the bytes of the one record there
 one-span : (rs : List (List ℕ)) (i : ℕ) → i < length rs → length (concat (take 1 (drop i rs))) ≡ length (getD rs i [])
@@ -77,13 +44,6 @@ one-span rs i h = rw (drop-cons rs i [] h) (ap length (concat-one (getD rs i [])
 -- no record has no bytes
 none-span : (rs : List (List ℕ)) (i : ℕ) → 0 ≡ length (concat (take 0 (drop i rs)))
 none-span rs i = sym (ap length concat-none)
-
--- the number of an entry
-number-at : (fs : List Filled) (i : ℕ) → getD (numbers (entriesOf fs)) i 0 ≡ entryAt fs i .num
-unfolding entriesOf
-number-at [] i = refl
-number-at (f ∷ fs) zero = refl
-number-at (f ∷ fs) (suc i) = number-at fs i
 
 -- ---- edits that fit
 

@@ -5,6 +5,7 @@ use mathlib.Core.Bool.{Bool, true, false}
 use mathlib.Core.List.{List, [], _∷_, _++_, append-nil}
 use lib.ListN.{length, getD, take, length-drop}
 use native.Mathlib.Omega.{arith}
+use lib.Seq.{getD-append-seam}
 use Rattle.fields.specs.Choice.{pick, both}
 use Rattle.fields.specs.Bytes.{Octets, part}
 use Rattle.fields.proofs.Choices.{both-split}
@@ -26,6 +27,7 @@ use Rattle.area.specs.Reading.{readArea, whole}
 use Rattle.area.proofs.Filling.{recordsOf-append, entriesOf-append}
 use Rattle.area.proofs.Sounding.{sound-apart, sound-reads}
 use Rattle.area.proofs.Leading.{KeyIn, key-in-one-entry}
+use Rattle.change.specs.Parts.{entryAt}
 use Rattle.area_read.specs.Measured.{Measured}
 use Rattle.area_read.proofs.Places.{length-data, data-ends}
 use Rattle.seek.specs.Sought.{Whole, Sought}
@@ -34,13 +36,17 @@ use Rattle.seek.proofs.Readables.{readable}
 use Rattle.answers.specs.Records.{withKey}
 use Rattle.answers.proofs.Keys.{with-append, with-below, with-above, with-at, with-gap}
 
+-- the number of an entry
+pub number-at : (fs : List Filled) (i : ℕ) → getD (numbers (entriesOf fs)) i 0 ≡ entryAt fs i .num
+unfolding entriesOf
+number-at [] i = refl
+number-at (f ∷ fs) zero = refl
+number-at (f ∷ fs) (suc i) = number-at fs i
+
 -- the number of the entry behind some others
 number-there : (pre : List Filled) (f : Filled) (post : List Filled) → getD (numbers (entriesOf (pre ++ (f ∷ post)))) (length pre) 0 ≡ f .num
-number-there [] f post = unfold entriesOf in refl
-number-there (x ∷ pre) f post = more ∙ number-there pre f post
-  where
-    more : getD (numbers (entriesOf (x ∷ (pre ++ (f ∷ post))))) (suc (length pre)) 0 ≡ getD (numbers (entriesOf (pre ++ (f ∷ post)))) (length pre) 0
-    more = unfold entriesOf in refl
+number-there pre f post =
+    number-at (pre ++ (f ∷ post)) (length pre) ∙ ap (λ (x : Filled). x .num) (getD-append-seam pre f post (record { sep = []; num = 0; records = [] }))
 
 records-there : (pre : List Filled) (f : Filled) (post : List Filled) → recordsOf (pre ++ (f ∷ post)) ≡ recordsOf pre ++ (f .records ++ recordsOf post)
 records-there pre f post = recordsOf-append pre (f ∷ post) ∙ ap (λ (rs : List (List ℕ)). recordsOf pre ++ rs) (unfold recordsOf in refl)

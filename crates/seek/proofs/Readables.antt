@@ -5,13 +5,13 @@ use mathlib.Core.Bool.{Bool, true, false}
 use mathlib.Core.List.{List, [], _∷_, _++_, List·Memᴰ, List·Memᴰ·head, List·Memᴰ·tail, List·Memᴰ·not-nil, List·Memᴰ·cases-cons, List·Memᴰ·append-cases}
 use mathlib.Core.Logic.{⊎-elim}
 use native.Mathlib.Omega.{arith}
-use Rattle.fields.proofs.Choices.{both-split}
 use Rattle.measures.specs.declared.Measures.{Measures}
 use Rattle.interval.specs.Reading.{sound, Readable}
 use Rattle.index.specs.Bounds.{bound}
-use Rattle.index.specs.Meaning.{Entry, Meaning, numbers, named, below, once, namedOnce}
+use Rattle.index.specs.Meaning.{Entry, Meaning, numbers, named}
 use Rattle.index.specs.Reading.{soundIndex}
-use Rattle.index.proofs.Counting.{once-each, count-among}
+use Rattle.index.proofs.Counting.{count-among}
+use Rattle.index.proofs.Naming.{named-each}
 use Rattle.area.specs.Content.{Content, indexIn, dataIn, meaningOf}
 use Rattle.area.specs.Reading.{readArea, whole}
 use Rattle.area.proofs.Sounding.{Sound, AllFree, AllUsed, sound-apart, sound-rules}
@@ -36,14 +36,12 @@ used-each m area low (e ∷ es) k a i =
     (List·Memᴰ·cases-cons i)
 
 pub each-sound : (m : Measures) (n : ℕ) (area : List ℕ) (c : Content) → readArea m n area ≡ whole c → (k : ℕ) → k < n → sound m (dataIn m area k) ≡ true
-unfolding namedOnce
 each-sound m n area c r k h =
     let s = sound-apart m n area c r in
     let q = sound-rules m n area c s in
-    let o = both-split (below n (named (meaningOf c))) (once (named (meaningOf c)) n) (q .naming) in
     ⊎-elim (λ (j : List·Memᴰ k (c .free)). free-each m area (c .free) k (s .free) j)
     (λ (j : List·Memᴰ k (numbers (meaningOf c .entries))). used-each m area [] (meaningOf c .entries) k (s .used) j)
-    (List·Memᴰ·append-cases (c .free) (count-among k (named (meaningOf c)) (omega (arith, once-each (named (meaningOf c)) n k (o .1) h))))
+    (List·Memᴰ·append-cases (c .free) (count-among k (named (meaningOf c)) (omega (arith, named-each n (named (meaningOf c)) k (q .naming) h))))
 
 pub readable : (m : Measures) (n : ℕ) (area : List ℕ) → Measured m n area → Whole m n area → (k : ℕ) → k < n → Readable m (dataIn m area k)
 readable m n area o w k h =
