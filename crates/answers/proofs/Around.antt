@@ -9,7 +9,7 @@ use native.Mathlib.Omega.{arith}
 use native.Mathlib.Numerals.{add-one}
 use Rattle.fields.specs.Choice.{both}
 use Rattle.fields.specs.Order.{less}
-use Rattle.fields.proofs.Choices.{both-split, both-join, both-assoc}
+use Rattle.fields.proofs.Choices.{both-split, both-join, both-assoc, same-same}
 use Rattle.fields.proofs.Orders.{less-asym}
 use Rattle.measures.specs.declared.Measures.{Measures}
 use Rattle.interval.specs.Records.{keyOf, keysOf, ascendFrom, ascending, above}
@@ -19,7 +19,7 @@ use Rattle.interval_find.specs.declared.Found.the-variants.{At, Gap}
 use Rattle.interval_find.proofs.Search.{held, lower-below, lower-above, lower-beyond}
 use Rattle.answers.specs.Records.{withKey}
 use Rattle.answers.specs.Model.{add, replace, remove}
-use Rattle.answers.proofs.Keys.{same-same, less-differs, more-differs, with-append, with-below, with-above, with-cons, with-at, with-gap}
+use Rattle.answers.proofs.Keys.{less-differs, more-differs, with-append, with-below, with-above, with-cons, with-at, with-gap}
 
 -- ---- tests of keys, list after list
 

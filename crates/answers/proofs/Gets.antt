@@ -13,6 +13,7 @@ use Rattle.fields.specs.Choice.{pick}
 use Rattle.fields.specs.Bytes.{splice}
 use Rattle.fields.specs.Table.{sameList}
 use Rattle.fields.proofs.Splices.{splice-front}
+use Rattle.fields.proofs.Choices.{same-same, same-means}
 use Rattle.measures.specs.Judgement.{judgedOf}
 use Rattle.measures.specs.declared.Measures.{Measures}
 use Rattle.measures.specs.declared.Judged.the-variants.{Fine}
@@ -27,7 +28,6 @@ use Rattle.answers.specs.Reading.{Given, refused, handOut, getOf, getAtO
 use Rattle.answers.specs.Finding.{Keyed, Lies, Finds}
 use Rattle.answers.specs.declared.Answer.{Answer}
 use Rattle.answers.specs.declared.Answer.the-variants.{Found, Short, WrongLength, Absent, NoRecord}
-use Rattle.answers.proofs.Keys.{same-same, same-means}
 use Rattle.answers.proofs.Around.{standing}
 use Rattle.answers.proofs.Lying.{lying-lies, lies-lying, lying-one, whole-apart, whole-fine}
 

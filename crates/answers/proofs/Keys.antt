@@ -6,16 +6,16 @@ use mathlib.Core.List.{List, [], _∷_, _++_, map, append-assoc, append-nil}
 use mathlib.Core.Logic.{⊎-elim}
 use lib.ListN.{length, getD, take, drop, take-append-drop}
 use lib.Seq.{drop-cons}
-use lib.Dec.{eqb, ltb}
+use lib.Dec.{ltb}
 use native.Mathlib.Omega.{arith}
 use native.Mathlib.Numerals.{add-one}
-use borrow.Author.Tests.{eqb-true, eqb-false, eq-eqb, ne-eqb, ltb-true, ltb-false, lt-ltb, le-ltb}
+use borrow.Author.Tests.{eqb-false, ne-eqb, ltb-true, ltb-false, lt-ltb, le-ltb}
 use Rattle.fields.specs.Choice.{pick, both}
 use Rattle.fields.specs.Order.{orderOf, less, isLess}
 use Rattle.fields.specs.Table.{sameList}
 use Rattle.fields.specs.declared.Order.{Order}
 use Rattle.fields.specs.declared.Order.the-variants.{Less, Same, Greater}
-use Rattle.fields.proofs.Choices.{both-split, false-true, off}
+use Rattle.fields.proofs.Choices.{both-split, false-true, same-same, differ}
 use Rattle.fields.proofs.Orders.{less-irrefl, order-refl}
 use Rattle.measures.specs.declared.Measures.{Measures}
 use Rattle.interval.specs.Records.{keyOf, keysOf, ascending, above}
@@ -24,26 +24,7 @@ use Rattle.interval_find.specs.declared.Found.the-variants.{At, Gap}
 use Rattle.interval_find.proofs.Search.{place-at, place-at-around, place-gap-around}
 use Rattle.answers.specs.Records.{withKey}
 
--- the same list is the same in the order
-pub same-same : (a : List ℕ) → sameList a a ≡ true
-same-same [] = refl
-same-same (x ∷ a) = rw (eq-eqb x x refl) (same-same a)
-
-pub same-means : (a b : List ℕ) → sameList a b ≡ true → a ≡ b
-same-means [] [] h = refl
-same-means [] (y ∷ b) h = absurd (false-true h)
-same-means (x ∷ a) [] h = absurd (false-true h)
-same-means (x ∷ a) (y ∷ b) h =
-    let s = both-split (eqb x y) (sameList a b) h in
-    let p : x ≡ y = eqb-true x y (s .0) in
-    let q : a ≡ b = same-means a b (s .1) in
-    cc
-
--- Lists that differ are told apart,
-pub differ : (a b : List ℕ) → (a ≡ b → ⊥) → sameList a b ≡ false
-differ a b n = off (sameList a b) (λ (e : sameList a b ≡ true). n (same-means a b e))
-
--- and one is not the same as another below it, or above.
+-- A list is not the same as another below it, or above.
 pub less-differs : (a b : List ℕ) → less a b ≡ true → sameList a b ≡ false
 less-differs a b h = differ a b (λ (e : a ≡ b). false-true (sym (less-irrefl b) ∙ rw e at h))
 

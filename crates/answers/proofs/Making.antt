@@ -8,7 +8,7 @@ use native.Mathlib.Omega.{arith}
 use Rattle.fields.specs.Choice.{pick}
 use Rattle.fields.specs.Order.{less}
 use Rattle.fields.specs.Table.{sameList}
-use Rattle.fields.proofs.Choices.{false-true}
+use Rattle.fields.proofs.Choices.{false-true, same-means, differ}
 use Rattle.fields.proofs.Orders.{less-irrefl, less-asym, less-total}
 use Rattle.measures.specs.declared.Measures.{Measures}
 use Rattle.room.specs.Room.{sum}
@@ -17,7 +17,7 @@ use Rattle.interval.proofs.Ascending.{ascend-tail, ascend-above, ascend-apart}
 use Rattle.interval_find.specs.Search.{lower}
 use Rattle.answers.specs.Records.{withKey}
 use Rattle.answers.specs.Model.{add, replace, remove, total, Change, insert, update, erase, makeChange, makeAll, Legal, AllLegal, gained, gainedAll, lost, lostAll}
-use Rattle.answers.proofs.Keys.{same-means, with-above, with-cons, differ}
+use Rattle.answers.proofs.Keys.{with-above, with-cons}
 use Rattle.answers.proofs.Around.{with-here, add-here, replace-here, remove-here, ascend-put, ascend-join, missing, standing}
 
 -- ---- in any list

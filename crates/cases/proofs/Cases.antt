@@ -6,7 +6,7 @@ use mathlib.Core.List.{List, [], _∷_, map}
 use lib.ListN.{length, drop, replicate}
 use lib.Dec.{eqb}
 use Rattle.fields.specs.Choice.{pick, both}
-use Rattle.fields.specs.Bytes.{part, number, digits}
+use Rattle.fields.specs.Bytes.{number, digits}
 use Rattle.fields.specs.Order.{common}
 use Rattle.fields.specs.Table.{all, sameList}
 use Rattle.room.specs.Room.{sum, rdfCount, push, groups, need, fits}
@@ -14,14 +14,14 @@ use Rattle.interval.specs.Records.{concat}
 use Rattle.interval.specs.Layout.{groupBytes, groupsBytes, layout, form}
 use Rattle.interval.specs.Reading.{unusedField}
 use Rattle.index.specs.Bounds.{cutSeparator}
-use Rattle.index.specs.Meaning.{Entry, Meaning}
-use Rattle.index.specs.Pieces.{Piece, piecesSize, lastChars}
+use Rattle.index.specs.Meaning.{Entry}
+use Rattle.index.specs.Pieces.{piecesSize, lastChars}
 use Rattle.index.specs.Layout.{pieceBytes, piecesBytes, freeBytes, header, trailer}
 use Rattle.index.specs.Form.{packed, entriesSize, entrySize, indexSize, indexBytes}
 use Rattle.index.specs.Search.{leadsTo}
 use Rattle.fields.specs.Order.{orderOf}
 use Rattle.index.proofs.Inserting.{entry}
-use Rattle.index.proofs.Vectors.{meaning}
+use Rattle.index.proofs.Vectors.{meaning, has, counts as compressed}
 use Rattle.division.specs.Division.{gap, fitting, better, bestTo, bestCut, byCut, divisionOf, counts, parts}
 use Rattle.division.specs.Changed.{swap}
 
@@ -46,15 +46,6 @@ inserted ls at l = swap at 0 (l ∷ []) ls
 
 abbrev updated : List ℕ → ℕ → ℕ → List ℕ
 updated ls at l = swap at 1 (l ∷ []) ls
-
--- the writer's index record has these bytes from place p on
-abbrev has : Meaning → ℕ → List ℕ → Bool
-has m p xs = sameList (part (indexBytes 1 512 m) p (length xs)) xs
-
--- F and L of each entry
-abbrev compressed : List Piece → List ℕ
-compressed [] = []
-compressed (p ∷ ps) = p .front ∷ length (p .chars) ∷ compressed ps
 
 abbrev cut : List ℕ
 cut = cutSeparator (0xC1 ∷ 0xF1 ∷ 0xF2 ∷ 0xF3 ∷ []) (0xC2 ∷ 0xF0 ∷ 0xF0 ∷ 0xF0 ∷ [])

@@ -3,7 +3,11 @@ use Prim.Native.Nat.{ℕ}
 use mathlib.Core.Path.{_≡_, refl, _∙_, sym}
 use mathlib.Core.Bool.{Bool, true, false}
 use native.Mathlib.Omega.{arith}
+use mathlib.Core.List.{List, [], _∷_}
+use lib.Dec.{eqb}
+use borrow.Author.Tests.{eqb-true, eq-eqb}
 use Rattle.fields.specs.Choice.{pick, both, either, no}
+use Rattle.fields.specs.Table.{sameList}
 
 -- two results that equal one thing are equal: what every lemma `unique-..` comes down to
 pub agree : {A : Type 0} {x y z : A} → x ≡ z → y ≡ z → x ≡ y
@@ -52,3 +56,23 @@ pick-false false x y z e n = (refl, e)
 pub pick-true : {A : Type 0} (b : Bool) (x y z : A) → pick b x y ≡ z → (y ≡ z → ⊥) → (b ≡ true) × (x ≡ z)
 pick-true true x y z e n = (refl, e)
 pick-true false x y z e n = absurd (n e)
+
+-- ---- whether two lists are the same
+
+pub same-same : (a : List ℕ) → sameList a a ≡ true
+same-same [] = refl
+same-same (x ∷ a) = rw (eq-eqb x x refl) (same-same a)
+
+pub same-means : (a b : List ℕ) → sameList a b ≡ true → a ≡ b
+same-means [] [] h = refl
+same-means [] (y ∷ b) h = absurd (false-true h)
+same-means (x ∷ a) [] h = absurd (false-true h)
+same-means (x ∷ a) (y ∷ b) h =
+    let s = both-split (eqb x y) (sameList a b) h in
+    let p : x ≡ y = eqb-true x y (s .0) in
+    let q : a ≡ b = same-means a b (s .1) in
+    cc
+
+-- lists that differ are told apart
+pub differ : (a b : List ℕ) → (a ≡ b → ⊥) → sameList a b ≡ false
+differ a b n = off (sameList a b) (λ (e : sameList a b ≡ true). n (same-means a b e))

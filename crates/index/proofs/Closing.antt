@@ -11,15 +11,16 @@ use borrow.Author.Tests.{eqb-true, leb-true, leb-false, eq-eqb, ne-eqb, le-leb, 
 use Rattle.fields.specs.Choice.{both}
 use Rattle.fields.specs.Bytes.{Octets}
 use Rattle.fields.specs.Order.{less}
-use Rattle.fields.proofs.Choices.{false-true, both-false, both-none}
+use Rattle.fields.proofs.Choices.{false-true, both-false, both-none, same-means}
 use Rattle.fields.proofs.Octets.{octets-append, octets-take, octets-part}
+use Rattle.fields.specs.Table.{sameList}
 use Rattle.index.specs.Bounds.{empty, bound}
 use Rattle.index.specs.Meaning.{Entry, Meaning}
-use Rattle.index.specs.Rules.{alike, rises, closed, baseFine, keepsRules}
+use Rattle.index.specs.Rules.{rises, closed, baseFine, keepsRules}
 use Rattle.index.specs.Pieces.{Piece, spelt, spell, frontsFit, pieceSize, piecesSize, lastChars}
 use Rattle.index.specs.Reading.{unusedAt, lastAt, sectionAt, freeCount, lengthAt, pieceAt, piecesAt, piecesIn, readIndex, frame, places, soundIndex}
 use Rattle.index.proofs.Filling.{octets-bound, length-bound, empty-highest}
-use Rattle.index.proofs.Keeping.{alike-same, rules-apart, separator-short, rises-apart}
+use Rattle.index.proofs.Keeping.{rules-apart, separator-short, rises-apart}
 use Rattle.index.proofs.Sounding.{sound-apart}
 
 -- ---- only the last is empty
@@ -82,7 +83,7 @@ pub record Ends (end : List ℕ) (es : List Entry) : Type 0 where
 pub closed-ends : (end : List ℕ) (es : List Entry) → closed end es ≡ true → Ends end es
 unfolding closed
 closed-ends end [] h = absurd (false-true h)
-closed-ends end (e ∷ []) h = record { pre = []; last = e; split = refl; is = alike-same (e .sep) end h }
+closed-ends end (e ∷ []) h = record { pre = []; last = e; split = refl; is = same-means (e .sep) end h }
 closed-ends end (e ∷ f ∷ es) h =
     let r = closed-ends end (f ∷ es) h in
     record { pre = e ∷ r .pre; last = r .last; split = ap (λ (x : List Entry). e ∷ x) (r .split); is = r .is }
@@ -97,7 +98,7 @@ basePlaces w n ib =
     (both (leb (unusedAt ib) (lastAt ib))
     (both (eqb (sectionAt ib) (lastAt ib)) (eqb (lastAt ib + piecesSize w (piecesIn w n ib)) (length ib - 7)))))
 
-append-empty : (xs ys : List ℕ) → alike (xs ++ ys) [] ≡ true → ys ≡ []
+append-empty : (xs ys : List ℕ) → sameList (xs ++ ys) [] ≡ true → ys ≡ []
 append-empty [] [] h = refl
 append-empty [] (y ∷ ys) h = absurd (false-true h)
 append-empty (x ∷ xs) ys h = absurd (false-true h)

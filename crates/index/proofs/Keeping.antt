@@ -1,17 +1,17 @@
 -- The rules of a meaning, one by one.
 use Prim.Native.Nat.{ℕ, _-_, _≤_}
-use mathlib.Core.Path.{_≡_, refl}
+use mathlib.Core.Path.{_≡_}
 use mathlib.Core.Bool.{true}
-use mathlib.Core.List.{List, [], _∷_}
+use mathlib.Core.List.{List, _∷_}
 use lib.ListN.{length, getD}
 use lib.Dec.{eqb, leb}
-use borrow.Author.Tests.{leb-true, eqb-true, eq-eqb}
+use borrow.Author.Tests.{leb-true}
 use Rattle.fields.specs.Choice.{both, no}
 use Rattle.fields.specs.Order.{less}
-use Rattle.fields.proofs.Choices.{false-true, both-split}
+use Rattle.fields.proofs.Choices.{both-split}
 use Rattle.index.specs.Bounds.{bound, separator}
 use Rattle.index.specs.Meaning.{Entry, Meaning, named, namedOnce}
-use Rattle.index.specs.Rules.{alike, rises, closed, baseFine, keepsRules}
+use Rattle.index.specs.Rules.{rises, closed, baseFine, keepsRules}
 
 -- What a meaning that keeps the rules keeps.
 pub record Keeps (S K n : ℕ) (low end : List ℕ) (m : Meaning) : Type 0 where
@@ -45,18 +45,3 @@ rises-apart K low e es h =
     let a = both-split (separator K (e .sep)) (both (less low (bound K (e .sep))) (rises K (bound K (e .sep)) es)) h in
     let b = both-split (less low (bound K (e .sep))) (rises K (bound K (e .sep)) es) (a .1) in
     (a .0, b .0, b .1)
-
--- Byte lists are alike exactly where they are the same.
-pub alike-same : (xs ys : List ℕ) → alike xs ys ≡ true → xs ≡ ys
-alike-same [] [] h = refl
-alike-same [] (y ∷ ys) h = absurd (false-true h)
-alike-same (x ∷ xs) [] h = absurd (false-true h)
-alike-same (x ∷ xs) (y ∷ ys) h =
-    let s = both-split (eqb x y) (alike xs ys) h in
-    let p : x ≡ y = eqb-true x y (s .0) in
-    let q : xs ≡ ys = alike-same xs ys (s .1) in
-    cc
-
-pub same-alike : (xs : List ℕ) → alike xs xs ≡ true
-same-alike [] = refl
-same-alike (x ∷ xs) = rw (eq-eqb x x refl, same-alike xs)

@@ -8,14 +8,14 @@ use native.Mathlib.Omega.{arith}
 use Rattle.fields.specs.Choice.{pick}
 use Rattle.fields.specs.Bytes.{Octets}
 use Rattle.fields.specs.Order.{orderOf, less}
-use Rattle.fields.proofs.Choices.{false-true}
+use Rattle.fields.proofs.Choices.{false-true, same-means}
 use Rattle.fields.proofs.Orders.{less-trans}
 use Rattle.index.specs.Bounds.{bound}
 use Rattle.index.specs.Meaning.{Entry}
 use Rattle.index.specs.Rules.{rises, closed, boundBefore}
 use Rattle.index.specs.Search.{leadsTo}
 use Rattle.index.proofs.Filling.{lead-is-bound, empty-highest}
-use Rattle.index.proofs.Keeping.{alike-same, separator-short, rises-apart}
+use Rattle.index.proofs.Keeping.{separator-short, rises-apart}
 
 -- The entry at place i holds the key's range: the bound before it is below the key, and its own is not.
 pub record Belongs (K : ℕ) (low key : List ℕ) (es : List Entry) (i : ℕ) : Type 0 where
@@ -51,7 +51,7 @@ module _ (K : ℕ) (key : List ℕ) (long : length key ≡ K) (o : Octets key) w
   unfolding closed
   lead-belongs low end [] l h r c = absurd (false-true c)
   lead-belongs low end (e ∷ []) l h r c =
-      let q : less (bound K (e .sep)) key ≡ false = rw (alike-same (e .sep) end c) h in
+      let q : less (bound K (e .sep)) key ≡ false = rw (same-means (e .sep) end c) h in
       let z : leadsTo key (e ∷ []) ≡ 0 = lead-on low e [] r ∙ rw q in
       rw z (here low e [] l q)
   lead-belongs low end (e ∷ f ∷ es) l h r c =

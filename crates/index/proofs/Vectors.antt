@@ -5,13 +5,13 @@ use mathlib.Core.Bool.{Bool, true}
 use mathlib.Core.List.{List, [], _∷_}
 use lib.ListN.{length, replicate}
 use lib.Dec.{eqb}
-use Rattle.fields.specs.Table.{all}
+use Rattle.fields.specs.Table.{all, sameList}
 use Rattle.fields.specs.Choice.{both}
 use Rattle.fields.specs.Bytes.{part, number, digits}
 use Rattle.fields.specs.Order.{orderOf, common}
 use Rattle.index.specs.Bounds.{bound, separator, cutSeparator}
 use Rattle.index.specs.Meaning.{Entry, Meaning, count, below, once, namedOnce}
-use Rattle.index.specs.Rules.{alike, rises, closed, keepsRules}
+use Rattle.index.specs.Rules.{rises, closed, keepsRules}
 use Rattle.index.specs.Pieces.{Piece, spell, frontsFit, piecesSize, lastChars}
 use Rattle.index.specs.Layout.{pieceBytes, piecesBytes, freeBytes, header, trailer, layout}
 use Rattle.index.specs.Form.{packed, entriesSize, entrySize, indexSize, indexBytes}
@@ -23,15 +23,15 @@ abbrev pub meaning : List ℕ → List Entry → Meaning
 meaning fs es = record { kept = replicate 12 0; spare = 0; free = fs; entries = es }
 
 -- the bytes of the writer's form from place p on
-abbrev has : Meaning → ℕ → List ℕ → Bool
-has m p xs = alike (part (indexBytes 1 512 m) p (length xs)) xs
+abbrev pub has : Meaning → ℕ → List ℕ → Bool
+has m p xs = sameList (part (indexBytes 1 512 m) p (length xs)) xs
 
 -- the writer's form is sound for keys of four bytes and n intervals
 abbrev sound : ℕ → Meaning → Bool
 sound n m = soundIndex 1 4 n [] [] (indexBytes 1 512 m)
 
 -- F and L of the writer's pieces
-abbrev counts : List Piece → List ℕ
+abbrev pub counts : List Piece → List ℕ
 counts [] = []
 counts (p ∷ ps) = p .front ∷ length (p .chars) ∷ counts ps
 
@@ -52,12 +52,12 @@ table =
     all
     (has first 18 (0x00 ∷ 0x19 ∷ 0x01 ∷ 0xF6 ∷ 0x01 ∷ 0xF6 ∷ 0x01 ∷ [])
     ∷ sound 2 first
-    ∷ alike (cutSeparator (0xC1 ∷ 0xF1 ∷ 0xF2 ∷ 0xF3 ∷ []) (0xC2 ∷ 0xF0 ∷ 0xF0 ∷ 0xF0 ∷ [])) (0xC1 ∷ [])
+    ∷ sameList (cutSeparator (0xC1 ∷ 0xF1 ∷ 0xF2 ∷ 0xF3 ∷ []) (0xC2 ∷ 0xF0 ∷ 0xF0 ∷ 0xF0 ∷ [])) (0xC1 ∷ [])
     ∷ has second 18 (0x00 ∷ 0x18 ∷ 0x01 ∷ 0xF2 ∷ 0x01 ∷ 0xF2 ∷ [])
     ∷ has second 498 (0x00 ∷ 0x00 ∷ 0x01 ∷ 0xC1 ∷ 0x00 ∷ 0x01 ∷ 0x00 ∷ [])
     ∷ has second 505 (0x00 ∷ 0x01 ∷ 0xF9 ∷ 0x01 ∷ 0xF9 ∷ 0x00 ∷ 0x00 ∷ [])
     ∷ sound 2 second
-    ∷ alike (counts (packed [] (third .entries))) (0 ∷ 2 ∷ 1 ∷ 0 ∷ 0 ∷ 0 ∷ [])
+    ∷ sameList (counts (packed [] (third .entries))) (0 ∷ 2 ∷ 1 ∷ 0 ∷ 0 ∷ 0 ∷ [])
     ∷ has third 494 (0x00 ∷ 0x00 ∷ 0x02 ∷ 0x01 ∷ 0x00 ∷ 0x01 ∷ 0x41 ∷ 0x42 ∷ 0x00 ∷ 0x02 ∷ 0x00 ∷ [])
     ∷ sound 3 third
     ∷ eqb (leadsTo (0x41 ∷ 0x42 ∷ 0x99 ∷ 0x99 ∷ []) (third .entries)) 0

@@ -4,19 +4,13 @@
 use Prim.Native.Nat.{ℕ, _+_, _*_}
 use mathlib.Core.Bool.{Bool, true, false}
 use mathlib.Core.List.{List, [], _∷_}
-use lib.Dec.{leb, eqb}
+use lib.Dec.{leb}
 use Rattle.fields.specs.Choice.{both}
+use Rattle.fields.specs.Table.{sameList}
 use Rattle.fields.specs.Bytes.{number}
 use Rattle.fields.specs.Order.{less}
 use Rattle.index.specs.Bounds.{bound, separator}
 use Rattle.index.specs.Meaning.{Entry, Meaning, named, namedOnce}
-
--- the two byte lists are the same
-abbrev pub alike : List ℕ → List ℕ → Bool
-alike [] [] = true
-alike [] (y ∷ ys) = false
-alike (x ∷ xs) [] = false
-alike (x ∷ xs) (y ∷ ys) = both (eqb x y) (alike xs ys)
 
 -- every separator is as it must be, and each bound is above the one before it, from low on; [] is below every bound
 unfoldable pub rises : ℕ → List ℕ → List Entry → Bool
@@ -27,7 +21,7 @@ rises K low (e ∷ es) = both (separator K (e .sep)) (both (less low (bound K (e
 -- That no other entry has an empty one follows from the bounds (proofs/Closing.antt, only-last-empty).
 unfoldable pub closed : List ℕ → List Entry → Bool
 closed end [] = false
-closed end (e ∷ []) = alike (e .sep) end
+closed end (e ∷ []) = sameList (e .sep) end
 closed end (e ∷ f ∷ es) = closed end (f ∷ es)
 
 -- addresses have four bytes: n intervals of size S from the base on end at 2^32 or before; the base RBA is the first four of the kept bytes

@@ -10,9 +10,10 @@ use borrow.Author.Tests.{eqb-true, eqb-false, leb-true, leb-false, eq-eqb, ne-eq
 use Rattle.fields.specs.Choice.{both}
 use Rattle.fields.specs.Order.{less}
 use Rattle.fields.proofs.Choices.{both-false, false-true, both-none}
+use Rattle.fields.specs.Table.{sameList}
 use Rattle.index.specs.Bounds.{empty, bound, separator}
 use Rattle.index.specs.Meaning.{numbers}
-use Rattle.index.specs.Rules.{alike, rises, closed}
+use Rattle.index.specs.Rules.{rises, closed}
 use Rattle.index.specs.Pieces.{Piece, spelt, spell, frontsFit, pieceSize, piecesSize}
 use Rattle.index_read.specs.Walk.{chain, pieceNumbers}
 
@@ -21,7 +22,7 @@ unfoldable closedAfter : List ℕ → List Piece → Bool
 closedAfter ref [] = empty ref
 closedAfter ref (p ∷ ps) = closedAfter (spelt ref p) ps
 
-alike-none : (xs : List ℕ) → alike xs [] ≡ empty xs
+alike-none : (xs : List ℕ) → sameList xs [] ≡ empty xs
 alike-none [] = refl
 alike-none (x ∷ xs) = refl
 
