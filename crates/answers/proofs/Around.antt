@@ -164,7 +164,7 @@ pub record Standing (m : Measures) (key : List ℕ) (rs : List (List ℕ)) (x : 
   pub split : rs ≡ take (lower m key rs) rs ++ (x ∷ drop (lower m key rs + 1) rs)
 
 -- A list is what stands before a place, the element there, and what stands after it.
-split-there : {A : Type 0} (xs : List A) (i : ℕ) (d : A) → i < length xs → xs ≡ take i xs ++ (getD xs i d ∷ drop (i + 1) xs)
+pub split-there : {A : Type 0} (xs : List A) (i : ℕ) (d : A) → i < length xs → xs ≡ take i xs ++ (getD xs i d ∷ drop (i + 1) xs)
 split-there xs i d h = rw add-one (split-at xs i d h)
 
 module _ (m : Measures) (key : List ℕ) (rs : List (List ℕ)) (up : ascending (keysOf m rs) ≡ true) where
