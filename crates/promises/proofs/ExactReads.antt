@@ -2,7 +2,7 @@
 use Prim.Native.Nat.{ℕ, _≤_, _<_}
 use mathlib.Core.Path.{_≡_, refl, _∙_, sym, ap}
 use mathlib.Core.Bool.{Bool, true, false}
-use mathlib.Core.List.{List, [], _∷_}
+use mathlib.Core.List.{List, [], _∷_, cons-ne-nil}
 use mathlib.Core.Logic.{_⊎_, inl, inr}
 use lib.ListN.{length}
 use lib.Dec.{eqb, leb}
@@ -25,9 +25,6 @@ use Rattle.answers.proofs.Gets.{judged-least, get-finds, get-wrong-length, get-
 use Rattle.answers.proofs.Lying.{lying-lies, lies-lying, whole-apart}
 use Rattle.promises.specs.Tables.{done, row, First, Holding, Absent, Nowhere, KeyedTooLong, LyingTooLong, checkTable, getTable, getAtTable}
 use Rattle.promises.proofs.Rows.{first-two, held, keyed-either}
-
-some-none : (x : List ℕ) (xs : List (List ℕ)) → x ∷ xs ≡ [] → ⊥
-some-none x xs e = let z : _≡_ {A = ℕ} 0 1 = cc in omega arith
 
 module _ (size offset key most : ℕ) (area : List ℕ) where
   abbrev m : Measures
@@ -83,7 +80,7 @@ module _ (size offset key most : ℕ) (area : List ℕ) where
       go [] e =
           inr
           (λ (r : List ℕ) (l : Lies m (baseOf c) address (c .filled) r).
-          some-none r [] (sym (lies-lying m (baseOf c) address some (c .filled) (whole-apart m n area c w) r l) ∙ e))
+          cons-ne-nil r [] (sym (lies-lying m (baseOf c) address some (c .filled) (whole-apart m n area c w) r l) ∙ e))
       go (x ∷ ws) e = inl (x, lying-lies m (baseOf c) address some (c .filled) x ws e)
 
   -- A get by key is refused with 1, 2, 3, 5 or 8 exactly as its table says.

@@ -1,18 +1,15 @@
 -- Over any requests one after another a sound area stays sound, and its records are the opening ones with just the accepted changes made: demand 3.
 use Prim.Native.Nat.{ℕ, zero, suc, _+_, _≤_, _<_}
 use mathlib.Core.Path.{_≡_, refl, _∙_, sym, ap}
-use mathlib.Core.Bool.{Bool, true, false}
 use mathlib.Core.List.{List, [], _∷_, _++_}
 use lib.ListN.{length}
-use lib.Dec.{eqb, ltb}
-use borrow.Author.Tests.{eqb-true, eqb-false, ltb-true}
 use Rattle.fields.proofs.Choices.{both-split}
 use native.Mathlib.Omega.{arith}
 use Rattle.fields.specs.Bytes.{Octets}
 use Rattle.measures.specs.declared.Measures.{Measures}
 use Rattle.measures.specs.declared.Judged.the-variants.{Fine}
 use Rattle.index.specs.Meaning.{named, count, below, once, namedOnce}
-use Rattle.index.proofs.Counting.{count-other}
+use Rattle.index.proofs.Counting.{once-each, count-out}
 use Rattle.area.specs.Content.{Content, recordsOf, meaningOf, baseOf}
 use Rattle.area.specs.Reading.{whole, readArea}
 use Rattle.area.proofs.Ascending.{records-ascend, numbers-once}
@@ -32,29 +29,6 @@ use Rattle.promises.specs.Harmless.{Refusal}
 use Rattle.promises.specs.Trace.{Request, check, get, getAt, changes, Step, ChangeAllowed, Allowed, Trace, areaAfter, taking, acceptedIn, Sound, Stands}
 use Rattle.promises.proofs.Refused.{refused-harmless}
 use Rattle.promises.proofs.Fits.{accepted-fits-area}
-
--- ---- numbers
-
--- Where every number below n stands once, each is counted once,
-once-each : (xs : List ℕ) (n k : ℕ) → k < n → once xs n ≡ true → count k xs ≡ 1
-unfolding once
-once-each xs zero k h o = absurd (omega arith)
-once-each xs (suc n) k h o =
-    let s = both-split (eqb (count n xs) 1) (once xs n) o in
-    go (eqb k n) refl (eqb-true (count n xs) 1 (s .0)) (λ (l : k < n). once-each xs n k l (s .1))
-  where
-    go : (t : Bool) → eqb k n ≡ t → count n xs ≡ 1 → (k < n → count k xs ≡ 1) → count k xs ≡ 1
-    go true e here lower = rw (eqb-true k n e) here
-    go false e here lower = let f : k ≡ n → ⊥ = eqb-false k n e in lower (omega arith)
-
--- and where all are below n, no other.
-below-none : (n k : ℕ) (xs : List ℕ) → n ≤ k → below n xs ≡ true → count k xs ≡ 0
-unfolding below count
-below-none n k [] h b = refl
-below-none n k (x ∷ xs) h b =
-    let s = both-split (ltb x n) (below n xs) b in
-    let l : x < n = ltb-true x n (s .0) in
-    count-other k x xs (λ (e : x ≡ k). omega arith) ∙ below-none n k xs h (s .1)
 
 module _ (size offset key most : ℕ) where
   -- ---- one change
@@ -191,7 +165,7 @@ module _ (size offset key most : ℕ) where
       named-once ss t d w =
           let xs : List ℕ = named (meaningOf d) in
           let b = both-split (below n xs) (once xs n) (numbers-once m n (areaAfter area ss) d w) in
-          (λ (k : ℕ) (h : k < n). once-each xs n k h (b .1), λ (k : ℕ) (h : n ≤ k). below-none n k xs h (b .0))
+          (λ (k : ℕ) (h : k < n). once-each xs n k (b .1) h, λ (k : ℕ) (h : n ≤ k). count-out k n xs (b .0) h)
 
       -- ---- gets at any step
 

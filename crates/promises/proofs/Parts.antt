@@ -2,10 +2,9 @@
 use Prim.Native.Nat.{ℕ, zero, suc, _+_, _-_, _≤_}
 use mathlib.Core.Path.{_≡_, refl, _∙_, sym, ap}
 use mathlib.Core.Bool.{Bool, true, false}
-use mathlib.Core.List.{List, [], _∷_, _++_, List·Memᴰ, List·Memᴰ·head, List·Memᴰ·tail, List·Memᴰ·not-nil, List·Memᴰ·cases-cons, List·Memᴰ·append-cases, append-assoc, append-nil}
-use mathlib.Core.Logic.{⊎-elim}
-use lib.ListN.{length, length-append, getD, take, drop}
-use lib.Seq.{take-length, drop-length, take-take, length-take-le}
+use mathlib.Core.List.{List, [], _∷_, _++_, List·Memᴰ, List·Memᴰ·head, List·Memᴰ·eq-of-singleton, append-assoc, append-nil}
+use lib.ListN.{length, length-append, getD, take}
+use lib.Seq.{take-length, take-take, length-take-le}
 use native.Mathlib.Nat.{sub-zero}
 use lib.Dec.{ltb}
 use native.Mathlib.Omega.{arith}
@@ -13,26 +12,20 @@ use Rattle.fields.specs.Choice.{pick}
 use Rattle.measures.specs.declared.Measures.{Measures}
 use Rattle.index.specs.Meaning.{numbers}
 use Rattle.index.proofs.Naming.{length-numbers}
+use Rattle.index.proofs.Dividing.{rightmost}
 use Rattle.division.specs.Fewest.{joined}
 use Rattle.area.specs.Content.{Filled, Content, recordsOf, entriesOf}
+use Rattle.area.proofs.Filling.{length-entries}
 use Rattle.change.specs.Parts.{entryAt, cutsOf, taken}
 use Rattle.change.specs.Content.{filledWith, partsFilled, partedAt}
 use Rattle.change.specs.Places.{AllWritten, nexts, namedFor}
-use Rattle.change.proofs.Indexing.{length-taken, length-cuts, entries-parts, numbers-parts}
+use Rattle.change.proofs.Indexing.{less-one, length-taken, length-cuts, entries-parts, numbers-parts}
+use Rattle.change.proofs.Taking.{among-one, among-places}
 use Rattle.change.proofs.After.{records-parted}
-use Rattle.answers.proofs.Around.{split-there}
 use Rattle.promises.specs.Changes.{AllForms, reversed}
 use Rattle.promises.specs.Entries.{recordsBy, sepsBy}
 
 -- ---- the entries that parts make
-
-less-one : (k : ℕ) → suc k - 1 ≡ k
-less-one k = omega arith
-
-length-entries : (fs : List Filled) → length (entriesOf fs) ≡ length fs
-unfolding entriesOf
-length-entries [] = refl
-length-entries (f ∷ fs) = ap suc (length-entries fs)
 
 module _ (m : Measures) (c : Content) (f : Filled) where
   abbrev pub new : List (List (List ℕ)) → List Filled
@@ -67,12 +60,6 @@ written-forms m area (s ∷ seps) [] ps w = tt
 written-forms m area (s ∷ seps) (k ∷ nums) [] w = tt
 written-forms m area (s ∷ seps) (k ∷ nums) (p ∷ ps) w = (w .0, written-forms m area seps nums ps (w .1))
 
--- A place among the next ones is next to one of them.
-among-nexts : (k : ℕ) (ks : List ℕ) → List·Memᴰ (k + 1) (nexts ks) → List·Memᴰ k ks
-among-nexts k [] i = absurd (List·Memᴰ·not-nil i)
-among-nexts k (x ∷ ks) i =
-    ⊎-elim (λ (e : k + 1 ≡ x + 1). List·Memᴰ·head (omega arith)) (λ (j : List·Memᴰ (k + 1) (nexts ks)). List·Memᴰ·tail (among-nexts k ks j)) (List·Memᴰ·cases-cons i)
-
 -- A data interval that a change of entry i names is the entry's or one of those taken.
 pub named-among : (c : Content) (i parts k : ℕ) → List·Memᴰ (k + 1) (namedFor c i parts) → List·Memᴰ k (entryAt (c .filled) i .num ∷ taken (parts - 1) (c .free))
 named-among c i parts k = go (ltb 1 parts)
@@ -83,16 +70,9 @@ named-among c i parts k = go (ltb 1 parts)
     old : ℕ
     old = entryAt (c .filled) i .num
 
-    last : List·Memᴰ (k + 1) ((old + 1) ∷ []) → List·Memᴰ k (old ∷ ns)
-    last j =
-        ⊎-elim (λ (e : k + 1 ≡ old + 1). List·Memᴰ·head (let q : k ≡ old = omega arith in q)) (λ (l : List·Memᴰ (k + 1) []). absurd (List·Memᴰ·not-nil l)) (List·Memᴰ·cases-cons j)
-
-    index : List·Memᴰ (k + 1) (0 ∷ (old + 1) ∷ []) → List·Memᴰ k (old ∷ ns)
-    index j = ⊎-elim (λ (e : k + 1 ≡ 0). absurd (omega arith)) last (List·Memᴰ·cases-cons j)
-
     go : (t : Bool) → List·Memᴰ (k + 1) (pick t (nexts ns ++ (0 ∷ (old + 1) ∷ [])) ((old + 1) ∷ [])) → List·Memᴰ k (old ∷ ns)
-    go true j = ⊎-elim (λ (l : List·Memᴰ (k + 1) (nexts ns)). List·Memᴰ·tail (among-nexts k ns l)) index (List·Memᴰ·append-cases (nexts ns) j)
-    go false j = last j
+    go true j = among-places k old ns j
+    go false j = List·Memᴰ·head (List·Memᴰ·eq-of-singleton (among-one k old j))
 
 -- ---- what such entries are, one by one
 
@@ -133,13 +113,6 @@ module _ (m : Measures) (c : Content) (f : Filled) where
 
 -- ---- the numbers that are taken
 
--- A list is all but its last, and its last.
-last-apart : (xs : List ℕ) → 1 ≤ length xs → xs ≡ take (length xs - 1) xs ++ (getD xs (length xs - 1) 0 ∷ [])
-last-apart xs h =
-    let i : ℕ = length xs - 1 in
-    let l : i + 1 ≡ length xs = omega arith in
-    split-there xs i 0 (omega arith) ∙ ap (λ (ys : List ℕ). take i xs ++ (getD xs i 0 ∷ ys)) (rw l (drop-length xs))
-
 -- The free numbers are those that stay and those taken, the rightmost of which is taken first.
 pub taken-apart : (k : ℕ) (free : List ℕ) → k ≤ length free → free ≡ take (length free - k) free ++ reversed (taken k free)
 unfolding taken
@@ -150,6 +123,6 @@ taken-apart (suc k) free h =
     let t : take (length b - k) b ≡ take (length free - suc k) free =
     take-take (length b - k) (length free - 1) free (omega arith) ∙ ap (λ (i : ℕ). take i free) (let q : length b - k ≡ length free - suc k = omega arith in q) in
     let i : b ≡ take (length b - k) b ++ reversed (taken k b) = taken-apart k b (omega arith) in
-    last-apart free (omega arith)
+    rightmost free (omega arith)
     ∙ ap (λ (ys : List ℕ). ys ++ (getD free (length free - 1) 0 ∷ [])) (i ∙ ap (λ (ys : List ℕ). ys ++ reversed (taken k b)) t)
     ∙ append-assoc (take (length free - suc k) free) (reversed (taken k b)) (getD free (length free - 1) 0 ∷ [])

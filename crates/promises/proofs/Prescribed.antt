@@ -16,7 +16,7 @@ use Rattle.division.specs.Changed.{swap}
 use Rattle.division.proofs.Answers.{prescribed, prescribed-unique}
 use Rattle.area.specs.Content.{Filled}
 use Rattle.change.specs.Parts.{Edit, entryAt, edited}
-use Rattle.interval_find.proofs.Search.{ascend-tail, ascend-above}
+use Rattle.interval.proofs.Ascending.{ascend-tail, ascend-above}
 use Rattle.answers.specs.Records.{withKey}
 use Rattle.answers.proofs.Keys.{with-append, with-above, with-cons}
 use Rattle.answers.proofs.Edits.{Proper}

@@ -2,7 +2,7 @@
 use Prim.Native.Nat.{ℕ, _+_, _≤_}
 use mathlib.Core.Path.{_≡_, refl, _∙_, sym, ap}
 use mathlib.Core.Bool.{Bool, true, false}
-use mathlib.Core.List.{List, [], _∷_, map}
+use mathlib.Core.List.{List, [], _∷_, map, cons-ne-nil}
 use mathlib.Core.Logic.{_⊎_, inl, inr}
 use lib.ListN.{length, take, drop}
 use lib.Dec.{eqb}
@@ -10,7 +10,7 @@ use native.Mathlib.Omega.{arith}
 use native.Mathlib.Nat.{add-zero}
 use borrow.Author.Tests.{eqb-true, eqb-false, eq-eqb, ne-eqb}
 use Rattle.fields.specs.Bytes.{Octets}
-use Rattle.fields.proofs.Choices.{false-true}
+use Rattle.fields.proofs.Choices.{false-true, off}
 use Rattle.measures.specs.declared.Measures.{Measures}
 use Rattle.interval.specs.Records.{keyOf, within}
 use Rattle.index.specs.Search.{leadsTo}
@@ -64,16 +64,13 @@ length-either m (erase wanted) = go (eqb (length wanted) (m .key)) refl
     go true e = inl (eqb-true (length wanted) (m .key) e)
     go false e = inr (eqb-false (length wanted) (m .key) e)
 
-some-none : (x : List ℕ) (xs : List (List ℕ)) → x ∷ xs ≡ [] → ⊥
-some-none x xs e = let z : _≡_ {A = ℕ} 0 1 = cc in omega arith
-
 none-either : (ws : List (List ℕ)) → (ws ≡ []) ⊎ (ws ≡ [] → ⊥)
 none-either [] = inl refl
-none-either (x ∷ ws) = inr (some-none x ws)
+none-either (x ∷ ws) = inr (cons-ne-nil x ws)
 
 some-either : (ws : List (List ℕ)) → (ws ≡ [] → ⊥) ⊎ ((ws ≡ [] → ⊥) → ⊥)
 some-either [] = inr (λ (h : [] ≡ [] → ⊥). h refl)
-some-either (x ∷ ws) = inl (some-none x ws)
+some-either (x ∷ ws) = inl (cons-ne-nil x ws)
 
 pub legal-either : (m : Measures) (ch : Change) (rs : List (List ℕ)) → Legal m ch rs ⊎ (Legal m ch rs → ⊥)
 legal-either m (insert r) rs = none-either (withKey m (keyOf m r) rs)
@@ -97,20 +94,16 @@ separators-cuts m (p ∷ q ∷ ps) = rw (separators-cuts m (q ∷ ps))
 
 -- ---- each way
 
-no-true : (t : Bool) → (t ≡ true → ⊥) → t ≡ false
-no-true true h = absurd (h refl)
-no-true false h = refl
-
 none-not : (ws : List (List ℕ)) → ((ws ≡ [] → ⊥) → ⊥) → ws ≡ []
 none-not [] h = refl
-none-not (x ∷ ws) h = absurd (h (some-none x ws))
+none-not (x ∷ ws) h = absurd (h (cons-ne-nil x ws))
 
 module _ (size offset key most : ℕ) (m : Measures) (n : ℕ) (area : List ℕ) (c : Content) (s : Sound size offset key most m n area c) where
   -- A length that is not fine is refused,
   pub way-length : (ch : Change) → (LengthFine m ch → ⊥) → changeOf size offset key most area ch ≡ kept WrongLength area
   unfolding insertOf updateOf eraseOf
-  way-length (insert r) h = rw (s .judges, s .reads, no-true (within (m .least) (m .most) (length r)) h)
-  way-length (update r) h = rw (s .judges, s .reads, no-true (within (m .least) (m .most) (length r)) h)
+  way-length (insert r) h = rw (s .judges, s .reads, off (within (m .least) (m .most) (length r)) h)
+  way-length (update r) h = rw (s .judges, s .reads, off (within (m .least) (m .most) (length r)) h)
   way-length (erase wanted) h = rw (s .judges, s .reads, ne-eqb (length wanted) (m .key) h)
 
   -- then a change that may not be made,
