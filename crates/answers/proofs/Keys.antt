@@ -1,25 +1,19 @@
 -- The records with a key: where they stand, and that there is one or none.
-use Prim.Native.Nat.{ℕ, zero, suc, _+_, _≤_, _<_}
+use Prim.Native.Nat.{ℕ, _+_}
 use mathlib.Core.Path.{_≡_, refl, _∙_, sym, ap}
 use mathlib.Core.Bool.{Bool, true, false}
-use mathlib.Core.List.{List, [], _∷_, _++_, map, append-assoc, append-nil}
-use mathlib.Core.Logic.{⊎-elim}
-use lib.ListN.{length, getD, take, drop, take-append-drop}
+use mathlib.Core.List.{List, [], _∷_, _++_}
+use lib.ListN.{getD, take, drop, take-append-drop}
 use lib.Seq.{drop-cons}
-use lib.Dec.{ltb}
-use native.Mathlib.Omega.{arith}
 use native.Mathlib.Numerals.{add-one}
-use borrow.Author.Tests.{eqb-false, ne-eqb, ltb-true, ltb-false, lt-ltb, le-ltb}
-use Rattle.fields.specs.Choice.{pick, both}
-use Rattle.fields.specs.Order.{orderOf, less, isLess}
+use Rattle.fields.specs.Choice.{pick}
+use Rattle.fields.specs.Order.{less}
 use Rattle.fields.specs.Table.{sameList}
-use Rattle.fields.specs.declared.Order.{Order}
-use Rattle.fields.specs.declared.Order.the-variants.{Less, Same, Greater}
 use Rattle.fields.proofs.Choices.{both-split, false-true, same-same, differ}
-use Rattle.fields.proofs.Orders.{less-irrefl, order-refl}
+use Rattle.fields.proofs.Orders.{less-irrefl}
 use Rattle.measures.specs.declared.Measures.{Measures}
 use Rattle.interval.specs.Records.{keyOf, keysOf, ascending, above}
-use Rattle.interval_find.specs.Search.{placeOf, allBelow, isSame}
+use Rattle.interval_find.specs.Search.{placeOf, allBelow}
 use Rattle.interval_find.specs.declared.Found.the-variants.{At, Gap}
 use Rattle.interval_find.proofs.Search.{place-at, place-at-around, place-gap-around}
 use Rattle.answers.specs.Records.{withKey}

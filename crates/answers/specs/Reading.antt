@@ -11,7 +11,7 @@ use Rattle.measures.specs.declared.Measures.{Measures}
 use Rattle.measures.specs.declared.Judged.{Judged}
 use Rattle.measures.specs.declared.Judged.the-variants.{Fine}
 use Rattle.measures.specs.declared.Judged.the-variants as judged
-use Rattle.area.specs.Content.{Content, recordsOf, baseOf}
+use Rattle.area.specs.Content.{recordsOf, baseOf}
 use Rattle.area.specs.Reading.{Reading, damaged, whole, readArea}
 use Rattle.answers.specs.Records.{withKey, lyingAt}
 use Rattle.answers.specs.declared.Answer.{Answer}

@@ -1,13 +1,12 @@
 -- Records of an area by key and by address, said over its reading alone.
 use Prim.Native.Nat.{ℕ, _+_, _*_}
-use mathlib.Core.Bool.{Bool, true, false}
 use mathlib.Core.List.{List, [], _∷_, _++_}
 use Rattle.fields.specs.Choice.{pick}
 use Rattle.fields.specs.Table.{sameList}
 use Rattle.measures.specs.declared.Measures.{Measures}
 use Rattle.interval.specs.Records.{keyOf}
 use Rattle.interval_find.specs.Search.{startingAt}
-use Rattle.area.specs.Content.{Filled, Content, baseOf}
+use Rattle.area.specs.Content.{Filled}
 
 -- the records with that key: one or none, as keys strictly ascend
 unfoldable pub withKey : Measures → List ℕ → List (List ℕ) → List (List ℕ)

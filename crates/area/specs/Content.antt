@@ -1,7 +1,6 @@
 -- What a control area holds: document 01, 'The area we lend'.
 use Prim.Native.Nat.{ℕ, _+_, _*_}
 use mathlib.Core.List.{List, [], _∷_, _++_}
-use lib.ListN.{length}
 use Rattle.fields.specs.Bytes.{part, number}
 use Rattle.measures.specs.declared.Measures.{Measures}
 use Rattle.interval.specs.Reading.{recordsIn}

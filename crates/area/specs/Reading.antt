@@ -1,8 +1,7 @@
 -- The reading of a whole area: document 01, 'What each number tells the depot', number 2.
 use Prim.Native.Nat.{ℕ, _+_}
-use mathlib.Core.List.{List, [], _∷_}
+use mathlib.Core.List.{List, []}
 use lib.Dec.{ltb}
-use lib.ListN.{length}
 use Rattle.fields.specs.Choice.{pick}
 use Rattle.measures.specs.declared.Measures.{Measures}
 use Rattle.index.specs.Reading.{readIndex, soundIndex}

@@ -1,6 +1,6 @@
 -- When a data interval is sound in its role, and which ones are not: document 01, 'Index record', the two rules that count against the data interval.
 use Prim.Native.Nat.{ℕ, min}
-use mathlib.Core.Bool.{Bool, true, false}
+use mathlib.Core.Bool.{Bool}
 use mathlib.Core.List.{List, [], _∷_, _++_}
 use lib.Dec.{eqb}
 use lib.ListN.{length}

@@ -1,6 +1,6 @@
 -- The walk over the entries: what is judged and counted at each.
-use Prim.Native.Nat.{ℕ, zero, suc, _+_, _-_, _*_, _≤_, _<_, min}
-use mathlib.Core.Path.{_≡_, refl, _∙_, sym, ap}
+use Prim.Native.Nat.{ℕ, suc, _+_, _-_, _*_, _≤_, min}
+use mathlib.Core.Path.{_≡_, refl, _∙_, sym}
 use mathlib.Core.Bool.{Bool, true, false}
 use mathlib.Core.List.{List, [], _∷_, _++_, map}
 use lib.ListN.{length, take, drop, length-append, drop-of-length-le}
@@ -11,7 +11,7 @@ use native.Mathlib.Numerals.{add-one}
 use borrow.Author.Tests.{ne-eqb}
 use Rattle.fields.specs.Choice.{pick, both}
 use Rattle.fields.specs.Bytes.{part}
-use Rattle.fields.proofs.Choices.{both-split, both-false, false-true}
+use Rattle.fields.proofs.Choices.{both-split, false-true}
 use Rattle.fields.proofs.Splices.{length-mid}
 use Rattle.measures.specs.declared.Measures.{Measures}
 use Rattle.interval.specs.Records.{keysOf, above, upTo}
@@ -23,7 +23,7 @@ use Rattle.index.specs.Meaning.{Entry}
 use Rattle.index.specs.Rules.{boundBefore}
 use Rattle.index.specs.Reading.{readIndex}
 use Rattle.index.proofs.Filling.{length-bound}
-use Rattle.index_read.proofs.Stepping.{Standing, Stepped, Holding, standing-start, holding-start, holding-step}
+use Rattle.index_read.proofs.Stepping.{Standing, Stepped, Holding, holding-step}
 use Rattle.index_read.proofs.Entry.{held-front}
 use Rattle.role.specs.Opened.{openedOf}
 use Rattle.role.specs.declared.Opened.{Opened}

@@ -1,17 +1,16 @@
 -- The lowest unsound number, met one after another.
-use Prim.Native.Nat.{ℕ, zero, suc, _+_, _-_, _*_, _≤_, _<_, min}
+use Prim.Native.Nat.{ℕ, zero, suc, _+_, _-_, _≤_, _<_, min}
 use mathlib.Core.Path.{_≡_, refl, _∙_, sym, ap}
 use mathlib.Core.Bool.{Bool, true, false}
 use mathlib.Core.List.{List, [], _∷_, _++_}
-use lib.ListN.{length, getD}
 use lib.Dec.{ltb}
 use native.Mathlib.Omega.{arith}
-use borrow.Author.Tests.{ltb-true, ltb-false}
-use Rattle.fields.specs.Choice.{pick, both}
+use borrow.Author.Tests.{ltb-true}
+use Rattle.fields.specs.Choice.{pick}
 use Rattle.fields.specs.Bytes.{number}
 use Rattle.fields.proofs.Choices.{both-split}
 use Rattle.measures.specs.declared.Measures.{Measures}
-use Rattle.index.specs.Meaning.{Entry, below}
+use Rattle.index.specs.Meaning.{below}
 use Rattle.index.specs.Reading.{numbersAt}
 use Rattle.area.specs.Content.{dataIn}
 use Rattle.area.specs.Soundness.{soundFree, unsoundFree, lowest}

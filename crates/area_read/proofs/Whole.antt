@@ -1,12 +1,12 @@
 -- The check's ways out, against the reading of the whole area.
-use Prim.Native.Nat.{ℕ, _+_, _*_, _≤_, _<_}
-use mathlib.Core.Path.{_≡_, refl, _∙_, sym, ap}
+use Prim.Native.Nat.{ℕ, _+_, _≤_, _<_}
+use mathlib.Core.Path.{_≡_, refl, _∙_, sym}
 use mathlib.Core.Bool.{Bool, true, false}
-use mathlib.Core.List.{List, [], _∷_, _++_}
+use mathlib.Core.List.{List, [], _∷_}
 use lib.ListN.{length}
 use lib.Dec.{ltb}
 use native.Mathlib.Omega.{arith}
-use borrow.Author.Tests.{lt-ltb, le-ltb, ltb-true}
+use borrow.Author.Tests.{lt-ltb, le-ltb}
 use Rattle.fields.specs.Choice.{pick}
 use Rattle.fields.proofs.Choices.{both-split}
 use Rattle.measures.specs.declared.Measures.{Measures}
@@ -16,7 +16,7 @@ use Rattle.index.specs.Reading.{numbersAt, freeCount, readIndex, soundIndex}
 use Rattle.index.proofs.Sounding.{sound-below}
 use Rattle.index.proofs.Taking.{free-are}
 use Rattle.index_find.proofs.Free.{free-many, free-lie}
-use Rattle.area.specs.Content.{indexIn, dataIn, contentOf, fill, recordsOf}
+use Rattle.area.specs.Content.{indexIn, dataIn}
 use Rattle.area.specs.Soundness.{soundUsed, unsoundFree, unsoundUsed, unsoundData, lowest}
 use Rattle.area.specs.Reading.{readArea}
 use Rattle.area_read.specs.Checked.{checkedOf, Counted}

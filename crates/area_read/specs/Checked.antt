@@ -1,7 +1,7 @@
 -- The check's answer to a reading; and aids, cited by this crate's inner functions.
-use Prim.Native.Nat.{ℕ, _+_, _*_, _≤_}
+use Prim.Native.Nat.{ℕ}
 use mathlib.Core.Path.{_≡_}
-use mathlib.Core.Bool.{Bool, true, false}
+use mathlib.Core.Bool.{false}
 use mathlib.Core.List.{List, []}
 use lib.ListN.{length}
 use Rattle.measures.specs.declared.Measures.{Measures}
@@ -16,7 +16,6 @@ use Rattle.area.specs.Reading.{Reading, damaged, whole}
 use Rattle.area_read.specs.declared.Checked.{Checked}
 use Rattle.area_read.specs.declared.Checked.the-variants.{Intact, Damaged}
 use Rattle.area_read.specs.declared.Seen.{Seen}
-use Rattle.area_read.specs.declared.Tally.{Tally}
 
 -- how many records and free intervals, or the place of the damage
 abbrev pub checkedOf : Reading → Checked

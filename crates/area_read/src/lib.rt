@@ -1,8 +1,8 @@
 // Whether a whole control area is sound: the index record, then every data interval in its role, in one pass in key order.
 ghost use mathlib.Core.Path.{_≡_};
-ghost use mathlib.Core.Bool.{Bool, true, false};
-ghost use mathlib.Core.List.{List, [], _++_};
-ghost use Prim.Native.Nat.{ℕ, _+_, _-_, _*_, _≤_, _<_, min};
+ghost use mathlib.Core.Bool.{true, false};
+ghost use mathlib.Core.List.{[], _++_};
+ghost use Prim.Native.Nat.{_+_, _-_, _*_, _≤_, _<_, min};
 ghost use lib.ListN.{length, take, drop};
 ghost use Rattle.fields.specs.Choice.{pick};
 ghost use Rattle.fields.specs.Bytes.{part};
@@ -11,7 +11,6 @@ ghost use Rattle.index.specs.Meaning.{below};
 ghost use Rattle.index.specs.Reading.{numbersAt, readIndex, soundIndex};
 ghost use Rattle.interval.specs.Reading.{recordsIn};
 ghost use Rattle.role.specs.Opened.{Inside};
-ghost use Rattle.area.specs.Content.{dataIn, fill, recordsOf};
 ghost use Rattle.area.specs.Soundness.{soundUsed, unsoundFree, unsoundUsed, lowest};
 ghost use Rattle.area.specs.Reading.{readArea};
 ghost use Rattle.area_read.specs.Measured.{Measured};

@@ -5,7 +5,7 @@ use mathlib.Core.Bool.{Bool, true}
 use mathlib.Core.List.{List, [], _∷_, map}
 use lib.ListN.{length, drop, replicate}
 use lib.Dec.{eqb}
-use Rattle.fields.specs.Choice.{pick, both}
+use Rattle.fields.specs.Choice.{both}
 use Rattle.fields.specs.Bytes.{number, digits}
 use Rattle.fields.specs.Order.{common}
 use Rattle.fields.specs.Table.{all, sameList}

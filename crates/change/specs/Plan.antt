@@ -1,6 +1,5 @@
 -- What a change comes to: refusal 6, refusal 7, or the stores that make it.
 use Prim.Native.Nat.{ℕ, _+_, _-_}
-use mathlib.Core.Bool.{Bool}
 use mathlib.Core.List.{List, [], _∷_, _++_}
 use lib.ListN.{length}
 use lib.Dec.{ltb}
@@ -10,7 +9,7 @@ use Rattle.interval.specs.Layout.{form}
 use Rattle.index.specs.Meaning.{Meaning}
 use Rattle.index.specs.Form.{indexSize, indexBytes}
 use Rattle.index_write.specs.Divided.{dividedAt}
-use Rattle.area.specs.Content.{Content, Filled, meaningOf}
+use Rattle.area.specs.Content.{Content, meaningOf}
 use Rattle.area.specs.Reading.{width}
 use Rattle.change.specs.Stores.{Store}
 use Rattle.change.specs.Parts.{Edit, entryAt, divided, cutsOf, taken}

@@ -1,5 +1,5 @@
 -- A depot's day is a history.
-use Prim.Native.Nat.{ℕ, _≤_}
+use Prim.Native.Nat.{ℕ}
 use mathlib.Core.Path.{_≡_, refl, _∙_, sym, ap}
 use mathlib.Core.List.{List, [], _∷_, _++_}
 use lib.ListN.{length, getD}
@@ -11,14 +11,13 @@ use Rattle.fields.specs.Choice.{pick, both}
 use Rattle.fields.proofs.Octets.{octets-part}
 use Rattle.measures.specs.declared.Measures.{Measures}
 use Rattle.area.specs.Content.{Content, recordsOf}
-use Rattle.answers.specs.Answers.{numberOf}
 use Rattle.answers.specs.declared.Answer.{Answer}
 use Rattle.requests.specs.Lines.{Request, bad, get, insert, update, erase, byLetter, requestOf, serve, servedOf, Serves}
 use Rattle.requests.specs.declared.Line.{Line}
 use Rattle.requests.specs.declared.Line.the-variants.{Bad, Told}
 use Rattle.promises.specs.Trace.{Step, Trace, areaAfter, acceptedIn, Sound, Stands}
 use Rattle.promises.proofs.History.{history}
-use Rattle.day.specs.Day.{Turn, Day, evening, changing, stepFor, stepsOf}
+use Rattle.day.specs.Day.{Turn, Day, evening, stepFor, stepsOf}
 
 -- the bytes that a request hands over
 abbrev handed : Request → List ℕ

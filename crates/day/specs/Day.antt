@@ -1,6 +1,5 @@
 -- Request lines served one after another on one area, each with a result that its contract allows; and the requests of the register that they stand for.
 use Prim.Native.Nat.{ℕ}
-use mathlib.Core.Path.{_≡_}
 use mathlib.Core.List.{List, [], _∷_, _++_}
 use Rattle.fields.specs.Bytes.{Octets}
 use Rattle.answers.specs.Model.{Change}

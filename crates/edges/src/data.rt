@@ -1,5 +1,5 @@
 // Data intervals of 512 bytes: what they end in, and what fits.
-ghost use Prim.Native.Nat.{ℕ, _<_};
+ghost use Prim.Native.Nat.{_<_};
 use crate::print;
 use interval_read::Verdict;
 use measures::Judged;

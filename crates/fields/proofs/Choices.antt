@@ -6,7 +6,7 @@ use native.Mathlib.Omega.{arith}
 use mathlib.Core.List.{List, [], _∷_}
 use lib.Dec.{eqb}
 use borrow.Author.Tests.{eqb-true, eq-eqb}
-use Rattle.fields.specs.Choice.{pick, both, either, no}
+use Rattle.fields.specs.Choice.{pick, both, no}
 use Rattle.fields.specs.Table.{sameList}
 
 -- two results that equal one thing are equal: what every lemma `unique-..` comes down to

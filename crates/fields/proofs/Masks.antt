@@ -1,11 +1,11 @@
 -- A fact of every number below a bound, by one test that antt computes; and laws of masks.
-use Prim.Native.Nat.{ℕ, zero, suc, _+_, _-_, _*_, _/_, _%_, _^_, _≤_, _<_}
-use mathlib.Core.Path.{_≡_, refl, _∙_, sym, ap}
+use Prim.Native.Nat.{ℕ, zero, suc, _*_, _/_, _%_, _<_}
+use mathlib.Core.Path.{_≡_, refl}
 use native.Mathlib.Omega.{arith}
-use lib.Bits.{bitAnd, bitOr, and-high, and-mask, or-shifted}
+use lib.Bits.{bitAnd, and-high, and-mask}
 use mathlib.Core.Bool.{Bool, true, false}
 use lib.Dec.{T, eqb, eqb→eq}
-use native.Mathlib.Nat.{mod-eq-of-lt, not-suc-le-zero}
+use native.Mathlib.Nat.{not-suc-le-zero}
 use native.Mathlib.Decide.{decLt}
 use Rattle.fields.specs.Choice.{both}
 use Rattle.fields.proofs.Tables.{both-left, both-right}

@@ -2,8 +2,8 @@
 use Prim.Native.Nat.{ℕ, zero, suc, _+_, _-_, _*_, _/_, _%_, _^_, _≤_, _<_}
 use mathlib.Core.Path.{_≡_, refl, _∙_, sym, ap}
 use mathlib.Core.List.{List, [], _∷_, _++_, append-assoc, append-nil}
-use lib.ListN.{length, getD, take, drop, set, length-append, length-drop}
-use lib.Seq.{getD-append-seam, take-at, drop-at, take-suc, getD-drop, length-take-le}
+use lib.ListN.{length, getD, drop, set, length-append, length-drop}
+use lib.Seq.{getD-append-seam, take-at, drop-at, take-suc, getD-drop}
 use native.Mathlib.Omega.{arith}
 use native.Mathlib.Nat.{div-add-mod', mod-eq-of-lt, mul-suc}
 use native.Mathlib.Numerals.{add-one}

@@ -1,11 +1,11 @@
 -- Laws of splices: stores one after another make one, and a part that was lent comes back as one.
-use Prim.Native.Nat.{ℕ, zero, suc, _+_, _-_, _*_, _≤_, _<_}
+use Prim.Native.Nat.{ℕ, zero, suc, _+_, _-_, _≤_, _<_}
 use mathlib.Core.Path.{_≡_, refl, _∙_, sym, ap}
 use mathlib.Core.List.{List, [], _∷_, _++_, append-assoc, append-nil}
 use lib.ListN.{length, take, drop, getD, length-append, length-drop, take-append-drop, set, replicate, length-replicate}
 use lib.Seq.{sets, sets-eq, length-take-le, take-at, drop-at, drop-append-add, take-append-le, drop-append-le, drop-drop, take-take, take-nil, drop-cons, drop-length}
 use native.Mathlib.Omega.{arith}
-use native.Mathlib.Nat.{add-assoc, add-zero, sub-zero}
+use native.Mathlib.Nat.{add-zero, sub-zero}
 use Rattle.fields.specs.Bytes.{part, splice}
 
 pub sets-splice : (vs l : List ℕ) (i : ℕ) → i + length vs ≤ length l → sets l i vs ≡ splice l i vs

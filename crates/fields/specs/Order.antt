@@ -1,5 +1,5 @@
 -- The order of byte lists, and what two of them begin with alike: document 01, 'The area we lend'. A byte counts as a number from 0 to 255.
-use Prim.Native.Nat.{ℕ, zero, suc}
+use Prim.Native.Nat.{ℕ, suc}
 use mathlib.Core.Bool.{Bool, true, false}
 use mathlib.Core.List.{List, [], _∷_}
 use lib.Dec.{ltb, eqb}

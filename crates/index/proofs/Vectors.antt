@@ -6,7 +6,6 @@ use mathlib.Core.List.{List, [], _∷_}
 use lib.ListN.{length, replicate}
 use lib.Dec.{eqb}
 use Rattle.fields.specs.Table.{all, sameList}
-use Rattle.fields.specs.Choice.{both}
 use Rattle.fields.specs.Bytes.{part, number, digits}
 use Rattle.fields.specs.Order.{orderOf, common}
 use Rattle.index.specs.Bounds.{bound, separator, cutSeparator}

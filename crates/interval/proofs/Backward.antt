@@ -1,7 +1,7 @@
 -- From the reading to the grammar: whatever is read as sound was laid out so.
 use Prim.Native.Nat.{ℕ, _+_, _-_, _*_, _/_, _%_, _≤_}
 use mathlib.Core.Path.{_≡_, refl, _∙_, sym, ap}
-use mathlib.Core.Bool.{Bool, true, false}
+use mathlib.Core.Bool.{true, false}
 use mathlib.Core.List.{List, _++_, map}
 use lib.ListN.{length, take, drop, take-append-drop, length-drop}
 use lib.Seq.{take-all, length-take-le, drop-drop}

@@ -1,5 +1,5 @@
 -- Laws of records laid one after another, and of cutting them apart.
-use Prim.Native.Nat.{ℕ, _+_, _-_, _≤_, zero, suc, _<_}
+use Prim.Native.Nat.{ℕ, _+_, _≤_, zero, suc, _<_}
 use mathlib.Core.Path.{_≡_, refl, ap, _∙_}
 use mathlib.Core.List.{List, [], _∷_, _++_, map, append-assoc, append-nil}
 use lib.ListN.{length, take, drop, length-append, length-drop, getD}

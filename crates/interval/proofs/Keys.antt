@@ -8,7 +8,6 @@ use lib.Seq.{drop-drop}
 use lib.Dec.{leb}
 use native.Mathlib.Omega.{arith}
 use borrow.Author.Tests.{leb-true}
-use Rattle.fields.specs.Choice.{both}
 use Rattle.fields.proofs.Choices.{both-split, both-join}
 use Rattle.fields.proofs.Splices.{length-mid}
 use Rattle.measures.specs.declared.Measures.{Measures}

@@ -1,7 +1,7 @@
 -- Worked examples as one table under one statement: document 01, 'Registers on both sides of each edge', S = 512; and small intervals for the reader.
 use Prim.Native.Nat.{ℕ, _-_}
 use mathlib.Core.Path.{_≡_, refl}
-use mathlib.Core.Bool.{Bool, true, false}
+use mathlib.Core.Bool.{Bool, true}
 use mathlib.Core.List.{List, [], _∷_, _++_, map}
 use lib.ListN.{length, drop, replicate}
 use lib.Dec.{eqb}

@@ -1,13 +1,13 @@
 -- The layout of a data interval as a grammar, and the writer's form: document 01, 'Data interval'; source document 001, chapter 7.
 -- Bytes are put together by concatenation only; nothing here reads.
-use Prim.Native.Nat.{ℕ, zero, suc, _+_, _-_}
+use Prim.Native.Nat.{ℕ, _+_, _-_}
 use mathlib.Core.Path.{_≡_}
-use mathlib.Core.Bool.{Bool, true, false}
+use mathlib.Core.Bool.{true}
 use mathlib.Core.List.{List, [], _∷_, _++_, map}
 use lib.ListN.{length, replicate}
 use lib.Dec.{leb}
 use Rattle.fields.specs.Choice.{pick}
-use Rattle.fields.specs.Bytes.{Octets, digits}
+use Rattle.fields.specs.Bytes.{digits}
 use Rattle.room.specs.Room.{Group, spelt, allCounted, groups, need}
 use Rattle.interval.specs.Records.{concat}
 

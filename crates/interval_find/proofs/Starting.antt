@@ -16,7 +16,7 @@ use Rattle.interval.proofs.Keys.{within-low, within-rest}
 use Rattle.interval.proofs.Backward.{read-lengths-fine}
 use Rattle.interval_find.specs.Search.{startingAt, startedOf, startOf}
 use Rattle.interval_find.specs.Steps.{rest, Ready, Stepped}
-use Rattle.interval_find.specs.declared.Started.the-variants.{Here, Nothing}
+use Rattle.interval_find.specs.declared.Started.the-variants.{Here}
 use Rattle.interval_find.specs.declared.Place.{Place}
 use Rattle.interval_find.specs.declared.Step.the-variants.{Record}
 use Rattle.interval_find.proofs.Steps.{recordsFrom, records-step, length-record, readable-form, readable-bytes, readable-rdfs}

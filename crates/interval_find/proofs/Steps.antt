@@ -4,11 +4,9 @@ use mathlib.Core.Path.{_≡_, refl, _∙_, sym}
 use mathlib.Core.Bool.{true}
 use mathlib.Core.List.{List, [], _∷_, _++_}
 use lib.ListN.{length, replicate, take, drop, length-drop}
-use lib.Seq.{drop-drop, take-take, length-take-le, take-nil}
-use lib.Dec.{leb}
+use lib.Seq.{length-take-le}
 use native.Mathlib.Omega.{arith}
-use native.Mathlib.Nat.{not-suc-le-zero, sub-zero}
-use borrow.Author.Tests.{leb-true}
+use native.Mathlib.Nat.{not-suc-le-zero}
 use Rattle.fields.specs.Choice.{both}
 use Rattle.fields.specs.Bytes.{part}
 use Rattle.fields.proofs.Choices.{both-split, false-true}

@@ -1,16 +1,14 @@
 -- The verdict is what the tail and the walk say.
-use Prim.Native.Nat.{ℕ, zero, suc, _+_, _-_, _*_, _≤_, _<_}
+use Prim.Native.Nat.{ℕ, _+_, _*_, _≤_}
 use mathlib.Core.Path.{_≡_, refl, _∙_, sym, ap}
 use mathlib.Core.Bool.{Bool, true, false}
 use mathlib.Core.List.{List, [], _∷_, map}
 use lib.ListN.{length, take, drop, length-map}
 use lib.Dec.{eqb}
 use native.Mathlib.Omega.{arith}
-use borrow.Author.Tests.{eq-eqb}
 use Rattle.fields.specs.Choice.{pick, both, no}
 use Rattle.fields.specs.Bytes.{part}
 use Rattle.fields.specs.Order.{less}
-use Rattle.fields.proofs.Choices.{both-split, both-false, false-true}
 use Rattle.fields.proofs.Splices.{part-part}
 use Rattle.measures.specs.declared.Measures.{Measures}
 use Rattle.room.specs.Room.{sum}
@@ -19,10 +17,8 @@ use Rattle.interval.specs.Reading.{busy, displacement, rdfsAt, rdfsMany, rdfsIn
 use Rattle.interval.proofs.Backward.{form-tests, read-lengths, read-lengths-fine}
 use Rattle.interval.proofs.Keys.{cut-cons, within-low, within-rest}
 use Rattle.interval_read.specs.Verdict.{lastStart, verdictOf}
-use Rattle.interval_read.specs.Walk.{tailFine, tailOf, keysFrom, judged, walked}
-use Rattle.interval_read.specs.declared.Tail.{Tail}
+use Rattle.interval_read.specs.Walk.{tailOf, keysFrom, judged, walked}
 use Rattle.interval_read.specs.declared.Tail.the-variants.{Of, Bad}
-use Rattle.interval_read.specs.declared.Verdict.{Verdict}
 use Rattle.interval_read.specs.declared.Verdict.the-variants.{Sound, Unsound}
 use Rattle.interval_read.proofs.Keys.{empty-below, ascend-cons}
 use Rattle.room.proofs.Laws.{sum-cons}

@@ -1,24 +1,17 @@
 -- Keys by their places, and how a run of them ascends.
 use Prim.Native.Nat.{ℕ, zero, suc, _+_, _-_, _≤_, _<_}
-use mathlib.Core.Path.{_≡_, refl, _∙_, sym}
-use mathlib.Core.Bool.{Bool, true, false}
-use mathlib.Core.List.{List, [], _∷_, _++_, map}
-use lib.ListN.{length, getD, take, drop, replicate, length-drop}
-use lib.Seq.{take-take, drop-drop, length-take-le}
-use lib.Dec.{eqb, leb}
+use mathlib.Core.Path.{_≡_, refl, _∙_}
+use mathlib.Core.Bool.{true, false}
+use mathlib.Core.List.{List, [], _∷_}
+use lib.ListN.{length, drop, length-drop}
+use lib.Seq.{length-take-le}
 use native.Mathlib.Omega.{arith}
-use borrow.Author.Tests.{leb-true}
-use Rattle.fields.specs.Choice.{pick, both}
+use Rattle.fields.specs.Choice.{both}
 use Rattle.fields.specs.Bytes.{part}
-use Rattle.fields.specs.Order.{orderOf, isLess, less}
-use Rattle.fields.specs.declared.Order.{Order}
-use Rattle.fields.specs.declared.Order.the-variants.{Less, Same, Greater}
-use Rattle.fields.proofs.Choices.{both-split, both-false}
-use Rattle.measures.specs.declared.Measures.{Measures}
-use Rattle.room.specs.Room.{sum}
-use Rattle.interval.specs.Records.{keyOf, keysOf, within, allWithin, ascending, ascendFrom}
-use Rattle.interval.specs.Reading.{cut}
-use Rattle.interval_read.specs.Walk.{keysAt, keysFrom}
+use Rattle.fields.specs.Order.{orderOf, less}
+use Rattle.fields.specs.declared.Order.the-variants.{Less}
+use Rattle.interval.specs.Records.{ascendFrom}
+use Rattle.interval_read.specs.Walk.{keysAt}
 
 -- one key of a run
 pub keys-more : (key : ℕ) (ci : List ℕ) (at len c : ℕ) → 0 < c → keysAt key ci at len c ≡ part ci at key ∷ keysAt key ci (at + len) len (c - 1)

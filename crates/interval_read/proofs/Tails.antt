@@ -1,14 +1,11 @@
 -- What the CIDF's two fields say of an interval.
-use Prim.Native.Nat.{ℕ, _+_, _-_, _*_, _/_, _%_, _≤_, _<_}
-use mathlib.Core.Path.{_≡_, refl, _∙_, sym, ap}
-use mathlib.Core.Bool.{Bool, true, false}
+use Prim.Native.Nat.{ℕ, _+_, _-_, _*_, _/_, _%_}
+use mathlib.Core.Path.{_≡_}
+use mathlib.Core.Bool.{true, false}
 use mathlib.Core.List.{List}
 use lib.ListN.{length}
 use lib.Dec.{eqb}
-use native.Mathlib.Omega.{arith}
 use borrow.Author.Tests.{eq-eqb, ne-eqb}
-use Rattle.fields.specs.Choice.{pick, both, no}
-use Rattle.fields.specs.Bytes.{number}
 use Rattle.interval.specs.Reading.{displacement, unusedField}
 use Rattle.interval_read.specs.Walk.{tailOf}
 use Rattle.interval_read.specs.declared.Tail.the-variants.{Of, Bad}

@@ -7,7 +7,7 @@ use lib.ListN.{length, replicate}
 use lib.Dec.{eqb}
 use native.Mathlib.Omega.{arith}
 use native.Mathlib.Nat.{mul-le-mul-right, one-mul, mul-suc}
-use borrow.Author.Tests.{eq-eqb, ne-eqb}
+use borrow.Author.Tests.{ne-eqb}
 use Rattle.fields.specs.Choice.{pick, both}
 use Rattle.fields.specs.Bytes.{part}
 use Rattle.fields.specs.Order.{less}
@@ -19,7 +19,6 @@ use Rattle.interval.specs.Reading.{Rdf, rdfs, wellFormed, lengths}
 use Rattle.rdf.proofs.Fronts.{Step}
 use Rattle.interval_read.specs.Verdict.{lastStart}
 use Rattle.interval_read.specs.Walk.{keysAt, keysFrom, judged, walked}
-use Rattle.interval_read.specs.declared.Verdict.{Verdict}
 use Rattle.interval_read.specs.declared.Verdict.the-variants.{Sound, Unsound}
 use Rattle.interval_read.proofs.Keys.{keys-none, ascend-none}
 

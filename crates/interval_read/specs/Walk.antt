@@ -1,7 +1,7 @@
 -- Aids: what the walk has before it, in the terms of its places. Contracts of this crate's inner functions cite them;
 -- nothing here has to be believed, as `verdictOf` is shown equal to it.
-use Prim.Native.Nat.{ℕ, zero, suc, _+_, _*_, _≤_, _<_}
-use mathlib.Core.Bool.{Bool, true, false}
+use Prim.Native.Nat.{ℕ, zero, suc, _+_, _*_, _≤_}
+use mathlib.Core.Bool.{Bool}
 use mathlib.Core.List.{List, [], _∷_}
 use lib.ListN.{length}
 use lib.Dec.{eqb}

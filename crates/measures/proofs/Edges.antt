@@ -1,7 +1,7 @@
 -- Measures on both sides of each edge: one table, one statement.
 use mathlib.Core.Path.{_≡_, refl}
-use mathlib.Core.Bool.{Bool, true, false}
-use mathlib.Core.List.{List, [], _∷_}
+use mathlib.Core.Bool.{Bool, true}
+use mathlib.Core.List.{[], _∷_}
 use Prim.Native.Nat.{ℕ, _+_, _-_, _*_}
 use Rattle.fields.specs.Table.{all}
 use Rattle.fields.specs.Choice.{both, no}

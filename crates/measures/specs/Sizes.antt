@@ -1,6 +1,6 @@
 -- The permitted interval sizes: 512 to 8,192 in steps of 512, then 10,240 to 32,768 in steps of 2,048.
 -- Document 01, 'The area we lend'; source document 001, chapter 6.
-use mathlib.Core.Bool.{Bool, true, false}
+use mathlib.Core.Bool.{Bool, false}
 use Prim.Native.Nat.{ℕ, zero, suc, _+_, _-_, _*_}
 use lib.Dec.{eqb, ltb}
 use Rattle.fields.specs.Choice.{pick, either}

@@ -1,6 +1,6 @@
 -- What the first group of some RDFs says of them all.
-use Prim.Native.Nat.{ℕ, zero, suc, _+_, _-_, _*_, _≤_, _<_}
-use mathlib.Core.Path.{_≡_, refl, _∙_, sym, ap}
+use Prim.Native.Nat.{ℕ, _+_, _-_, _*_, _≤_, _<_}
+use mathlib.Core.Path.{_≡_, refl, sym}
 use mathlib.Core.Bool.{Bool, true, false}
 use mathlib.Core.List.{List, [], _∷_, _++_}
 use lib.ListN.{length, drop, replicate, getD}
@@ -9,7 +9,7 @@ use lib.Dec.{eqb, leb}
 use Rattle.fields.proofs.Choices.{both-false, both-split}
 use borrow.Author.Tests.{leb-true}
 use native.Mathlib.Omega.{arith}
-use Rattle.interval.specs.Reading.{Rdf, wellFormed, paired, lengths, repeated, rdfs}
+use Rattle.interval.specs.Reading.{Rdf, wellFormed, lengths, rdfs}
 use Rattle.interval.specs.Records.{within}
 use Rattle.room.specs.Room.{sum}
 use Rattle.fields.specs.Choice.{pick, both}

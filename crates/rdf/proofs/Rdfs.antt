@@ -1,13 +1,13 @@
 -- The RDFs of an interval one after another, and what a run adds up to.
 use Prim.Native.Nat.{ℕ, zero, suc, _+_, _-_, _*_, _≤_, _<_}
-use mathlib.Core.Path.{_≡_, refl, _∙_, sym, ap}
-use mathlib.Core.List.{List, [], _∷_, _++_}
+use mathlib.Core.Path.{_≡_}
+use mathlib.Core.List.{List, _∷_, _++_}
 use lib.ListN.{length, getD, drop, replicate, length-append, length-replicate}
 use native.Mathlib.Omega.{arith}
 use native.Mathlib.Nat.{not-suc-le-zero, le-of-suc-le-suc, sub-zero, mul-le-mul}
 use Rattle.fields.specs.Bytes.{number}
 use Rattle.room.specs.Room.{sum}
-use Rattle.interval.specs.Reading.{Rdf, rdfs}
+use Rattle.interval.specs.Reading.{rdfs}
 
 pub rdfs-cons : (b : List ℕ) (p n : ℕ) → 0 < n
     → rdfs b p n ≡ record { control = getD b (p + 3 * (n - 1)) 0; num = number 2 b (p + 3 * (n - 1) + 1) } ∷ rdfs b p (n - 1)

@@ -1,5 +1,5 @@
 -- The first group that a list of RDFs describes.
-use Prim.Native.Nat.{ℕ, zero, suc, _<_, _≤_}
+use Prim.Native.Nat.{ℕ, _<_, _≤_}
 use mathlib.Core.List.{List, [], _∷_}
 use lib.Dec.{eqb, leb}
 use Rattle.fields.specs.Choice.{pick, both}

@@ -1,7 +1,7 @@
 // RDFs: the control byte and the busy flag, taken apart and put together by masks and shifts; and the groups that RDFs make.
 ghost use mathlib.Core.Path.{_≡_};
-ghost use Prim.Native.Nat.{ℕ, _+_, _-_, _*_, _/_, _%_, _≤_, _<_};
-ghost use lib.ListN.{length, getD};
+ghost use Prim.Native.Nat.{_+_, _-_, _*_, _/_, _%_, _≤_, _<_};
+ghost use lib.ListN.{length};
 ghost use lib.Dec.{eqb};
 ghost use Rattle.interval.specs.Reading.{rdfs};
 ghost use Rattle.rdf.specs.Control.{controlOf};

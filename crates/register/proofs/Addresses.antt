@@ -2,9 +2,9 @@
 use Prim.Native.Nat.{ℕ, zero, suc, _+_, _-_, _*_, _/_, _%_, _≤_, _<_}
 use mathlib.Core.Path.{_≡_, refl, _∙_, sym, ap}
 use mathlib.Core.Bool.{Bool, true, false}
-use mathlib.Core.List.{List, [], _∷_, _++_, map, append-nil, List·Memᴰ, List·Memᴰ·not-nil, List·Memᴰ·cases-cons}
+use mathlib.Core.List.{List, [], _∷_, _++_, map, append-nil}
 use mathlib.Core.Logic.{⊎-elim}
-use lib.ListN.{length, drop, length-append}
+use lib.ListN.{length, length-append}
 use lib.Dec.{eqb, ltb, leb}
 use native.Mathlib.Omega.{arith}
 use native.Mathlib.Nat.{div-add-mod', mod-lt, mul-le-mul-right, add-mul, one-mul, eq-or-lt-of-le}
@@ -26,8 +26,7 @@ use Rattle.index.specs.Meaning.{Entry, Meaning, numbers, named, count, below}
 use Rattle.index.specs.Reading.{readIndex}
 use Rattle.index.proofs.Counting.{count-same, count-other, count-append, below-apart, count-out}
 use Rattle.index.proofs.Naming.{both-below, named-each}
-use Rattle.area.specs.Content.{Content, Filled, indexIn, dataIn, fill, entriesOf, meaningOf, baseOf}
-use Rattle.area.specs.Reading.{readArea, whole}
+use Rattle.area.specs.Content.{indexIn, dataIn, fill, entriesOf, meaningOf, baseOf}
 use Rattle.area.proofs.Sounding.{Sound, AllFree, AllUsed, sound-apart, sound-rules, sound-filled, sound-reads}
 use Rattle.area_read.specs.Measured.{Measured}
 use Rattle.area_read.proofs.Places.{length-data}

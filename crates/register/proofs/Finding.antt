@@ -1,30 +1,23 @@
 -- What a search found is the record of the reading: by key and by address.
-use Prim.Native.Nat.{ℕ, zero, suc, _+_, _*_, _/_, _%_, _≤_, _<_}
+use Prim.Native.Nat.{ℕ, zero, suc, _+_, _*_, _≤_}
 use mathlib.Core.Path.{_≡_, refl, _∙_, sym, ap}
-use mathlib.Core.Bool.{Bool, true, false}
 use mathlib.Core.List.{List, [], _∷_, _++_, append-nil}
-use lib.ListN.{length, getD, take, length-drop}
+use lib.ListN.{length, getD}
 use native.Mathlib.Omega.{arith}
 use lib.Seq.{getD-append-seam}
-use Rattle.fields.specs.Choice.{pick, both}
 use Rattle.fields.specs.Bytes.{Octets, part}
-use Rattle.fields.proofs.Choices.{both-split}
 use Rattle.fields.proofs.Splices.{part-part}
 use Rattle.measures.specs.declared.Measures.{Measures}
-use Rattle.interval.specs.Records.{keysOf, ascending, above, upTo}
-use Rattle.interval.specs.Reading.{recordsIn, displacement, formSound, sound, Readable}
-use Rattle.interval_find.specs.Search.{placeOf, Within}
+use Rattle.interval.specs.Reading.{recordsIn, Readable}
+use Rattle.interval_find.specs.Search.{placeOf}
 use Rattle.interval_find.specs.declared.Found.the-variants.{At, Gap}
 use Rattle.interval_find.proofs.Parts.{place-bytes}
 use Rattle.interval_find.proofs.Steps.{readable-ascends, readable-rdfs}
-use Rattle.index.specs.Bounds.{bound}
 use Rattle.index.specs.Meaning.{Entry, numbers}
 use Rattle.index.specs.Reading.{readIndex}
 use Rattle.index.specs.Search.{leadsTo}
-use Rattle.area.specs.Content.{Filled, Content, indexIn, dataIn, recordsOf, entriesOf, meaningOf}
-use Rattle.area.specs.Soundness.{soundUsed}
-use Rattle.area.specs.Reading.{readArea, whole}
-use Rattle.area.proofs.Filling.{recordsOf-append, entriesOf-append}
+use Rattle.area.specs.Content.{Filled, indexIn, dataIn, recordsOf, entriesOf}
+use Rattle.area.proofs.Filling.{recordsOf-append}
 use Rattle.area.proofs.Sounding.{sound-apart, sound-reads}
 use Rattle.area.proofs.Leading.{KeyIn, key-in-one-entry}
 use Rattle.change.specs.Parts.{entryAt}

@@ -1,20 +1,18 @@
 -- What refusal 1 lets pass, as the floors below ask it; and what the check of the area says of its reading.
-use Prim.Native.Nat.{ℕ, _+_, _-_, _*_, _≤_}
-use mathlib.Core.Path.{_≡_, refl, _∙_, sym, ap}
+use Prim.Native.Nat.{ℕ, _+_, _-_, _≤_}
+use mathlib.Core.Path.{_≡_, refl, ap}
 use mathlib.Core.List.{List}
 use lib.ListN.{length, take, drop}
 use native.Mathlib.Omega.{arith}
 use Rattle.measures.specs.Judgement.{Fits, measures, judgedOf}
 use Rattle.measures.specs.declared.Measures.{Measures}
-use Rattle.measures.specs.declared.Judged.the-variants.{Fine, Outside}
+use Rattle.measures.specs.declared.Judged.the-variants.{Fine}
 use Rattle.measures.proofs.Fine.{accepted-fits}
 use Rattle.measures.proofs.Sizes.{permitted-range}
 use Rattle.interval.specs.Records.{keyOf}
-use Rattle.area.specs.Content.{Content, recordsOf}
 use Rattle.area.specs.Reading.{Reading, damaged, whole, readArea}
 use Rattle.area_read.specs.Measured.{Measured}
 use Rattle.area_read.specs.Checked.{checkedOf}
-use Rattle.area_read.specs.declared.Checked.{Checked}
 use Rattle.area_read.specs.declared.Checked.the-variants.{Intact, Damaged}
 use Rattle.seek.specs.Sought.{Whole}
 

@@ -1,13 +1,10 @@
 -- The ways out of the requests that read, each against the request's meaning.
 use Prim.Native.Nat.{ℕ, _+_, _≤_, _<_}
 use mathlib.Core.Path.{_≡_, refl, _∙_, sym, ap}
-use mathlib.Core.Bool.{true, false}
 use mathlib.Core.List.{List, [], _∷_}
 use lib.ListN.{length}
-use lib.Dec.{eqb, leb}
 use native.Mathlib.Omega.{arith}
 use borrow.Author.Tests.{eq-eqb, ne-eqb, le-leb, lt-leb}
-use Rattle.fields.specs.Choice.{pick}
 use Rattle.fields.specs.Bytes.{part, splice}
 use Rattle.fields.proofs.Splices.{length-mid}
 use Rattle.measures.specs.Judgement.{judgedOf}
@@ -19,7 +16,7 @@ use Rattle.area_read.specs.Checked.{checkedOf}
 use Rattle.area_read.specs.declared.Checked.{Checked}
 use Rattle.area_read.specs.declared.Checked.the-variants as checked
 use Rattle.answers.specs.Records.{withKey, lyingAt}
-use Rattle.answers.specs.Reading.{checkRead, checkOf, Given, refused, handOut, getRead, getOf, getAtRead, getAtOf, Gives}
+use Rattle.answers.specs.Reading.{checkRead, checkOf, Given, handOut, getRead, getOf, getAtRead, getAtOf, Gives}
 use Rattle.answers.specs.declared.Answer.{Answer}
 use Rattle.answers.specs.declared.Answer.the-variants.{Found, Intact, Damaged, Short, Outside, WrongLength, Absent, NoRecord}
 

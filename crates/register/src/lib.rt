@@ -1,8 +1,8 @@
 // The register: the requests that a depot may make of a control area. None of them asks anything of its caller; whatever is lent,
 // each answers, and a refusal leaves area and output byte for byte as they were.
 ghost use mathlib.Core.Path.{_≡_};
-ghost use mathlib.Core.List.{List, [], _∷_};
-ghost use Prim.Native.Nat.{ℕ, _+_, _≤_};
+ghost use mathlib.Core.List.{[], _∷_};
+ghost use Prim.Native.Nat.{_+_, _≤_};
 ghost use lib.ListN.{length};
 ghost use Rattle.fields.specs.Bytes.{part};
 ghost use Rattle.answers.specs.declared.Answer.the-variants.{Absent};

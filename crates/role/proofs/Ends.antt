@@ -1,22 +1,18 @@
 -- Ascending keys are above a bound if the first is, and at most one if the last is.
-use Prim.Native.Nat.{ℕ, zero, suc, _+_, _-_, _≤_, _<_}
-use mathlib.Core.Path.{_≡_, refl, _∙_, sym, ap}
+use Prim.Native.Nat.{ℕ, _+_}
+use mathlib.Core.Path.{_≡_, refl, _∙_}
 use mathlib.Core.Bool.{Bool, true, false}
-use mathlib.Core.List.{List, [], _∷_, map}
-use lib.ListN.{length}
+use mathlib.Core.List.{List, [], _∷_}
 use native.Mathlib.Omega.{arith}
 use Rattle.fields.specs.Choice.{both, no}
 use Rattle.fields.specs.Bytes.{part}
 use Rattle.fields.specs.Order.{less}
-use Rattle.fields.proofs.Choices.{both-split, false-true}
+use Rattle.fields.proofs.Choices.{both-split}
 use Rattle.fields.proofs.Orders.{less-trans, less-asym}
-use Rattle.room.specs.Room.{sum}
-use Rattle.room.proofs.Laws.{sum-cons}
 use Rattle.interval.specs.Records.{ascendFrom, above, upTo}
 use Rattle.interval.proofs.Ascending.{ascend-above}
 use Rattle.interval_read.specs.Verdict.{lastStart}
 use Rattle.interval_read.specs.Walk.{keysFrom}
-use Rattle.interval_read.proofs.Keys.{empty-below, ascend-cons}
 use Rattle.interval_read.proofs.Judging.{from-more}
 
 pub above-first : (low k : List ℕ) (ks : List (List ℕ)) → ascendFrom k ks ≡ true → above low (k ∷ ks) ≡ less low k

@@ -1,5 +1,5 @@
 -- What a sound interval's first and last key say of all its keys.
-use Prim.Native.Nat.{ℕ, zero, suc, _+_, _-_, _≤_, _<_}
+use Prim.Native.Nat.{ℕ, _+_, _≤_}
 use mathlib.Core.Path.{_≡_, refl, _∙_, sym, ap}
 use mathlib.Core.Bool.{Bool, true, false}
 use mathlib.Core.List.{List, [], _∷_, map}
@@ -7,20 +7,18 @@ use lib.ListN.{length, length-map}
 use lib.Dec.{eqb}
 use native.Mathlib.Omega.{arith}
 use borrow.Author.Tests.{eqb-true, eqb-false}
-use Rattle.fields.specs.Choice.{pick, both, no}
+use Rattle.fields.specs.Choice.{pick, no}
 use Rattle.fields.specs.Bytes.{part}
 use Rattle.fields.specs.Order.{less}
-use Rattle.fields.proofs.Choices.{false-true, pick-true}
 use Rattle.measures.specs.declared.Measures.{Measures}
 use Rattle.room.specs.Room.{sum}
 use Rattle.room.proofs.Laws.{sum-cons}
 use Rattle.interval.specs.Records.{keysOf, allWithin, ascending, ascendFrom, above, upTo}
-use Rattle.interval.specs.Reading.{displacement, rdfsIn, rdfsMany, lengths, cut, recordsIn, formSound, sound}
+use Rattle.interval.specs.Reading.{displacement, rdfsIn, rdfsMany, lengths, recordsIn, formSound, sound}
 use Rattle.interval.proofs.Backward.{form-tests, read-lengths, read-lengths-fine, form-and-keys}
 use Rattle.interval.proofs.Keys.{within-low, within-rest}
 use Rattle.interval_read.specs.Verdict.{lastStart, verdictOf}
 use Rattle.interval_read.specs.Walk.{keysFrom}
-use Rattle.interval_read.specs.declared.Verdict.{Verdict}
 use Rattle.interval_read.specs.declared.Verdict.the-variants as verdict
 use Rattle.interval_read.proofs.Keys.{empty-below}
 use Rattle.interval_read.proofs.Judging.{from-more, keys-are}

@@ -1,13 +1,9 @@
 -- An address taken apart, and the search's ways out.
 use Prim.Native.Nat.{ℕ, _+_, _-_, _*_, _/_, _%_, _≤_, _<_}
-use mathlib.Core.Path.{_≡_, refl, _∙_, sym, ap}
+use mathlib.Core.Path.{_≡_}
 use mathlib.Core.List.{List}
-use lib.Dec.{ltb, leb}
-use native.Mathlib.Omega.{arith}
-use native.Mathlib.Nat.{mod-lt}
 use borrow.Author.Tests.{lt-ltb, le-ltb, le-leb, lt-leb}
-use Rattle.fields.specs.Choice.{pick}
-use Rattle.fields.specs.Bytes.{part, number}
+use Rattle.fields.specs.Bytes.{number}
 use Rattle.measures.specs.declared.Measures.{Measures}
 use Rattle.interval.specs.Reading.{recordsIn}
 use Rattle.interval_find.specs.Search.{startingAt, startedOf}

@@ -1,20 +1,20 @@
 -- Every data interval of a sound area can be read.
-use Prim.Native.Nat.{ℕ, zero, suc, _+_, _-_, _*_, _≤_, _<_}
-use mathlib.Core.Path.{_≡_, refl, _∙_, sym, ap}
-use mathlib.Core.Bool.{Bool, true, false}
-use mathlib.Core.List.{List, [], _∷_, _++_, List·Memᴰ, List·Memᴰ·head, List·Memᴰ·tail, List·Memᴰ·not-nil, List·Memᴰ·cases-cons, List·Memᴰ·append-cases}
+use Prim.Native.Nat.{ℕ, _<_}
+use mathlib.Core.Path.{_≡_}
+use mathlib.Core.Bool.{true}
+use mathlib.Core.List.{List, [], _∷_, List·Memᴰ, List·Memᴰ·not-nil, List·Memᴰ·cases-cons, List·Memᴰ·append-cases}
 use mathlib.Core.Logic.{⊎-elim}
 use native.Mathlib.Omega.{arith}
 use Rattle.measures.specs.declared.Measures.{Measures}
 use Rattle.interval.specs.Reading.{sound, Readable}
 use Rattle.index.specs.Bounds.{bound}
-use Rattle.index.specs.Meaning.{Entry, Meaning, numbers, named}
+use Rattle.index.specs.Meaning.{Entry, numbers, named}
 use Rattle.index.specs.Reading.{soundIndex}
 use Rattle.index.proofs.Counting.{count-among}
 use Rattle.index.proofs.Naming.{named-each}
 use Rattle.area.specs.Content.{Content, indexIn, dataIn, meaningOf}
 use Rattle.area.specs.Reading.{readArea, whole}
-use Rattle.area.proofs.Sounding.{Sound, AllFree, AllUsed, sound-apart, sound-rules}
+use Rattle.area.proofs.Sounding.{AllFree, AllUsed, sound-apart, sound-rules}
 use Rattle.area.proofs.Intervals.{free-apart, used-apart}
 use Rattle.area_read.specs.Measured.{Measured}
 use Rattle.area_read.proofs.Places.{length-data}

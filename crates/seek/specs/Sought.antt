@@ -1,7 +1,7 @@
 -- What a search in a sound area answers. The requests say what that means for the records; nothing here has to be believed for them.
 use Prim.Native.Nat.{ℕ, _+_, _-_, _*_, _/_, _%_, _≤_, _<_}
 use mathlib.Core.Path.{_≡_}
-use mathlib.Core.List.{List, [], _∷_}
+use mathlib.Core.List.{List}
 use lib.ListN.{length, getD}
 use lib.Dec.{ltb, leb}
 use Rattle.fields.specs.Choice.{pick}

@@ -1,6 +1,6 @@
 // A record of a sound area, sought by its key or by its address.
 ghost use mathlib.Core.Path.{_≡_};
-ghost use Prim.Native.Nat.{ℕ, _+_, _≤_};
+ghost use Prim.Native.Nat.{_+_};
 ghost use lib.ListN.{length};
 ghost use Rattle.area_read.specs.Measured.{Measured};
 ghost use Rattle.seek.specs.Sought.{Whole, Sought, soughtAt, Inside};

@@ -1,7 +1,6 @@
 use Prim.Native.Nat.{min}
 use mathlib.Core.Path.{_≡_}
 use native.Mathlib.Omega.{arith}
-use Rattle.fields.specs.Choice.{pick}
 use borrow.Author.Needs.{needs}
 use Rattle.area_read.proofs.noted.Statement.{statement}
 use Rattle.area_read.proofs.noted.Tie as tie

@@ -1,10 +1,9 @@
 use borrow.Author.Needs.{needs}
-use mathlib.Core.Path.{_≡_, ap, sym, _∙_}
+use mathlib.Core.Path.{_≡_, ap, _∙_}
 use native.Mathlib.Omega.{arith}
-use Prim.Native.Nat.{ℕ, _≤_, _<_, _-_, _+_}
+use Prim.Native.Nat.{_≤_, _+_}
 use lib.ListN.{length, drop}
 use Rattle.fields.specs.Bytes.{splice}
-use native.Mathlib.Nat.{add-zero}
 use Rattle.fields.proofs.Splices.{copy-none, copied-length, copy-step}
 use Rattle.fields.proofs.copy.Statement.{statement}
 use Rattle.fields.proofs.copy.Tie as tie

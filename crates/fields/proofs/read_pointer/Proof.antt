@@ -1,8 +1,8 @@
-use Prim.Native.Nat.{ℕ, _+_, _-_, _*_, _^_, _≤_, _<_}
-use mathlib.Core.Path.{_≡_, _∙_, sym}
+use Prim.Native.Nat.{_-_, _≤_}
+use mathlib.Core.Path.{_≡_}
 use native.Mathlib.Omega.{arith}
 use borrow.Author.Needs.{needs}
-use Rattle.fields.specs.Bytes.{Octets, number}
+use Rattle.fields.specs.Bytes.{number}
 use Rattle.fields.proofs.Numbers.{number-more, number-small, number-below, number-none}
 use Rattle.fields.proofs.read_pointer.Statement.{statement}
 use Rattle.fields.proofs.read_pointer.Tie as tie

@@ -1,4 +1,4 @@
-use mathlib.Core.Path.{_≡_, _∙_, sym}
+use mathlib.Core.Path.{_∙_, sym}
 use native.Mathlib.Omega.{arith}
 use Rattle.interval_read.proofs.Judging.{tail-bad, tail-good}
 use borrow.Author.Needs.{needs}

@@ -1,4 +1,4 @@
-use mathlib.Core.Path.{_≡_, _∙_, sym}
+use mathlib.Core.Path.{_∙_, sym}
 use native.Mathlib.Omega.{arith}
 use Rattle.interval_read.proofs.Tails.{tail-busy, tail-off, tail-is}
 use borrow.Author.Needs.{needs}

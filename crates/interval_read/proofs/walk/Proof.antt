@@ -1,14 +1,13 @@
-use Prim.Native.Nat.{ℕ, _+_, _-_, _*_, _≤_, _<_}
+use Prim.Native.Nat.{ℕ, _≤_, _<_}
 use mathlib.Core.Path.{_≡_, refl, _∙_, sym}
 use mathlib.Core.List.{List, []}
-use lib.ListN.{length}
 use native.Mathlib.Omega.{arith}
 use borrow.Author.Needs.{needs}
 use borrow.Author.Tests.{eq-eqb, ne-eqb, not-true, not-false}
 use Rattle.fields.proofs.Numbers.{one-less}
 use Rattle.interval.specs.Reading.{rdfs}
 use Rattle.rdf.specs.Front.{frontOf}
-use Rattle.rdf.specs.declared.Front.the-variants.{Run, Damaged}
+use Rattle.rdf.specs.declared.Front.the-variants.{Run}
 use Rattle.rdf.proofs.Fronts.{Step, steps, stops, front-within}
 use Rattle.rdf.proofs.Rdfs.{prod16}
 use Rattle.interval_read.proofs.Walking.{Come, set-out, ended, no-group, too-long, falls, goes-on}

@@ -1,12 +1,10 @@
-use mathlib.Core.Path.{_≡_, refl, _∙_, sym, ap}
-use Prim.Native.Nat.{ℕ, _<_, _+_, _-_, _*_}
+use mathlib.Core.Path.{_≡_}
+use Prim.Native.Nat.{ℕ, _+_, _-_, _*_}
 use lib.ListN.{getD}
 use native.Mathlib.Omega.{arith}
-use borrow.Author.Tests.{eq-eqb, ne-eqb, le-leb, lt-leb}
-use Rattle.interval.specs.Reading.{rdfs}
+use borrow.Author.Tests.{ne-eqb, le-leb, lt-leb}
 use Rattle.rdf.proofs.Rdfs.{rdfs-cons}
 use Rattle.rdf.proofs.Controls.{told}
-use Rattle.rdf.specs.Control.{controlOf}
 use borrow.Author.Needs.{needs}
 use Rattle.rdf.proofs.group_at.Statement.{statement}
 use Rattle.rdf.proofs.group_at.Tie as tie

@@ -1,7 +1,6 @@
-use mathlib.Core.Path.{_≡_}
-use Prim.Native.Nat.{ℕ, _/_, _%_, _*_}
-use mathlib.Core.Bool.{Bool, true, false, not}
-use lib.Dec.{eqb, T}
+use Prim.Native.Nat.{_/_, _%_, _*_}
+use mathlib.Core.Bool.{not}
+use lib.Dec.{eqb}
 use Rattle.fields.proofs.Masks.{and-32768, below-same}
 use Rattle.rdf.proofs.is_busy.Statement.{statement}
 use Rattle.rdf.proofs.is_busy.Tie as tie

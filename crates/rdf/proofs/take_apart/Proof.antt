@@ -1,8 +1,7 @@
 use mathlib.Core.Path.{_≡_, refl, _∙_, sym, ap}
 use Prim.Native.Nat.{ℕ, zero, suc, _<_}
-use mathlib.Core.Bool.{Bool, true, false}
 use lib.Bits.{bitAnd}
-use lib.Dec.{eqb, T}
+use lib.Dec.{eqb}
 use borrow.Author.Tests.{eq-eqb, ne-eqb}
 use Rattle.fields.proofs.Masks.{below-eq}
 use Rattle.rdf.specs.Control.{controlOf}
@@ -12,7 +11,6 @@ use Rattle.rdf.specs.declared.Control.the-variants.{Single, Paired, Coun
 use Rattle.rdf.proofs.take_apart.Statement.{statement}
 use Rattle.rdf.proofs.take_apart.Tie as tie
 use borrow.Author.Needs.{needs}
-use native.Mathlib.Omega.{arith}
 
 -- what the code does, as a function of its tests
 abbrev byMask : ℕ → Control

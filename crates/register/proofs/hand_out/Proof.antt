@@ -1,11 +1,7 @@
-use Prim.Native.Nat.{ℕ, _+_, _-_}
-use mathlib.Core.Path.{_≡_, refl, _∙_, sym, ap}
-use mathlib.Core.List.{[], _∷_}
-use lib.ListN.{length}
+use Prim.Native.Nat.{_+_, _-_}
+use mathlib.Core.Path.{_≡_}
 use native.Mathlib.Omega.{arith}
 use borrow.Author.Needs.{needs}
-use Rattle.measures.specs.Judgement.{judgedOf}
-use Rattle.measures.specs.declared.Judged.the-variants.{Fine}
 use Rattle.register.proofs.Ways.{hand-short, hand-found}
 use borrow.Author.Needs.{needs}
 use Rattle.register.proofs.hand_out.Statement.{statement}

@@ -1,4 +1,4 @@
-use mathlib.Core.Path.{_≡_, refl, _∙_, sym, ap}
+use mathlib.Core.Path.{_≡_, _∙_, sym, ap}
 use mathlib.Core.Bool.{true, false}
 use Prim.Native.Nat.{_+_, _-_}
 use native.Mathlib.Omega.{arith}

@@ -1,5 +1,4 @@
-use mathlib.Core.Path.{_≡_, refl, _∙_, sym, ap}
-use native.Mathlib.Omega.{arith}
+use mathlib.Core.Path.{_∙_, sym}
 use Rattle.role.proofs.Verdicts.{sound-told, unsound-told, free-is, free-not}
 use borrow.Author.Needs.{needs}
 use Rattle.role.proofs.free_sound.Statement.{statement}

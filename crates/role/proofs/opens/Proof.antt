@@ -1,11 +1,10 @@
 use Prim.Native.Nat.{_+_, _-_}
-use mathlib.Core.Path.{_≡_, refl, _∙_, sym, ap}
+use mathlib.Core.Path.{_≡_, _∙_, sym, ap}
 use native.Mathlib.Omega.{arith}
 use Rattle.role.proofs.Verdicts.{Told, sound-told, unsound-told, opens-not, way-first, way-empty, way-above, way-below, some-there}
 use mathlib.Core.List.{[]}
 use Rattle.fields.specs.Choice.{pick}
-use mathlib.Core.Bool.{true, false}
-use Rattle.fields.specs.Order.{orderOf, less, isLess}
+use Rattle.fields.specs.Order.{orderOf, isLess}
 use Rattle.fields.specs.Bytes.{part}
 use Rattle.fields.proofs.Answers.{not-less}
 use borrow.Author.Needs.{needs}

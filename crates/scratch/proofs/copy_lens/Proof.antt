@@ -1,7 +1,7 @@
 use borrow.Author.Needs.{needs}
 use mathlib.Core.Path.{_≡_, ap, _∙_}
 use native.Mathlib.Omega.{arith}
-use Prim.Native.Nat.{_≤_, _-_, _+_}
+use Prim.Native.Nat.{_≤_, _+_}
 use lib.ListN.{length, drop}
 use Rattle.fields.specs.Bytes.{splice}
 use Rattle.fields.proofs.Splices.{copy-none, copied-length, copy-step}

@@ -1,5 +1,4 @@
-use Prim.Native.Nat.{_+_, _*_, _<_}
-use mathlib.Core.Path.{_≡_, _∙_, sym}
+use mathlib.Core.Path.{_≡_, sym}
 use lib.ListN.{length}
 use native.Mathlib.Omega.{arith}
 use Rattle.area_read.proofs.Places.{data-ends, data-small, lent-data, length-index}
