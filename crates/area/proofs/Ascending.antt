@@ -5,6 +5,7 @@ use mathlib.Core.Bool.{true, false}
 use mathlib.Core.List.{List, [], _∷_, _++_, map-append}
 use Rattle.fields.specs.Choice.{no}
 use Rattle.fields.specs.Order.{less}
+use Rattle.fields.specs.Lists.{every}
 use Rattle.fields.proofs.Choices.{both-split, both-join, no-true}
 use Rattle.fields.proofs.Orders.{less-asym}
 use Rattle.measures.specs.declared.Measures.{Measures}
@@ -26,7 +27,7 @@ use Rattle.area.proofs.Intervals.{used-apart}
 -- keys up to a bound, then keys that ascend from it
 join-from : (a high : List ℕ) (ks ls : List (List ℕ)) → less high a ≡ false → ascendFrom a ks ≡ true → upTo high ks ≡ true
     → ascendFrom high ls ≡ true → ascendFrom a (ks ++ ls) ≡ true
-unfolding ascendFrom upTo
+unfolding ascendFrom every
 join-from a high [] ls h k u l = from-lower a high ls h l
 join-from a high (x ∷ ks) ls h k u l =
     let s = both-split (less a x) (ascendFrom x ks) k in
@@ -36,7 +37,7 @@ join-from a high (x ∷ ks) ls h k u l =
 -- The records of rising entries, each sound between its bounds, ascend from the bound before the first.
 pub entries-ascend : (m : Measures) (area low : List ℕ) (es : List Entry) → rises (m .key) low es ≡ true → AllUsed m area low es
     → ascendFrom low (keysOf m (recordsOf (fill m area es))) ≡ true
-unfolding recordsOf fill ascendFrom
+unfolding recordsOf ascendFrom
 entries-ascend m area low [] r a = refl
 entries-ascend m area low (e ∷ es) r a =
     let high : List ℕ = bound (m .key) (e .sep) in

@@ -14,10 +14,10 @@ use Rattle.measures.specs.declared.Measures.{Measures}
 use Rattle.interval.specs.Records.{keysOf, ascending, above, upTo}
 use Rattle.interval.specs.Layout.{LaidOut}
 use Rattle.interval.specs.Reading.{recordsIn, formSound, sound}
+use Rattle.interval.specs.Role.{soundFree, soundUsed}
 use Rattle.interval.proofs.Forward.{laid-out-reads, laid-out-sound}
 use Rattle.interval.proofs.Backward.{read-lengths-fine, interval-only-laid-out, form-and-keys}
-use Rattle.interval.proofs.Keys.{none-fine}
-use Rattle.area.specs.Soundness.{soundFree, soundUsed}
+use Rattle.interval.proofs.Lengths.{none-fine}
 use Rattle.area.specs.Layout.{FreeInterval, UsedInterval}
 
 -- ---- the tests

@@ -7,8 +7,10 @@ use lib.ListN.{length}
 use lib.Dec.{ltb}
 use native.Mathlib.Omega.{arith}
 use borrow.Author.Tests.{ltb-true}
+use Rattle.fields.specs.Lists.{every}
 use Rattle.fields.proofs.Choices.{both-split}
 use Rattle.measures.specs.declared.Measures.{Measures}
+use Rattle.measures.proofs.Fine.{fits-large}
 use Rattle.index.specs.Bounds.{bound}
 use Rattle.index.specs.Meaning.{Entry, Meaning, numbers, below}
 use Rattle.index.specs.Reading.{readIndex, soundIndex}
@@ -30,14 +32,12 @@ module _ (m : Measures) (area : List ℕ) (some : 1 ≤ m .least) (small : m .si
   laid-all-free (k ∷ ks) l = (laid-free m (dataIn m area k) some small (l .0), laid-all-free ks (l .1))
 
   laid-all-used : (low : List ℕ) (fs : List Filled) → UsedIntervals m area low fs → AllUsed m area low (entriesOf fs)
-  unfolding entriesOf
   laid-all-used low [] l = tt
   laid-all-used low (f ∷ fs) l =
       let high : List ℕ = bound (m .key) (f .sep) in
       (laid-used m (dataIn m area (f .num)) some small low high (f .records) (l .0), laid-all-used high fs (l .1))
 
   laid-fill : (low : List ℕ) (fs : List Filled) → UsedIntervals m area low fs → fill m area (entriesOf fs) ≡ fs
-  unfolding entriesOf fill
   laid-fill low [] l = refl
   laid-fill low (f ∷ fs) l =
       let high : List ℕ = bound (m .key) (f .sep) in
@@ -70,26 +70,29 @@ module _ (m : Measures) (area : List ℕ) (some : 1 ≤ m .least) (small : m .si
 
 module _ (m : Measures) (n : ℕ) (area : List ℕ) (lent : Lent m n area) where
   all-free-laid : (ks : List ℕ) → below n ks ≡ true → AllFree m area ks → FreeIntervals m area ks
-  unfolding below
+  unfolding every
   all-free-laid [] b a = tt
   all-free-laid (k ∷ ks) b a =
       let s = both-split (ltb k n) (below n ks) b in
-      (free-laid m (dataIn m area k) (octets-data m area k (lent .octets)) (length-data m n area (lent .long) k (ltb-true k n (s .0))) (a .0), all-free-laid ks (s .1) (a .1))
+      (free-laid m (dataIn m area k) (octets-data m area k (lent .octets)) (length-data m n area (lent .fits .bytes) k (ltb-true k n (s .0))) (a .0), all-free-laid ks (s .1) (a .1))
 
   all-used-laid : (low : List ℕ) (es : List Entry) → below n (numbers es) ≡ true → AllUsed m area low es → UsedIntervals m area low (fill m area es)
-  unfolding below fill
+  unfolding every
   all-used-laid low [] b a = tt
   all-used-laid low (e ∷ es) b a =
       let high : List ℕ = bound (m .key) (e .sep) in
-      let s = both-split (ltb (e .num) n) (below n (numbers es)) b in
-      (used-laid m (dataIn m area (e .num)) (octets-data m area (e .num) (lent .octets)) (length-data m n area (lent .long) (e .num) (ltb-true (e .num) n (s .0))) low high (a .0), all-used-laid high es (s .1) (a .1))
+      let s = both-split (ltb (e .num) n) (below n (numbers es)) b in (
+        used-laid m (dataIn m area (e .num)) (octets-data m area (e .num) (lent .octets)) (length-data m n area (lent .fits .bytes) (e .num) (ltb-true (e .num) n (s .0))) low high
+            (a .0),
+        all-used-laid high es (s .1) (a .1),
+      )
 
   -- A sound index interval was laid out as what it is read as, and that keeps the rules.
   pub index-laid : soundIndex 1 (m .key) n [] [] (indexIn m area) ≡ true → IndexInterval m n (readIndex 1 n (indexIn m area)) (indexIn m area)
   index-laid s =
-      let l : length (indexIn m area) ≡ m .size = length-index m n area (lent .long) in
+      let l : length (indexIn m area) ≡ m .size = length-index m n area (lent .fits .bytes) in
       let o = octets-index m area (lent .octets) in
-      let g : 31 ≤ length (indexIn m area) = omega (arith, lent .large) in
+      let g : 31 ≤ length (indexIn m area) = omega (arith, fits-large (lent .fits)) in
       record {
         laid = rw l at (index-only-laid-out 1 (m .key) n [] [] (indexIn m area) o g s);
         rules = rw l at (index-keeps-rules 1 (m .key) n [] [] (indexIn m area) o g s);

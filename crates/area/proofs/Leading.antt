@@ -7,13 +7,15 @@ use lib.ListN.{length}
 use Rattle.fields.specs.Choice.{no}
 use Rattle.fields.specs.Bytes.{Octets}
 use Rattle.fields.specs.Order.{less}
+use Rattle.fields.specs.Lists.{every}
 use Rattle.fields.proofs.Choices.{both-split, both-join, no-true}
 use Rattle.fields.proofs.Orders.{le-less, less-trans}
 use Rattle.measures.specs.declared.Measures.{Measures}
 use Rattle.interval.specs.Records.{keyOf, keysOf, above, upTo}
 use Rattle.interval.specs.Reading.{recordsIn}
+use Rattle.interval.specs.Search.{allBelow}
+use Rattle.interval.specs.Role.{soundUsed}
 use Rattle.interval.proofs.Ascending.{ascend-above}
-use Rattle.interval_find.specs.Search.{allBelow}
 use Rattle.index.specs.Bounds.{bound}
 use Rattle.index.specs.Meaning.{Entry}
 use Rattle.index.specs.Rules.{rises, boundBefore}
@@ -21,9 +23,8 @@ use Rattle.index.specs.Search.{leadsTo}
 use Rattle.index.proofs.Keeping.{rises-apart}
 use Rattle.index.proofs.Leading.{lead-base}
 use Rattle.area.specs.Content.{Filled, Content, dataIn, recordsOf, fill, entriesOf}
-use Rattle.area.specs.Soundness.{soundUsed}
 use Rattle.area.specs.Reading.{whole, readArea}
-use Rattle.area.proofs.Filling.{fill-append, entries-fill, length-fill}
+use Rattle.area.proofs.Filled.{fill-append, entries-fill, length-fill}
 use Rattle.area.proofs.Sounding.{AllUsed, used-append, sound-apart, sound-rules, sound-filled}
 use Rattle.area.proofs.Intervals.{used-apart}
 use Rattle.area.proofs.Ascending.{entries-ascend}
@@ -54,7 +55,7 @@ rises-append K low (x ∷ xs) ys r =
 
 -- keys up to a bound that is below the key, then keys below it
 below-join : (key high : List ℕ) (ks ls : List (List ℕ)) → less high key ≡ true → upTo high ks ≡ true → allBelow key ls ≡ true → allBelow key (ks ++ ls) ≡ true
-unfolding allBelow upTo
+unfolding every
 below-join key high [] ls h u b = b
 below-join key high (k ∷ ks) ls h u b =
     let s = both-split (no (less high k)) (upTo high ks) u in
@@ -63,7 +64,7 @@ below-join key high (k ∷ ks) ls h u b =
 -- what is above the last bound of some entries is above all their records
 all-lower : (m : Measures) (area key low : List ℕ) (es : List Entry) → rises (m .key) low es ≡ true → AllUsed m area low es
     → less (boundBefore (m .key) low es) key ≡ true → (less low key ≡ true) × (allBelow key (keysOf m (recordsOf (fill m area es))) ≡ true)
-unfolding boundBefore recordsOf fill allBelow
+unfolding boundBefore recordsOf every
 all-lower m area key low [] r a h = (h, refl)
 all-lower m area key low (e ∷ es) r a h =
     let high : List ℕ = bound (m .key) (e .sep) in
@@ -79,7 +80,6 @@ all-lower m area key low (e ∷ es) r a h =
 -- entries before has a lower key and every record of the entries after a higher one.
 pub key-in-one-entry : (m : Measures) (n : ℕ) (area : List ℕ) (c : Content) → readArea m n area ≡ whole c
     → (key : List ℕ) → 1 ≤ m .key → length key ≡ m .key → Octets key → KeyIn m area key (c .filled)
-unfolding fill
 key-in-one-entry m n area c w key some long o =
     let s = sound-apart m n area c w in
     let es : List Entry = entriesOf (c .filled) in

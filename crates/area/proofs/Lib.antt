@@ -1,5 +1,5 @@
 pub mod Lowest
-pub mod Filling
+pub mod Filled
 pub mod Unsound
 pub mod Sounding
 pub mod Intervals
@@ -10,3 +10,4 @@ pub mod Roles
 pub mod Placing
 pub mod Leading
 pub mod Example
+pub mod Places

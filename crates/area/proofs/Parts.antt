@@ -1,6 +1,6 @@
 -- The intervals as parts of the lent bytes: their lengths, and what a store of one interval does to each.
 use Prim.Native.Nat.{ℕ, _+_, _*_, _≤_, _<_}
-use mathlib.Core.Path.{_≡_, refl, _∙_}
+use mathlib.Core.Path.{_≡_, refl}
 use mathlib.Core.Bool.{Bool, true, false}
 use mathlib.Core.List.{List}
 use lib.ListN.{length}
@@ -12,26 +12,8 @@ use Rattle.fields.specs.Bytes.{Octets, splice}
 use Rattle.fields.proofs.Splices.{length-mid, length-splice, part-here, part-left, part-right}
 use Rattle.fields.proofs.Octets.{octets-part, octets-store}
 use Rattle.measures.specs.declared.Measures.{Measures}
-use Rattle.measures.specs.Judgement.{Fits, measures}
-use Rattle.measures.proofs.Sizes.{permitted-range}
 use Rattle.area.specs.Content.{indexIn, dataIn}
 use Rattle.area.specs.Layout.{Lent}
-
--- Measures and a length that are not refused, and bytes: the area is lent as the laws ask.
-pub fits-lent : (size offset key most n : ℕ) (area : List ℕ) → Fits size offset key most (length area) n → Octets area
-    → Lent (measures size offset key most) n area
-fits-lent size offset key most n area f o =
-    let r = permitted-range size (f .size-permitted) in
-    record {
-      octets = o;
-      long = f .bytes;
-      few = f .few;
-      large = omega (arith, r .0);
-      small = r .1;
-      key-some = f .key-some;
-      key-most = f .key-most;
-      key-inside = omega arith;
-    }
 
 -- ---- where each interval ends, and its length
 
@@ -104,17 +86,7 @@ module _ (m : Measures) (n : ℕ) (area : List ℕ) (long : length area ≡ (n +
 
 -- An area that was lent as the laws ask still is, with other bytes of the same length;
 pub lent-other : (m : Measures) (n : ℕ) (area after : List ℕ) → Lent m n area → Octets after → length after ≡ length area → Lent m n after
-lent-other m n area after lent o e =
-    record {
-      octets = o;
-      long = e ∙ lent .long;
-      few = lent .few;
-      large = lent .large;
-      small = lent .small;
-      key-some = lent .key-some;
-      key-most = lent .key-most;
-      key-inside = lent .key-inside;
-    }
+lent-other m n area after lent o e = record { octets = o; fits = rw e (lent .fits) }
 
 -- so too after bytes of one interval's size were stored as an interval.
 module _ (m : Measures) (n : ℕ) (area : List ℕ) (lent : Lent m n area) (new : List ℕ) (size : length new ≡ m .size) (o : Octets new) where
@@ -123,8 +95,8 @@ module _ (m : Measures) (n : ℕ) (area : List ℕ) (lent : Lent m n area) (new 
 
   -- as a data interval,
   pub lent-data : (k : ℕ) → k < n → Lent m n (splice area ((k + 1) * m .size) new)
-  lent-data k h = lent-stored ((k + 1) * m .size) (data-splice-length m n area (lent .long) new size k h)
+  lent-data k h = lent-stored ((k + 1) * m .size) (data-splice-length m n area (lent .fits .bytes) new size k h)
 
   -- or as the index interval.
   pub lent-index : Lent m n (splice area 0 new)
-  lent-index = lent-stored 0 (index-splice-length m n area (lent .long) new size)
+  lent-index = lent-stored 0 (index-splice-length m n area (lent .fits .bytes) new size)

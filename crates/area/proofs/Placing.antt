@@ -10,6 +10,7 @@ use borrow.Author.Tests.{ltb-true, lt-ltb, leb-true, leb-false}
 use Rattle.fields.specs.Choice.{pick}
 use Rattle.fields.proofs.Choices.{false-true}
 use Rattle.measures.specs.declared.Measures.{Measures}
+use Rattle.measures.proofs.Fine.{fits-small}
 use Rattle.index.specs.Meaning.{Meaning}
 use Rattle.index.specs.Reading.{readIndex, soundIndex}
 use Rattle.area.specs.Content.{Content, indexIn, dataIn, contentOf}
@@ -51,7 +52,7 @@ module _ (m : Measures) (n : ℕ) (area : List ℕ) where
 
 module _ (m : Measures) (n : ℕ) (area : List ℕ) (lent : Lent m n area) where
   some : 1 ≤ m .least
-  some = omega (arith, lent .key-some, lent .key-inside)
+  some = omega (arith, lent .fits .key-some, lent .fits .key-inside)
 
   -- ---- the index record
 
@@ -61,8 +62,9 @@ module _ (m : Measures) (n : ℕ) (area : List ℕ) (lent : Lent m n area) where
     where
       there : readArea m n area ≡ damaged 0 → (ix : Meaning) → IndexInterval m n ix (indexIn m area) → ⊥
       there e ix i =
-          let s : soundRecord m n area ≡ false = told-index (soundRecord m n area) (ltb (low m n area (read m n area)) n) (low m n area (read m n area)) (contentOf m area (read m n area)) (sym (reading m n area) ∙ e) in
-          false-true (sym s ∙ index-sound m area some (lent .small) n (lent .few) ix i)
+          let s : soundRecord m n area ≡ false = told-index (soundRecord m n area) (ltb (low m n area (read m n area)) n) (low m n area (read m n area))
+          (contentOf m area (read m n area)) (sym (reading m n area) ∙ e) in
+          false-true (sym s ∙ index-sound m area some (fits-small (lent .fits)) n (lent .fits .few) ix i)
 
       back : (t : Bool) → soundRecord m n area ≡ t → ((ix : Meaning) → IndexInterval m n ix (indexIn m area) → ⊥) → readArea m n area ≡ damaged 0
       back true s none = absurd (none (read m n area) (index-laid m n area lent s))
@@ -90,7 +92,7 @@ module _ (m : Measures) (n : ℕ) (area : List ℕ) (lent : Lent m n area) where
         index = index-laid m n area lent (t .0);
         inside = h;
         role = r .0;
-        unsound = λ (l : InRole m ix k (r .0) (dataIn m area k)). false-true (sym (r .1) ∙ laid-role m ix k (r .0) (dataIn m area k) some (lent .small) l);
+        unsound = λ (l : InRole m ix k (r .0) (dataIn m area k)). false-true (sym (r .1) ∙ laid-role m ix k (r .0) (dataIn m area k) some (fits-small (lent .fits)) l);
         lower = λ (j : ℕ) (l : j < k) (q : Role ix j). lower-laid ix k j (t .2) h l q;
       }
 
@@ -110,13 +112,14 @@ module _ (m : Measures) (n : ℕ) (area : List ℕ) (lent : Lent m n area) where
         go true e = leb-true k j e
         go false e =
             let r = listed-role m area (d .meaning) j i in
-            absurd (false-true (sym (r .1) ∙ laid-role m (d .meaning) j (r .0) (dataIn m area j) some (lent .small) (d .lower j (leb-false k j e) (r .0))))
+            absurd (false-true (sym (r .1) ∙ laid-role m (d .meaning) j (r .0) (dataIn m area j) some (fits-small (lent .fits)) (d .lower j (leb-false k j e) (r .0))))
 
     back : readArea m n area ≡ damaged (k + 1)
     back =
-        let s : soundRecord m n area ≡ true = index-sound m area some (lent .small) n (lent .few) (d .meaning) (d .index) in
+        let s : soundRecord m n area ≡ true = index-sound m area some (fits-small (lent .fits)) n (lent .fits .few) (d .meaning) (d .index) in
         let q : low m n area (read m n area) ≡ k =
-        ap (λ (x : Meaning). low m n area x) (index-read m area some (lent .small) n (lent .few) (d .meaning) (d .index)) ∙ lowest-is n k (unsoundData m [] area (d .meaning)) listed (d .inside) least in
+        ap (λ (x : Meaning). low m n area x) (index-read m area some (fits-small (lent .fits)) n (lent .fits .few) (d .meaning) (d .index)) ∙ lowest-is n k
+        (unsoundData m [] area (d .meaning)) listed (d .inside) least in
         reading m n area ∙ rw (s, q, lt-ltb k n (d .inside))
 
   -- Place k + 1 is told exactly if the index record is laid out and k is the lowest number whose interval is not laid out in its role.

@@ -7,6 +7,7 @@ use mathlib.Core.Logic.{⊎-elim}
 use native.Mathlib.Omega.{arith}
 use Rattle.measures.specs.declared.Measures.{Measures}
 use Rattle.interval.specs.Reading.{recordsIn}
+use Rattle.interval.specs.Role.{soundFree, soundUsed}
 use Rattle.index.specs.Bounds.{bound}
 use Rattle.index.specs.Meaning.{Entry, Meaning, numbers, named, count}
 use Rattle.index.specs.Rules.{boundBefore}
@@ -14,7 +15,7 @@ use Rattle.index.proofs.Keeping.{rules-apart}
 use Rattle.index.proofs.Counting.{count-among}
 use Rattle.index.proofs.Naming.{named-each}
 use Rattle.area.specs.Content.{dataIn}
-use Rattle.area.specs.Soundness.{soundFree, soundUsed, unsoundFree, unsoundUsed, unsoundData}
+use Rattle.area.specs.Soundness.{unsoundFree, unsoundUsed, unsoundData}
 use Rattle.area.specs.Layout.{Lent, IndexInterval}
 use Rattle.area.specs.Roles.{Role, free, used, InRole}
 use Rattle.area.proofs.Intervals.{laid-free, laid-used, free-laid, used-laid}
@@ -59,9 +60,9 @@ roleSound m ix k (used pre sep post e) ci = soundUsed m (boundBefore (m .key) []
 -- It holds exactly where the bytes are laid out in the role.
 pub role-laid : (m : Measures) (ix : Meaning) (k : ℕ) (r : Role ix k) (n : ℕ) (area : List ℕ) → Lent m n area → k < n
     → roleSound m ix k r (dataIn m area k) ≡ true → InRole m ix k r (dataIn m area k)
-role-laid m ix k (free i) n area l h s = free-laid m (dataIn m area k) (octets-data m area k (l .octets)) (length-data m n area (l .long) k h) s
+role-laid m ix k (free i) n area l h s = free-laid m (dataIn m area k) (octets-data m area k (l .octets)) (length-data m n area (l .fits .bytes) k h) s
 role-laid m ix k (used pre sep post e) n area l h s =
-    (recordsIn (dataIn m area k), used-laid m (dataIn m area k) (octets-data m area k (l .octets)) (length-data m n area (l .long) k h) (boundBefore (m .key) [] pre) (bound (m .key) sep) s)
+    (recordsIn (dataIn m area k), used-laid m (dataIn m area k) (octets-data m area k (l .octets)) (length-data m n area (l .fits .bytes) k h) (boundBefore (m .key) [] pre) (bound (m .key) sep) s)
 
 -- And where they are laid out in the role, the test holds.
 pub laid-role : (m : Measures) (ix : Meaning) (k : ℕ) (r : Role ix k) (ci : List ℕ) → 1 ≤ m .least → m .size ≤ 32768

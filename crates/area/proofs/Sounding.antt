@@ -8,6 +8,7 @@ use native.Mathlib.Omega.{arith}
 use borrow.Author.Tests.{ltb-false, le-ltb}
 use Rattle.fields.specs.Choice.{pick}
 use Rattle.measures.specs.declared.Measures.{Measures}
+use Rattle.interval.specs.Role.{soundFree, soundUsed}
 use Rattle.index.specs.Bounds.{bound}
 use Rattle.index.specs.Meaning.{Entry, Meaning, numbers}
 use Rattle.index.specs.Rules.{boundBefore}
@@ -15,10 +16,10 @@ use Rattle.index.specs.Reading.{readIndex, soundIndex}
 use Rattle.index.proofs.Keeping.{Keeps, rules-apart}
 use Rattle.index.proofs.Sounding.{sound-apart as record-apart}
 use Rattle.area.specs.Content.{Content, indexIn, dataIn, fill, contentOf, entriesOf, meaningOf}
-use Rattle.area.specs.Soundness.{soundFree, soundUsed, unsoundFree, unsoundUsed, unsoundData, lowest}
+use Rattle.area.specs.Soundness.{unsoundFree, unsoundUsed, unsoundData, lowest}
 use Rattle.area.specs.Reading.{damaged, whole, readArea}
 use Rattle.area.proofs.Lowest.{lowest-least, lowest-none}
-use Rattle.area.proofs.Filling.{entries-fill, meaning-content}
+use Rattle.area.proofs.Filled.{entries-fill, meaning-content}
 use Rattle.area.proofs.Unsound.{listed-below}
 
 -- every free interval is sound in that role

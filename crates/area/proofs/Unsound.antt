@@ -6,13 +6,14 @@ use mathlib.Core.List.{List, [], _∷_, _++_, List·Memᴰ, List·Memᴰ·head, 
 use mathlib.Core.Logic.{⊎-elim}
 use Rattle.fields.specs.Choice.{pick}
 use Rattle.measures.specs.declared.Measures.{Measures}
+use Rattle.interval.specs.Role.{soundFree, soundUsed}
 use Rattle.index.specs.Bounds.{bound}
 use Rattle.index.specs.Meaning.{Entry, Meaning, numbers, named, namedOnce}
 use Rattle.index.specs.Rules.{boundBefore}
 use Rattle.index.proofs.Naming.{named-below}
 use Rattle.index.proofs.Counting.{below-among}
 use Rattle.area.specs.Content.{dataIn}
-use Rattle.area.specs.Soundness.{soundFree, soundUsed, unsoundFree, unsoundUsed, unsoundData}
+use Rattle.area.specs.Soundness.{unsoundFree, unsoundUsed, unsoundData}
 
 -- ---- free intervals
 
@@ -92,7 +93,8 @@ module _ (m : Measures) (area : List ℕ) (k : ℕ) where
       go (soundUsed m low (bound (m .key) (x .sep)) (dataIn m area (x .num))) (used-listed (bound (m .key) (x .sep)) pre sep post f)
     where
       go : (t : Bool) → List·Memᴰ k (unsoundUsed m area (bound (m .key) (x .sep)) (pre ++ (record { sep = sep; num = k } ∷ post)))
-          → List·Memᴰ k (pick t (unsoundUsed m area (bound (m .key) (x .sep)) (pre ++ (record { sep = sep; num = k } ∷ post))) (x .num ∷ unsoundUsed m area (bound (m .key) (x .sep)) (pre ++ (record { sep = sep; num = k } ∷ post))))
+          → List·Memᴰ k (pick t (unsoundUsed m area (bound (m .key) (x .sep)) (pre ++ (record { sep = sep; num = k } ∷ post)))
+          (x .num ∷ unsoundUsed m area (bound (m .key) (x .sep)) (pre ++ (record { sep = sep; num = k } ∷ post))))
       go true i = i
       go false i = List·Memᴰ·tail i
 

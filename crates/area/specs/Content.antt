@@ -1,6 +1,6 @@
 -- What a control area holds: document 01, 'The area we lend'.
 use Prim.Native.Nat.{ℕ, _+_, _*_}
-use mathlib.Core.List.{List, [], _∷_, _++_}
+use mathlib.Core.List.{List, [], _∷_, _++_, map}
 use Rattle.fields.specs.Bytes.{part, number}
 use Rattle.measures.specs.declared.Measures.{Measures}
 use Rattle.interval.specs.Reading.{recordsIn}
@@ -33,17 +33,15 @@ recordsOf [] = []
 recordsOf (f ∷ fs) = f .records ++ recordsOf fs
 
 -- the entries with what their intervals hold
-unfoldable pub fill : Measures → List ℕ → List Entry → List Filled
-fill m area [] = []
-fill m area (e ∷ es) = record { sep = e .sep; num = e .num; records = recordsIn (dataIn m area (e .num)) } ∷ fill m area es
+abbrev pub fill : Measures → List ℕ → List Entry → List Filled
+fill m area es = map (λ (e : Entry). record { sep = e .sep; num = e .num; records = recordsIn (dataIn m area (e .num)) }) es
 
 abbrev pub contentOf : Measures → List ℕ → Meaning → Content
 contentOf m area ix = record { kept = ix .kept; spare = ix .spare; free = ix .free; filled = fill m area (ix .entries) }
 
 -- the entries of an area without their records, and so the index record's meaning
-unfoldable pub entriesOf : List Filled → List Entry
-entriesOf [] = []
-entriesOf (f ∷ fs) = record { sep = f .sep; num = f .num } ∷ entriesOf fs
+abbrev pub entriesOf : List Filled → List Entry
+entriesOf fs = map (λ (f : Filled). record { sep = f .sep; num = f .num }) fs
 
 abbrev pub meaningOf : Content → Meaning
 meaningOf c = record { kept = c .kept; spare = c .spare; free = c .free; entries = entriesOf (c .filled) }

@@ -1,10 +1,11 @@
 -- A whole area said by the two grammars alone: document 01, 'The area we lend', 'Data interval', 'Index record'. Nothing here reads.
-use Prim.Native.Nat.{ℕ, _+_, _*_, _≤_}
+use Prim.Native.Nat.{ℕ}
 use mathlib.Core.Path.{_≡_}
 use mathlib.Core.Bool.{true}
 use mathlib.Core.List.{List, [], _∷_}
 use lib.ListN.{length}
 use Rattle.fields.specs.Bytes.{Octets}
+use Rattle.measures.specs.Judgement.{Fits}
 use Rattle.measures.specs.declared.Measures.{Measures}
 use Rattle.interval.specs.Records.{keysOf, lengthsFine, ascending, above, upTo}
 use Rattle.interval.specs.Layout.{LaidOut as IntervalLaidOut}
@@ -15,16 +16,10 @@ use Rattle.index.specs.Layout.{LaidOut as IndexLaidOut}
 use Rattle.area.specs.Content.{Filled, Content, indexIn, dataIn, meaningOf}
 use Rattle.area.specs.Reading.{width}
 
--- what refusal 1 leaves: bytes, n + 1 intervals of them, and measures that are fine
+-- an area that is lent: bytes, with measures and a length that refusal 1 lets pass
 pub record Lent (m : Measures) (n : ℕ) (area : List ℕ) : Type 0 where
   pub octets : Octets area
-  pub long : length area ≡ (n + 1) * m .size
-  pub few : n ≤ 256
-  pub large : 31 ≤ m .size
-  pub small : m .size ≤ 32768
-  pub key-some : 1 ≤ m .key
-  pub key-most : m .key ≤ 255
-  pub key-inside : m .offset + m .key ≤ m .least
+  pub fits : Fits m n (length area)
 
 -- the index interval is laid out with this meaning, which keeps all rules
 pub record IndexInterval (m : Measures) (n : ℕ) (ix : Meaning) (ib : List ℕ) : Type 0 where

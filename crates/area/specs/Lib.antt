@@ -3,3 +3,5 @@ pub mod Soundness
 pub mod Reading
 pub mod Layout
 pub mod Roles
+pub mod Example
+pub mod Checked

@@ -21,8 +21,6 @@ width = 1
 -- Else the area is sound, and this is what it holds. n is the number of data intervals.
 unfoldable pub readArea : Measures → ℕ → List ℕ → Reading
 readArea m n area =
-    pick (soundIndex width (m .key) n [] [] (indexIn m area))
-    (pick (ltb (lowest n (unsoundData m [] area (readIndex width n (indexIn m area)))) n)
-    (damaged (lowest n (unsoundData m [] area (readIndex width n (indexIn m area))) + 1))
-    (whole (contentOf m area (readIndex width n (indexIn m area)))))
-    (damaged 0)
+    let ix = readIndex width n (indexIn m area) in
+    let worst = lowest n (unsoundData m [] area ix) in
+    pick (soundIndex width (m .key) n [] [] (indexIn m area)) (pick (ltb worst n) (damaged (worst + 1)) (whole (contentOf m area ix))) (damaged 0)

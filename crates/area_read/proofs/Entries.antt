@@ -16,21 +16,22 @@ use Rattle.fields.proofs.Splices.{length-mid}
 use Rattle.measures.specs.declared.Measures.{Measures}
 use Rattle.interval.specs.Records.{keysOf, above, upTo}
 use Rattle.interval.specs.Reading.{recordsIn, sound}
-use Rattle.interval_find.proofs.Gather.{records-few}
+use Rattle.interval.specs.Role.{soundUsed}
+use Rattle.interval.proofs.Readable.{records-few}
 use Rattle.interval_read.specs.Verdict.{lastStart}
+use Rattle.interval_read.specs.AidOpened.{openedOf}
+use Rattle.interval_read.specs.declared.Opened.{Opened}
+use Rattle.interval_read.specs.declared.Opened.the-variants as opened
 use Rattle.index.specs.Bounds.{bound}
 use Rattle.index.specs.Meaning.{Entry}
 use Rattle.index.specs.Rules.{boundBefore}
 use Rattle.index.specs.Reading.{readIndex}
-use Rattle.index.proofs.Filling.{length-bound}
+use Rattle.index.proofs.Bounds.{length-bound}
 use Rattle.index_read.proofs.Stepping.{Standing, Stepped, Holding, holding-step}
 use Rattle.index_read.proofs.Entry.{held-front}
-use Rattle.role.specs.Opened.{openedOf}
-use Rattle.role.specs.declared.Opened.{Opened}
-use Rattle.role.specs.declared.Opened.the-variants as opened
 use Rattle.area.specs.Content.{dataIn, fill, recordsOf}
-use Rattle.area.specs.Soundness.{soundUsed, unsoundUsed, lowest}
-use Rattle.area_read.specs.Checked.{Closed, Counted}
+use Rattle.area.specs.Soundness.{unsoundUsed, lowest}
+use Rattle.area_read.specs.AidEntries.{Closed, Counted}
 use Rattle.area_read.specs.declared.Seen.{Seen}
 use Rattle.area_read.proofs.Lows.{lowest-met}
 
@@ -79,7 +80,7 @@ used-cons m area low e es = refl
 
 records-cons : (m : Measures) (area : List ℕ) (e : Entry) (es : List Entry)
     → length (recordsOf (fill m area (e ∷ es))) ≡ length (recordsIn (dataIn m area (e .num))) + length (recordsOf (fill m area es))
-unfolding recordsOf fill
+unfolding recordsOf
 records-cons m area e es = length-append (recordsIn (dataIn m area (e .num))) (recordsOf (fill m area es))
 
 lowest-pick : (b : Bool) (w k : ℕ) (ks : List ℕ) → lowest w (pick b ks (k ∷ ks)) ≡ lowest (pick b w (min k w)) ks
@@ -95,9 +96,11 @@ pub record Going (m : Measures) (n : ℕ) (area ib : List ℕ) (worst : ℕ) (bu
   pub ref : List ℕ
   pub standing : Standing 1 (m .key) n ib i right before ref
   pub holding : Holding (m .key) ref buf
-  pub lowers : lowest worst (unsoundUsed m area [] (readIndex 1 n ib .entries)) ≡ lowest low (unsoundUsed m area (boundBefore (m .key) [] (take i (readIndex 1 n ib .entries))) (drop i (readIndex 1 n ib .entries)))
+  pub lowers : lowest worst (unsoundUsed m area [] (readIndex 1 n ib .entries))
+      ≡ lowest low (unsoundUsed m area (boundBefore (m .key) [] (take i (readIndex 1 n ib .entries))) (drop i (readIndex 1 n ib .entries)))
   pub clean : unsoundUsed m area [] (readIndex 1 n ib .entries) ≡ [] → unsoundUsed m area (boundBefore (m .key) [] (take i (readIndex 1 n ib .entries))) (drop i (readIndex 1 n ib .entries)) ≡ []
-  pub counts : unsoundUsed m area [] (readIndex 1 n ib .entries) ≡ [] → length (recordsOf (fill m area (readIndex 1 n ib .entries))) ≡ records + length (recordsOf (fill m area (drop i (readIndex 1 n ib .entries))))
+  pub counts : unsoundUsed m area [] (readIndex 1 n ib .entries) ≡ []
+      → length (recordsOf (fill m area (readIndex 1 n ib .entries))) ≡ records + length (recordsOf (fill m area (drop i (readIndex 1 n ib .entries))))
   pub few : records ≤ 32768 * i
 
 module _ (m : Measures) (n : ℕ) (area ib : List ℕ) (worst : ℕ) where
@@ -111,7 +114,7 @@ module _ (m : Measures) (n : ℕ) (area ib : List ℕ) (worst : ℕ) where
   -- all entries seen
   pub arrived : (buf : List ℕ) (right before i low records : ℕ) → Going m n area ib worst buf right before i low records → length es ≤ i
       → (low ≡ lowest worst (unsoundUsed m area [] es)) × Counted m area [] es records
-  unfolding unsoundUsed lowest recordsOf fill
+  unfolding unsoundUsed lowest recordsOf
   arrived buf right before i low records g h =
       (sym (g .lowers ∙ rw (drop-of-length-le es)), λ (z : unsoundUsed m area [] es ≡ []). sym (g .counts z ∙ rw (drop-of-length-le es) (omega arith)))
 
@@ -134,20 +137,23 @@ module _ (m : Measures) (n : ℕ) (area ib : List ℕ) (worst : ℕ) where
         → new ≡ bound (m .key) (take f buf ++ part ib at l) ++ drop (m .key) buf
         → Going m n area ib worst new at (f + l) (i + 1) (pick ok low (min num low)) (records + count) × (length new ≡ length buf)
     onward new ok count e k c r =
-        let h = holding-step (m .key) (g .ref) buf ib new f l at (g .holding) (omega (arith, g .standing .long, g .standing .short)) (omega (arith, g .standing .long, s .good .front)) (s .good .fits) (s .inside) r in (
+        let h = holding-step (m .key) (g .ref) buf ib new f l at (g .holding) (omega (arith, g .standing .long, g .standing .short)) (omega (arith, g .standing .long, s .good .front))
+        (s .good .fits) (s .inside) r in (
           record {
             ref = sep;
             standing = rw (add-one i) (s .next);
             holding = h .0;
             lowers = g .lowers ∙ rw (split, add-one i) (lowest-pick ok low num (unsoundUsed m area (bound (m .key) sep) (drop (suc i) es)) ∙ rw bounds);
             clean = λ (z : unsoundUsed m area [] es ≡ []). rw (add-one i, bounds) (none z .1);
-            counts = λ (z : unsoundUsed m area [] es ≡ []). g .counts z ∙ rw (s .entry, add-one i) (omega (arith, records-cons m area (record { sep = sep; num = num }) (drop (suc i) es), k (none z .0)));
+            counts = λ (z : unsoundUsed m area [] es ≡ []). g .counts z ∙ rw (s .entry, add-one i)
+                (omega (arith, records-cons m area (record { sep = sep; num = num }) (drop (suc i) es), k (none z .0)));
             few = omega (arith, g .few, one-more);
           },
           h .1,
         )
       where
-        split : unsoundUsed m area (boundBefore (m .key) [] (take i es)) (drop i es) ≡ pick ok (unsoundUsed m area (bound (m .key) sep) (drop (suc i) es)) (num ∷ unsoundUsed m area (bound (m .key) sep) (drop (suc i) es))
+        split : unsoundUsed m area (boundBefore (m .key) [] (take i es)) (drop i es)
+            ≡ pick ok (unsoundUsed m area (bound (m .key) sep) (drop (suc i) es)) (num ∷ unsoundUsed m area (bound (m .key) sep) (drop (suc i) es))
         split = rw (s .entry, e) (used-cons m area (boundBefore (m .key) [] (take i es)) (record { sep = sep; num = num }) (drop (suc i) es))
 
         bounds : boundBefore (m .key) [] (take (suc i) es) ≡ bound (m .key) sep

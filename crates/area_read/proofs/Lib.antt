@@ -1,4 +1,3 @@
-pub mod Places
 pub mod Lows
 pub mod Entries
 pub mod Whole

@@ -8,12 +8,14 @@ use native.Mathlib.Omega.{arith}
 use borrow.Author.Tests.{ltb-true}
 use Rattle.fields.specs.Choice.{pick}
 use Rattle.fields.specs.Bytes.{number}
+use Rattle.fields.specs.Lists.{every}
 use Rattle.fields.proofs.Choices.{both-split}
 use Rattle.measures.specs.declared.Measures.{Measures}
+use Rattle.interval.specs.Role.{soundFree}
 use Rattle.index.specs.Meaning.{below}
 use Rattle.index.specs.Reading.{numbersAt}
 use Rattle.area.specs.Content.{dataIn}
-use Rattle.area.specs.Soundness.{soundFree, unsoundFree, lowest}
+use Rattle.area.specs.Soundness.{unsoundFree, lowest}
 
 -- one number met: it may be the lowest
 pub lowest-met : (n k : ℕ) (ks : List ℕ) → lowest n (k ∷ ks) ≡ lowest (min k n) ks
@@ -31,7 +33,7 @@ lowest-append n (x ∷ xs) ys = lowest-met n x (xs ++ ys) ∙ lowest-append (min
 
 -- none below n: then, of numbers that are below n, there is none at all
 pub none-low : (n w : ℕ) (ks : List ℕ) → below n ks ≡ true → n ≤ lowest w ks → ks ≡ []
-unfolding lowest below
+unfolding lowest every
 none-low n w [] b h = refl
 none-low n w (k ∷ ks) b h =
     let s = both-split (ltb k n) (below n ks) b in
@@ -68,7 +70,7 @@ free-none m area ib worst at = rw (numbers-none ib at) (unfold lowest unsoundFre
 -- the numbers that are left are below n
 pub below-first : (n : ℕ) (ib : List ℕ) (at left : ℕ) → 0 < left → below n (numbersAt 1 ib at left) ≡ true
     → (number 1 ib at < n) × (below n (numbersAt 1 ib (at + 1) (left - 1)) ≡ true)
-unfolding below
+unfolding every
 below-first n ib at left h b =
     let s = both-split (ltb (number 1 ib at) n) (below n (numbersAt 1 ib (at + 1) (left - 1))) (rw (numbers-more ib at left h) at b) in
     (ltb-true (number 1 ib at) n (s .0), s .1)

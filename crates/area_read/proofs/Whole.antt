@@ -8,19 +8,22 @@ use lib.Dec.{ltb}
 use native.Mathlib.Omega.{arith}
 use borrow.Author.Tests.{lt-ltb, le-ltb}
 use Rattle.fields.specs.Choice.{pick}
+use Rattle.fields.specs.Lists.{every}
 use Rattle.fields.proofs.Choices.{both-split}
 use Rattle.measures.specs.declared.Measures.{Measures}
+use Rattle.interval.specs.Role.{soundUsed}
 use Rattle.index.specs.Meaning.{Entry, Meaning, numbers, below}
 use Rattle.index.specs.Bounds.{bound}
 use Rattle.index.specs.Reading.{numbersAt, freeCount, readIndex, soundIndex}
 use Rattle.index.proofs.Sounding.{sound-below}
-use Rattle.index.proofs.Taking.{free-are}
-use Rattle.index_find.proofs.Free.{free-many, free-lie}
+use Rattle.index.proofs.Apart.{free-are}
+use Rattle.index.proofs.Free.{free-many, free-lie}
 use Rattle.area.specs.Content.{indexIn, dataIn}
-use Rattle.area.specs.Soundness.{soundUsed, unsoundFree, unsoundUsed, unsoundData, lowest}
+use Rattle.area.specs.Soundness.{unsoundFree, unsoundUsed, unsoundData, lowest}
 use Rattle.area.specs.Reading.{readArea}
-use Rattle.area_read.specs.Checked.{checkedOf, Counted}
-use Rattle.area_read.specs.declared.Checked.the-variants.{Intact, Damaged}
+use Rattle.area.specs.Checked.{checkedOf}
+use Rattle.area.specs.declared.Checked.the-variants.{Intact, Damaged}
+use Rattle.area_read.specs.AidEntries.{Counted}
 use Rattle.area_read.proofs.Lows.{lowest-append, none-low}
 
 -- the numbers of a sound record are below n
@@ -44,7 +47,7 @@ module _ (K n : ℕ) (ib : List ℕ) (h : soundIndex 1 K n [] [] ib ≡ true) wh
       }
 
 unsound-below : (m : Measures) (area low : List ℕ) (n : ℕ) (es : List Entry) → below n (numbers es) ≡ true → below n (unsoundUsed m area low es) ≡ true
-unfolding unsoundUsed below
+unfolding unsoundUsed every
 unsound-below m area low n [] h = refl
 unsound-below m area low n (e ∷ es) h =
     let s = both-split (ltb (e .num) n) (below n (numbers es)) h in

@@ -1,30 +1,25 @@
 // Whether a whole control area is sound: the index record, then every data interval in its role, in one pass in key order.
+ghost use Prim.Native.Nat.{_+_, _-_, _*_, _≤_, _<_, min};
 ghost use mathlib.Core.Path.{_≡_};
 ghost use mathlib.Core.Bool.{true, false};
 ghost use mathlib.Core.List.{[], _++_};
-ghost use Prim.Native.Nat.{_+_, _-_, _*_, _≤_, _<_, min};
-ghost use lib.ListN.{length, take, drop};
+ghost use lib.ListN.{length, drop};
 ghost use Rattle.fields.specs.Choice.{pick};
-ghost use Rattle.fields.specs.Bytes.{part};
-ghost use Rattle.index.specs.Bounds.{bound};
-ghost use Rattle.index.specs.Meaning.{below};
-ghost use Rattle.index.specs.Reading.{numbersAt, readIndex, soundIndex};
+ghost use Rattle.measures.specs.Judgement.{Fits};
 ghost use Rattle.interval.specs.Reading.{recordsIn};
-ghost use Rattle.role.specs.Opened.{Inside};
-ghost use Rattle.area.specs.Soundness.{soundUsed, unsoundFree, unsoundUsed, lowest};
+ghost use Rattle.interval.specs.Role.{soundUsed};
+ghost use Rattle.interval_read.specs.AidOpened.{Inside};
+ghost use Rattle.index.specs.Meaning.{below};
+ghost use Rattle.index.specs.Reading.{numbersAt, readIndex};
+ghost use Rattle.area.specs.Soundness.{unsoundFree, unsoundUsed, lowest};
 ghost use Rattle.area.specs.Reading.{readArea};
-ghost use Rattle.area_read.specs.Measured.{Measured};
-ghost use Rattle.area_read.specs.Checked.{checkedOf, Closed, Counted};
+ghost use Rattle.area.specs.Checked.{checkedOf};
+ghost use Rattle.area_read.specs.AidEntries.{Closed, Counted, EntryLies, EntriesSound, lowIn, highIn};
+use area::Checked;
 use index_read::Index;
 use index_read::Parsed;
+use interval_read::Opened;
 use measures::Measures;
-use role::Opened;
-
-// The answer of the check: how many records and free intervals, or where the damage is.
-pub enum Checked {
-    Intact { records: usize, free: usize },
-    Damaged { place: usize },
-}
 
 // An entry's interval as it was seen: sound in its role or not, and how many records it has.
 pub struct Seen {
@@ -50,7 +45,7 @@ pub(crate) fn noted(worst: usize, number: usize, ok: bool) -> usize
 
 // The lowest of the free intervals that are not empty and sound, or n.
 pub(crate) fn free_worst(area: &[u8], ib: &[u8], m: Measures, n: usize, free: usize) -> usize
-    requires { ⌜ Measured m n (now area) × (24 + free ≤ length (now ib)) × (below n (numbersAt 1 (now ib) 24 free) ≡ true) ⌝ }
+    requires { ⌜ Fits m n (length (now area)) × (24 + free ≤ length (now ib)) × (below n (numbersAt 1 (now ib) 24 free) ≡ true) ⌝ }
     ensures { λ r. ⌜ r ≡ lowest n (unsoundFree m (now (area .entry)) (numbersAt 1 (now (ib .entry)) 24 free)) ⌝ }
 {
     let mut worst = n;
@@ -60,7 +55,7 @@ pub(crate) fn free_worst(area: &[u8], ib: &[u8], m: Measures, n: usize, free: us
         let k = fields::read_pointer(ib, at, index_read::WIDTH);
         let a = (k + 1) * m.size;
         let e = a + m.size;
-        worst = noted(worst, k, role::free_sound(&area[a..e], m));
+        worst = noted(worst, k, interval_read::free_sound(&area[a..e], m));
         at += 1;
         left -= 1;
     }
@@ -74,7 +69,7 @@ pub(crate) fn closed(ci: &[u8], m: Measures, opened: Opened, high: &[u8]) -> See
 {
     match opened {
         Opened::Sound { count, last } => Seen {
-            ok: role::closes(ci, m, count, last, high),
+            ok: interval_read::closes(ci, m, count, last, high),
             count,
         },
         Opened::Bad => Seen {
@@ -95,13 +90,13 @@ pub(crate) fn entry_seen(
     at: usize,
     len: usize,
 ) -> Seen
-    requires { ⌜ (4 ≤ length (now ci)) × (length (now ci) ≤ 32768) × (1 ≤ m .key) × (m .offset + m .key ≤ m .least) × (m .key ≤ length (now buf)) × (front + len ≤ m .key) × (at + len ≤ length (now ib)) ⌝ }
-    ensures judged { λ r. ⌜ r .ok ≡ soundUsed m (pick first [] (take (m .key) (now (buf .entry)))) (bound (m .key) (take front (now (buf .entry)) ++ part (now (ib .entry)) at len)) (now (ci .entry)) ⌝ }
+    requires { ⌜ EntryLies m (now ci) (now buf) (now ib) front at len ⌝ }
+    ensures judged { λ r. ⌜ r .ok ≡ soundUsed m (lowIn m first (now (buf .entry))) (highIn m front (now (buf .entry)) (now (ib .entry)) at len) (now (ci .entry)) ⌝ }
     ensures counted { λ r. ⌜ (r .ok ≡ true → r .count ≡ length (recordsIn (now (ci .entry)))) × (r .count ≤ 32768) ⌝ }
-    ensures renewed { λ _. ⌜ now (buf .exit) ≡ bound (m .key) (take front (now (buf .entry)) ++ part (now (ib .entry)) at len) ++ drop (m .key) (now (buf .entry)) ⌝ }
+    ensures renewed { λ _. ⌜ now (buf .exit) ≡ highIn m front (now (buf .entry)) (now (ib .entry)) at len ++ drop (m .key) (now (buf .entry)) ⌝ }
 {
     let key = m.key;
-    let opened = role::opens(ci, m, first, &buf[..key]);
+    let opened = interval_read::opens(ci, m, first, &buf[..key]);
     index_read::renew(buf, front, ib, at, len, key);
     closed(ci, m, opened, &buf[..key])
 }
@@ -115,8 +110,9 @@ pub(crate) fn used_worst(
     worst: usize,
     entries: usize,
 ) -> Tally
-    requires { ⌜ Measured m n (now area) × (length (now ib) ≡ m .size) × (soundIndex 1 (m .key) n [] [] (now ib) ≡ true) × (entries ≡ length (readIndex 1 n (now ib) .entries)) ⌝ }
-    ensures { λ r. ⌜ (r .worst ≡ lowest worst (unsoundUsed m (now (area .entry)) [] (readIndex 1 n (now (ib .entry)) .entries))) × Counted m (now (area .entry)) [] (readIndex 1 n (now (ib .entry)) .entries) (r .records) ⌝ }
+    requires { ⌜ EntriesSound m n (now area) (now ib) entries ⌝ }
+    ensures lowest { λ r. ⌜ r .worst ≡ lowest worst (unsoundUsed m (now (area .entry)) [] (readIndex 1 n (now (ib .entry)) .entries)) ⌝ }
+    ensures counted { λ r. ⌜ Counted m (now (area .entry)) [] (readIndex 1 n (now (ib .entry)) .entries) (r .records) ⌝ }
 {
     let edge = fields::read_two(ib, 20);
     let mut buf = [255u8; 255];
@@ -155,7 +151,7 @@ pub(crate) fn used_worst(
 
 // The whole area: the index record first; data intervals are not looked at where it is unsound.
 pub fn check(area: &[u8], m: Measures, n: usize) -> Checked
-    requires { ⌜ Measured m n (now area) ⌝ }
+    requires { ⌜ Fits m n (length (now area)) ⌝ }
     ensures { λ r. ⌜ r ≡ checkedOf (readArea m n (now (area .entry))) ⌝ }
 {
     let size = m.size;

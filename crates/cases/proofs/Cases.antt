@@ -7,23 +7,20 @@ use lib.ListN.{length, drop, replicate}
 use lib.Dec.{eqb}
 use Rattle.fields.specs.Choice.{both}
 use Rattle.fields.specs.Bytes.{number, digits}
-use Rattle.fields.specs.Order.{common}
+use Rattle.fields.specs.Order.{common, orderOf}
 use Rattle.fields.specs.Table.{all, sameList}
-use Rattle.room.specs.Room.{sum, rdfCount, push, groups, need, fits}
-use Rattle.interval.specs.Records.{concat}
+use Rattle.fields.specs.Lists.{sum, concat, swap}
+use Rattle.room.specs.Room.{rdfCount, push, groups, need, fits}
 use Rattle.interval.specs.Layout.{groupBytes, groupsBytes, layout, form}
 use Rattle.interval.specs.Reading.{unusedField}
 use Rattle.index.specs.Bounds.{cutSeparator}
-use Rattle.index.specs.Meaning.{Entry}
+use Rattle.index.specs.Meaning.{Entry, entry}
 use Rattle.index.specs.Pieces.{piecesSize, lastChars}
 use Rattle.index.specs.Layout.{pieceBytes, piecesBytes, freeBytes, header, trailer}
 use Rattle.index.specs.Form.{packed, entriesSize, entrySize, indexSize, indexBytes}
 use Rattle.index.specs.Search.{leadsTo}
-use Rattle.fields.specs.Order.{orderOf}
-use Rattle.index.proofs.Inserting.{entry}
 use Rattle.index.proofs.Vectors.{meaning, has, counts as compressed}
-use Rattle.division.specs.Division.{gap, fitting, better, bestTo, bestCut, byCut, divisionOf, counts, parts}
-use Rattle.division.specs.Changed.{swap}
+use Rattle.division.specs.Division.{difference, fitting, better, bestTo, bestCut, byCut, divisionOf, counts, parts}
 
 -- records of these lengths, of any content
 abbrev records : List ℕ → List (List ℕ)
@@ -84,5 +81,7 @@ table =
 
 -- every case comes out as document 01 has it
 pub cases : table ≡ true
-unfolding table number digits orderOf common sum rdfCount push groups need fits concat groupBytes groupsBytes layout form cutSeparator piecesSize lastChars pieceBytes piecesBytes freeBytes header trailer packed entriesSize entrySize indexSize indexBytes Rattle.index.specs.Layout.layout leadsTo gap fitting better bestTo bestCut byCut divisionOf counts parts swap
+unfolding table number digits orderOf common sum rdfCount push groups need fits concat groupBytes groupsBytes layout form cutSeparator piecesSize lastChars
+    pieceBytes piecesBytes freeBytes header trailer packed entriesSize entrySize indexSize indexBytes Rattle.index.specs.Layout.layout leadsTo difference fitting
+    better bestTo bestCut byCut divisionOf counts parts swap
 cases = refl

@@ -8,12 +8,13 @@ use native.Mathlib.Omega.{arith}
 use native.Mathlib.Decide.{decLt}
 use borrow.Author.Tests.{eq-eqb, ne-eqb}
 use Rattle.fields.specs.Choice.{pick}
+use Rattle.fields.specs.Lists.{concat, swap}
 use Rattle.measures.specs.declared.Measures.{Measures}
-use Rattle.index_write.specs.Divided.{dividedAt}
-use Rattle.division.specs.Fewest.{joined}
+use Rattle.index.specs.Divided.{dividedAt}
+use Rattle.index.specs.Cuts.{separators}
 use Rattle.area.specs.Content.{Content, recordsOf, meaningOf}
-use Rattle.area.proofs.Filling.{recordsOf-append}
-use Rattle.change.specs.Parts.{Edit, divided, cutsOf, taken}
+use Rattle.area.proofs.Filled.{recordsOf-append}
+use Rattle.change.specs.Parts.{Edit, divided, taken}
 use Rattle.change.specs.Plan.{indexAfter}
 use Rattle.change.specs.Content.{filledWith, partedAt, contentAfter}
 use Rattle.change.specs.Places.{Counted}
@@ -24,7 +25,7 @@ use Rattle.change.proofs.Fitted.{one-to-three}
 pub after-meaning : (m : Measures) (c : Content) (e : Edit) → meaningOf (contentAfter m c e) ≡ indexAfter m c e
 after-meaning m c e = go (divided m (c .filled) e) (one-to-three m (c .filled) e .0)
   where
-    go : (ps : List (List (List ℕ))) → 1 ≤ length ps → meaningOf (partedAt m c (e .entry) ps) ≡ dividedAt (meaningOf c) (e .entry) (cutsOf m ps)
+    go : (ps : List (List (List ℕ))) → 1 ≤ length ps → meaningOf (partedAt m c (e .entry) ps) ≡ dividedAt (meaningOf c) (e .entry) (separators m ps)
     go [] h = absurd (omega arith)
     go (p ∷ ps) h = meaning-parted m c (e .entry) p ps
 
@@ -40,15 +41,15 @@ after-meaning-one m c e h = go (divided m (c .filled) e)
 
 -- The parts' records are the records of their entries.
 records-parts : (m : Measures) (free sep : List ℕ) (num : ℕ) (p : List (List ℕ)) (ps : List (List (List ℕ)))
-    → recordsOf (filledWith (cutsOf m (p ∷ ps) ++ (sep ∷ [])) (num ∷ taken (length ps) free) (p ∷ ps)) ≡ joined (p ∷ ps)
-unfolding recordsOf filledWith cutsOf taken joined
+    → recordsOf (filledWith (separators m (p ∷ ps) ++ (sep ∷ [])) (num ∷ taken (length ps) free) (p ∷ ps)) ≡ concat (p ∷ ps)
+unfolding recordsOf filledWith separators taken concat
 records-parts m free sep num p [] = refl
 records-parts m free sep num p (q ∷ ps) = ap (λ (x : List (List ℕ)). p ++ x) (records-parts m (take (length free - 1) free) sep (getD free (length free - 1) 0) q ps)
 
 -- The records after a change: those of the entries before, those of the parts, those of the entries after.
 pub records-parted : (m : Measures) (c : Content) (i : ℕ) (ps : List (List (List ℕ))) → 1 ≤ length ps
-    → recordsOf (partedAt m c i ps .filled) ≡ recordsOf (take i (c .filled)) ++ (joined ps ++ recordsOf (drop (i + 1) (c .filled)))
-unfolding partedAt
+    → recordsOf (partedAt m c i ps .filled) ≡ recordsOf (take i (c .filled)) ++ (concat ps ++ recordsOf (drop (i + 1) (c .filled)))
+unfolding partedAt swap
 records-parted m c i [] h = absurd (omega arith)
 records-parted m c i (p ∷ ps) h =
     let l : suc (length ps) - 1 ≡ length ps = omega arith in

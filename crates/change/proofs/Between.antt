@@ -9,17 +9,18 @@ use native.Mathlib.Omega.{arith}
 use Rattle.fields.specs.Choice.{no}
 use Rattle.fields.specs.Bytes.{Octets}
 use Rattle.fields.specs.Order.{less}
+use Rattle.fields.specs.Lists.{concat, every}
 use Rattle.fields.proofs.Choices.{both-split, both-join, no-true}
 use Rattle.fields.proofs.Orders.{less-asym, at-most}
 use Rattle.fields.proofs.Octets.{octets-nil, octets-take, octets-drop, octets-part}
+use Rattle.fields.proofs.Lists.{concat-append}
 use Rattle.measures.specs.declared.Measures.{Measures}
-use Rattle.interval.specs.Records.{concat, keyOf, keysOf, within, ascendFrom, ascending, above, upTo, lengthsFine}
-use Rattle.interval.proofs.Keys.{within-append, key-long, fine-at}
+use Rattle.interval.specs.Records.{keyOf, keysOf, within, ascendFrom, ascending, above, upTo, lengthsFine}
+use Rattle.interval.proofs.Lengths.{within-append, key-long, fine-at}
 use Rattle.interval.proofs.Ascending.{above-append, up-append, ascend-above}
 use Rattle.index.specs.Bounds.{bound, cutSeparator}
+use Rattle.index.specs.Cuts.{lastOf, firstOf}
 use Rattle.index.proofs.Cutting.{cut-below, cut-above}
-use Rattle.division.proofs.Changed.{concat-append}
-use Rattle.change.specs.Parts.{lastOf, firstOf}
 
 -- Records of bytes, with lengths that the measures allow; their keys strictly ascend, above the bound before and up to the bound after.
 pub record Between (m : Measures) (low high : List ℕ) (rs : List (List ℕ)) : Type 0 where
@@ -56,7 +57,7 @@ octets-at (r ∷ rs) zero o = octets-apart r (concat rs) o .0
 octets-at (r ∷ rs) (suc i) o = octets-at rs i (octets-apart r (concat rs) o .1)
 
 above-at : (m : Measures) (low : List ℕ) (rs : List (List ℕ)) (i : ℕ) → above low (keysOf m rs) ≡ true → i < length rs → less low (keyOf m (getD rs i [])) ≡ true
-unfolding above
+unfolding every
 above-at m low [] i a h = absurd (omega arith)
 above-at m low (r ∷ rs) zero a h = both-split (less low (keyOf m r)) (above low (keysOf m rs)) a .0
 above-at m low (r ∷ rs) (suc i) a h = above-at m low rs i (both-split (less low (keyOf m r)) (above low (keysOf m rs)) a .1) (omega arith)
@@ -78,7 +79,7 @@ over-cut m r (x ∷ p) q qs h =
 -- Ascending keys, the last of which is at most a bound, are all at most it.
 last-highest : (m : Measures) (high r : List ℕ) (p : List (List ℕ)) → ascendFrom (keyOf m r) (keysOf m p) ≡ true
     → less high (keyOf m (getD (r ∷ p) (length p) [])) ≡ false → (less high (keyOf m r) ≡ false) × (upTo high (keysOf m (r ∷ p)) ≡ true)
-unfolding ascendFrom upTo
+unfolding ascendFrom every
 last-highest m high r [] h l = (l, rw l)
 last-highest m high r (x ∷ p) h l =
     let s = both-split (less (keyOf m r) (keyOf m x)) (ascendFrom (keyOf m x) (keysOf m p)) h in
@@ -89,12 +90,12 @@ last-highest m high r (x ∷ p) h l =
 -- Ascending keys, the first of which is above a bound, are all above it.
 first-lowest : (m : Measures) (low q : List ℕ) (qs : List (List ℕ)) → ascendFrom (keyOf m q) (keysOf m qs) ≡ true → less low (keyOf m q) ≡ true
     → above low (keysOf m (q ∷ qs)) ≡ true
-unfolding above
+unfolding every
 first-lowest m low q qs h l =
     both-join (less low (keyOf m q)) (above low (keysOf m qs)) l (ascend-above (keyOf m q) low (keysOf m qs) h (less-asym low (keyOf m q) l))
 
 first-at-most : (m : Measures) (high q : List ℕ) (qs : List (List ℕ)) → upTo high (keysOf m (q ∷ qs)) ≡ true → less high (keyOf m q) ≡ false
-unfolding upTo
+unfolding every
 first-at-most m high q qs h = no-true (less high (keyOf m q)) (both-split (no (less high (keyOf m q))) (upTo high (keysOf m qs)) h .0)
 
 -- What a cut makes of records between two bounds: left of it they go up to the bound of its separator, right of it they lie above that.

@@ -6,25 +6,27 @@ use lib.ListN.{length, replicate}
 use native.Mathlib.Omega.{arith}
 use Rattle.fields.specs.Bytes.{Octets}
 use Rattle.fields.specs.Order.{orderOf, common}
+use Rattle.fields.specs.Lists.{sum, swap, every}
 use Rattle.fields.proofs.Octets.{octets-cons, octets-replicate}
-use Rattle.measures.specs.declared.Measures.{Measures}
+use Rattle.fields.proofs.Lists.{concat-one}
 use Rattle.measures.specs.Judgement.{measures}
-use Rattle.room.specs.Room.{sum, rdfCount, push, groups, need, fits}
-use Rattle.interval.specs.Records.{allWithin, ascendFrom, ascending, above, upTo}
+use Rattle.measures.specs.declared.Measures.{Measures}
+use Rattle.measures.proofs.Fine.{fits-small}
+use Rattle.room.specs.Room.{rdfCount, push, groups, need, fits}
+use Rattle.interval.specs.Records.{ascendFrom, ascending}
 use Rattle.index.specs.Bounds.{bound, cutSeparator}
 use Rattle.index.specs.Rules.{boundBefore}
 use Rattle.index.specs.Form.{entrySize, entriesSize, indexSize}
-use Rattle.index_write.specs.Divided.{partsOf, dividedAt}
-use Rattle.division.specs.Division.{gap, fitting, better, bestTo, bestCut, byCut, divisionOf, counts, parts, pieces}
-use Rattle.division.specs.Changed.{swap}
-use Rattle.division.proofs.Changed.{concat-one}
-use Rattle.area.specs.Content.{entriesOf}
+use Rattle.index.specs.Divided.{partsOf, dividedAt}
+use Rattle.index.specs.Cuts.{separators}
+use Rattle.division.specs.Division.{difference, fitting, better, bestTo, bestCut, byCut, divisionOf, counts, parts, pieces}
 use Rattle.area.specs.Reading.{whole, readArea}
 use Rattle.area.specs.Layout.{Lent, AreaLaidOut}
+use Rattle.area.specs.Example.{bytes, held, first, second}
 use Rattle.area.proofs.Laying.{area-never-damaged}
-use Rattle.area.proofs.Example.{bytes, held, first, second, some-lent, some-laid-out}
+use Rattle.area.proofs.Example.{some-lent, some-laid-out}
 use Rattle.change.specs.Stores.{stored}
-use Rattle.change.specs.Parts.{Edit, divided, cutsOf}
+use Rattle.change.specs.Parts.{Edit, divided}
 use Rattle.change.specs.Plan.{stores, storesOf, planOf}
 use Rattle.change.specs.Content.{contentAfter}
 use Rattle.change.specs.Fitting.{Fitting}
@@ -48,19 +50,25 @@ large-octets = octets-cons 0x42 (replicate 499 0) (omega arith) (octets-replicat
 
 wide-lent : Lent wide 2 bytes
 wide-lent =
+    let f = some-lent .fits in
     record {
       octets = some-lent .octets;
-      long = some-lent .long;
-      few = some-lent .few;
-      large = some-lent .large;
-      small = some-lent .small;
-      key-some = some-lent .key-some;
-      key-most = some-lent .key-most;
-      key-inside = some-lent .key-inside;
+      fits =
+          record {
+            permitted = f .permitted;
+            key-some = f .key-some;
+            key-most = f .key-most;
+            key-inside = f .key-inside;
+            least-inside = omega arith;
+            most-inside = omega arith;
+            bytes = f .bytes;
+            some = f .some;
+            few = f .few;
+          };
     }
 
 wide-laid : AreaLaidOut wide 2 bytes held
-unfolding allWithin
+unfolding every
 wide-laid =
     let u = some-laid-out .used .0 in
     record {
@@ -71,30 +79,32 @@ wide-laid =
 
 -- There is a fitting edit.
 pub some-fitting : Fitting wide 2 bytes held insertion
-unfolding allWithin swap entriesOf boundBefore bound orderOf ascending ascendFrom above upTo
+unfolding every swap boundBefore bound orderOf ascending ascendFrom
 some-fitting =
     record {
       lent = wide-lent;
-      most = omega arith;
-      reads = area-never-damaged wide bytes (omega arith) (wide-lent .small) 2 (wide-lent .few) held wide-laid;
-      entry = omega arith;
-      inside = omega arith;
-      one = omega arith;
-      octets = rw (concat-one large) large-octets;
-      lengths = refl;
-      ascend = refl;
-      after = refl;
-      within = refl;
+      reads = area-never-damaged wide bytes (omega arith) (fits-small (wide-lent .fits)) 2 (wide-lent .fits .few) held wide-laid;
+      proper =
+          record {
+            entry = omega arith;
+            inside = omega arith;
+            one = omega arith;
+            octets = rw (concat-one large) large-octets;
+            lengths = refl;
+            ascend = refl;
+            after = refl;
+            within = refl;
+          };
     }
 
 -- It divides into two,
 pub some-divided : divided wide (held .filled) insertion ≡ (first ∷ second ∷ []) ∷ (large ∷ []) ∷ []
-unfolding divided swap sum rdfCount push groups need fits gap fitting better bestTo bestCut byCut divisionOf counts parts pieces
+unfolding divided swap sum rdfCount push groups need fits difference fitting better bestTo bestCut byCut divisionOf counts parts pieces
 some-divided = refl
 
 -- and it is made.
 pub some-made : planOf wide held insertion ≡ stores (storesOf wide held insertion (divided wide (held .filled) insertion))
-unfolding cutsOf partsOf dividedAt entriesOf indexSize entriesSize entrySize common cutSeparator
+unfolding separators partsOf dividedAt indexSize entriesSize entrySize common cutSeparator swap
 some-made =
     make-stores wide held insertion
     (rw some-divided (omega arith), λ (h : 1 < length (divided wide (held .filled) insertion)). rw some-divided (omega arith))

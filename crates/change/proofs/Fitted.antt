@@ -6,15 +6,16 @@ use mathlib.Core.List.{List, [], _∷_, _++_, map}
 use lib.ListN.{length, take, drop, take-append-drop}
 use native.Mathlib.Omega.{arith}
 use Rattle.fields.specs.Bytes.{Octets}
+use Rattle.fields.specs.Lists.{concat, swap}
 use Rattle.fields.proofs.Octets.{octets-append}
+use Rattle.fields.proofs.Lists.{concat-append}
 use Rattle.measures.specs.declared.Measures.{Measures}
 use Rattle.room.specs.Room.{need}
-use Rattle.interval.specs.Records.{concat, allWithin, lengthsFine}
+use Rattle.interval.specs.Records.{allWithin, lengthsFine}
 use Rattle.interval.specs.Layout.{layout, LaidOut}
 use Rattle.interval.proofs.Form.{smallest}
-use Rattle.interval.proofs.Keys.{within-append, within-join}
-use Rattle.division.specs.Changed.{swap}
-use Rattle.division.proofs.Changed.{concat-append, swap-lengths}
+use Rattle.interval.proofs.Lengths.{within-append, within-join}
+use Rattle.interval.proofs.Changed.{swap-lengths}
 use Rattle.area.specs.Content.{Filled, Content, dataIn}
 use Rattle.area.specs.Layout.{UsedInterval, AreaLaidOut}
 use Rattle.area.proofs.Parts.{octets-data}
@@ -63,8 +64,8 @@ module _ (m : Measures) (n : ℕ) (area : List ℕ) (c : Content) (e : Edit) (f 
   fit-laid = area-only-laid-out m n area (f .lent) c (f .reads)
 
   -- The entry's interval is laid out between the bounds,
-  old-used : UsedInterval m (lowOf m c e) (highOf m c e) (old .records) (dataIn m area (old .num))
-  old-used = used-here m n area c fit-laid (e .entry) (f .entry)
+  old-used : UsedInterval m (lowOf m (c .filled) e) (highOf m (c .filled) e) (old .records) (dataIn m area (old .num))
+  old-used = used-here m n area c fit-laid (e .entry) (f .proper .entry)
 
   -- so its records fitted,
   pub old-fits : need (map length (old .records)) ≤ m .size
@@ -74,29 +75,30 @@ module _ (m : Measures) (n : ℕ) (area : List ℕ) (c : Content) (e : Edit) (f 
   old-octets = laid-octets (m .size) (old .records) (dataIn m area (old .num)) (old-used .laid) (octets-data m area (old .num) (f .lent .octets))
 
   -- and with the change made they lie between the bounds.
-  pub edited-between : Between m (lowOf m c e) (highOf m c e) (edited (c .filled) e)
+  pub edited-between : Between m (lowOf m (c .filled) e) (highOf m (c .filled) e) (edited (c .filled) e)
   edited-between =
       record {
-        octets = octets-swap (e .ordinal) (e .gone) (e .fresh) (old .records) (f .octets) old-octets;
-        lengths = fine-swap m (e .ordinal) (e .gone) (e .fresh) (old .records) (f .lengths) (old-used .lengths);
-        ascend = f .ascend;
-        after = f .after;
-        within = f .within;
+        octets = octets-swap (e .ordinal) (e .gone) (e .fresh) (old .records) (f .proper .octets) old-octets;
+        lengths = fine-swap m (e .ordinal) (e .gone) (e .fresh) (old .records) (f .proper .lengths) (old-used .lengths);
+        ascend = f .proper .ascend;
+        after = f .proper .after;
+        within = f .proper .within;
       }
 
   -- The prescribed parts are all of them in order, each is held, none is empty where there is a cut, and there are no fewer.
   pub edited-parting : Parting (m .size) (edited (c .filled) e) (divided m (c .filled) e)
   unfolding divided
-  edited-parting = change-parting (m .size) (e .ordinal) (e .gone) (old .records) old-fits (omega (arith, f .inside)) m (f .most) (e .fresh) (f .one) (f .lengths)
+  edited-parting = change-parting (m .size) (e .ordinal) (e .gone) (old .records) old-fits (omega (arith, f .proper .inside)) m (f .lent .fits .most-inside) (e .fresh)
+      (f .proper .one) (f .proper .lengths)
 
   -- So the parts lie between the bounds as well.
-  pub edited-ordered : Ordered m (lowOf m c e) (highOf m c e) (divided m (c .filled) e)
+  pub edited-ordered : Ordered m (lowOf m (c .filled) e) (highOf m (c .filled) e) (divided m (c .filled) e)
   edited-ordered = record { between = rw (edited-parting .whole) edited-between; filled = edited-parting .filled; held = edited-parting .held }
 
   -- Where no record comes in, there is one part.
   pub erased-one : e .fresh ≡ [] → divided m (c .filled) e ≡ edited (c .filled) e ∷ []
   unfolding divided
-  erased-one q = rw q (erase-one (m .size) (e .ordinal) (e .gone) (old .records) old-fits (omega (arith, f .inside)))
+  erased-one q = rw q (erase-one (m .size) (e .ordinal) (e .gone) (old .records) old-fits (omega (arith, f .proper .inside)))
 
 -- Whatever the edit, there is one part at least, and three at most.
 pub one-to-three : (m : Measures) (filled : List Filled) (e : Edit) → (1 ≤ length (divided m filled e)) × (length (divided m filled e) ≤ 3)

@@ -5,6 +5,7 @@ use mathlib.Core.Bool.{true}
 use mathlib.Core.List.{List, [], _∷_, _++_, List·Memᴰ, List·Memᴰ·head, List·Memᴰ·tail}
 use lib.ListN.{length, take, drop}
 use native.Mathlib.Omega.{arith}
+use Rattle.fields.specs.Lists.{swap}
 use Rattle.measures.specs.declared.Measures.{Measures}
 use Rattle.interval.specs.Records.{keyOf}
 use Rattle.interval.specs.Layout.{form}
@@ -12,6 +13,7 @@ use Rattle.index.specs.Bounds.{bound, cutSeparator}
 use Rattle.index.specs.Meaning.{numbers, namedOnce}
 use Rattle.index.specs.Rules.{keepsRules, boundBefore}
 use Rattle.index.specs.Layout.{LaidOut}
+use Rattle.index.specs.Cuts.{lastOf, firstOf, separators}
 use Rattle.index.proofs.Naming.{numbers-append}
 use Rattle.index.proofs.Keeping.{rules-apart}
 use Rattle.division.specs.Fewest.{Held}
@@ -19,8 +21,8 @@ use Rattle.division.proofs.Intervals.{held-form}
 use Rattle.area.specs.Content.{Filled, Content, indexIn, dataIn, entriesOf, meaningOf}
 use Rattle.area.specs.Reading.{width}
 use Rattle.area.specs.Layout.{FreeIntervals, UsedInterval, UsedIntervals, AreaLaidOut}
-use Rattle.area.proofs.Filling.{entriesOf-append}
-use Rattle.change.specs.Parts.{entryAt, lastOf, firstOf, cutsOf, taken}
+use Rattle.area.proofs.Filled.{entriesOf-append}
+use Rattle.change.specs.Parts.{entryAt, taken}
 use Rattle.change.specs.Content.{filledWith, partedAt}
 use Rattle.change.specs.Places.{AllWritten}
 use Rattle.change.proofs.Apart.{free-not-these, pre-not-these, post-not-these}
@@ -33,7 +35,7 @@ use Rattle.change.proofs.Indexing.{entry-split, entries-parts, numbers-
 -- Those of two lists of entries, the second from the last bound of the first on.
 pub used-append : (m : Measures) (area low : List ℕ) (xs ys : List Filled) → UsedIntervals m area low (xs ++ ys)
     → UsedIntervals m area low xs × UsedIntervals m area (boundBefore (m .key) low (entriesOf xs)) ys
-unfolding boundBefore entriesOf
+unfolding boundBefore
 used-append m area low [] ys u = (tt, u)
 used-append m area low (x ∷ xs) ys u =
     let r = used-append m area (bound (m .key) (x .sep)) xs ys (u .1) in
@@ -41,14 +43,13 @@ used-append m area low (x ∷ xs) ys u =
 
 pub used-join : (m : Measures) (area low : List ℕ) (xs ys : List Filled) → UsedIntervals m area low xs
     → UsedIntervals m area (boundBefore (m .key) low (entriesOf xs)) ys → UsedIntervals m area low (xs ++ ys)
-unfolding boundBefore entriesOf
+unfolding boundBefore
 used-join m area low [] ys u v = v
 used-join m area low (x ∷ xs) ys u v = (u .0, used-join m area (bound (m .key) (x .sep)) xs ys (u .1) v)
 
 -- In an area whose intervals with these numbers are the same they are laid out the same.
 pub used-other : (m : Measures) (area area' low : List ℕ) (fs : List Filled) → ((k : ℕ) → List·Memᴰ k (numbers (entriesOf fs)) → dataIn m area' k ≡ dataIn m area k)
     → UsedIntervals m area low fs → UsedIntervals m area' low fs
-unfolding entriesOf
 used-other m area area' low [] h u = tt
 used-other m area area' low (f ∷ fs) h u = (
   rw (h (f .num) (List·Memᴰ·head refl)) (u .0),
@@ -102,8 +103,8 @@ part-used m low high p ci e h b =
 -- Parts between two bounds, each written, are laid out under their separators, and what comes after them as before.
 pub parts-used : (m : Measures) (area low sep : List ℕ) → m .offset + m .key ≤ m .least → (post : List Filled) (num : ℕ) (ks : List ℕ)
     (p : List (List ℕ)) (ps : List (List (List ℕ))) → Ordered m low (bound (m .key) sep) (p ∷ ps) → AllWritten m area (num ∷ ks) (p ∷ ps) → UsedIntervals m area (bound (m .key) sep) post
-    → UsedIntervals m area low (filledWith (cutsOf m (p ∷ ps) ++ (sep ∷ [])) (num ∷ ks) (p ∷ ps) ++ post)
-unfolding cutsOf filledWith
+    → UsedIntervals m area low (filledWith (separators m (p ∷ ps) ++ (sep ∷ [])) (num ∷ ks) (p ∷ ps) ++ post)
+unfolding separators filledWith
 parts-used m area low sep inside post num [] p [] o w u =
     (part-used m low (bound (m .key) sep) p (dataIn m area num) (w .0) (o .held .0) (ordered-last m low (bound (m .key) sep) p o), u)
 parts-used m area low sep inside post num [] p (q ∷ ps) o w u = absurd (w .1)
@@ -126,7 +127,7 @@ module _ (m : Measures) (n : ℕ) (c : Content) (i : ℕ) (p : List (List ℕ)) 
   pub parts-named : namedOnce n
       (take (length (c .free) - length ps) (c .free) ++ (numbers (entriesOf (take i (c .filled))) ++ (these ++ numbers (entriesOf (drop (i + 1) (c .filled))))))
       ≡ true
-  unfolding partedAt
+  unfolding partedAt swap
   parts-named =
       let l : suc (length ps) - 1 ≡ length ps = omega arith in
       rw (l, entriesOf-append, entriesOf-append, entries-parts, numbers-append, numbers-append, numbers-parts)
@@ -139,7 +140,7 @@ module _ (m : Measures) (n : ℕ) (c : Content) (i : ℕ) (p : List (List ℕ)) 
       → LaidOut width (m .size) (meaningOf (partedAt m c i (p ∷ ps))) (indexIn m area') → AllWritten m area' these (p ∷ ps)
       → ((k : ℕ) → (List·Memᴰ k these → ⊥) → dataIn m area' k ≡ dataIn m area k)
       → AreaLaidOut m n area' (partedAt m c i (p ∷ ps))
-  unfolding partedAt
+  unfolding partedAt swap
   laid-parted area area' inside laid h o index w others =
       let l : suc (length ps) - 1 ≡ length ps = omega arith in
       record {
@@ -147,7 +148,7 @@ module _ (m : Measures) (n : ℕ) (c : Content) (i : ℕ) (p : List (List ℕ)) 
         free = rw l still-free;
         used =
             rw l
-            (used-join m area' [] pre (filledWith (cutsOf m (p ∷ ps) ++ (old .sep ∷ [])) these (p ∷ ps) ++ post) still-before
+            (used-join m area' [] pre (filledWith (separators m (p ∷ ps) ++ (old .sep ∷ [])) these (p ∷ ps) ++ post) still-before
             (parts-used m area' (boundBefore (m .key) [] (entriesOf pre)) (old .sep) inside post (old .num) (taken (length ps) (c .free)) p ps o w still-after));
       }
     where

@@ -8,7 +8,9 @@ use lib.Dec.{eqb, ltb}
 use native.Mathlib.Omega.{arith}
 use borrow.Author.Tests.{lt-ltb}
 use Rattle.fields.specs.Choice.{pick}
+use Rattle.fields.specs.Lists.{swap}
 use Rattle.measures.specs.declared.Measures.{Measures}
+use Rattle.measures.proofs.Fine.{fits-small}
 use Rattle.interval.specs.Layout.{form}
 use Rattle.index.specs.Form.{indexSize, indexBytes}
 use Rattle.division.specs.Fewest.{AllHeld, Fewest}
@@ -73,7 +75,7 @@ module _ (m : Measures) (n : ℕ) (area : List ℕ) (c : Content) (e : Edit) (f 
       later : List (List (List ℕ))
       are : divided m (c .filled) e ≡ first ∷ later
       enough : length later ≤ length (c .free)
-      ordered : Ordered m (lowOf m c e) (highOf m c e) (first ∷ later)
+      ordered : Ordered m (lowOf m (c .filled) e) (highOf m (c .filled) e) (first ∷ later)
       making : Making m n area c (e .entry) first later ss
       index : indexIn m (stored (m .size) area ss) ≡ pick (ltb 1 (length (first ∷ later))) (indexBytes width (m .size) (indexAfter m c e)) (indexIn m area)
       named : placesOf ss ≡ namedFor c (e .entry) (length (first ∷ later))
@@ -83,7 +85,7 @@ module _ (m : Measures) (n : ℕ) (area : List ℕ) (c : Content) (e : Edit) (f 
     parts : OfParts
     parts = go (divided m (c .filled) e) refl (edited-ordered m n area c e f)
       where
-        go : (ps : List (List (List ℕ))) → divided m (c .filled) e ≡ ps → Ordered m (lowOf m c e) (highOf m c e) ps → OfParts
+        go : (ps : List (List (List ℕ))) → divided m (c .filled) e ≡ ps → Ordered m (lowOf m (c .filled) e) (highOf m (c .filled) e) ps → OfParts
         go [] q o = absurd (omega (arith, one-to-three m (c .filled) e .0, ap length q))
         go (p ∷ []) q o =
             let s : ss ≡ storesOf m c e (p ∷ []) = planned m c e ss plan .1 ∙ ap (storesOf m c e) q in
@@ -93,8 +95,8 @@ module _ (m : Measures) (n : ℕ) (area : List ℕ) (c : Content) (e : Edit) (f 
               are = q;
               enough = omega arith;
               ordered = o;
-              making = rw s (making-one m n area (f .lent) c (fit-laid m n area c e f) (e .entry) (f .entry) p o);
-              index = rw s (one-index m n area (f .lent) c (fit-laid m n area c e f) (e .entry) (f .entry) p o);
+              making = rw s (making-one m n area (f .lent) c (fit-laid m n area c e f) (e .entry) (f .proper .entry) p o);
+              index = rw s (one-index m n area (f .lent) c (fit-laid m n area c e f) (e .entry) (f .proper .entry) p o);
               named = rw s;
               stays = λ (h : length (p ∷ []) ≡ 1). rw s;
               divides = λ (h : 1 < length (p ∷ [])). absurd (omega arith);
@@ -115,9 +117,9 @@ module _ (m : Measures) (n : ℕ) (area : List ℕ) (c : Content) (e : Edit) (f 
               are = q;
               enough = k;
               ordered = o;
-              making = rw s (making-more m n area (f .lent) c a (e .entry) (f .entry) p (r ∷ ps) k o (indexAfter m c e) x t);
-              index = rw (s, lt-ltb 1 (suc (suc (length ps))) (omega arith)) (more-index m n area (f .lent) c a (e .entry) (f .entry) p (r ∷ ps) k o (indexAfter m c e) x t);
-              named = rw (s, lt-ltb 1 (suc (suc (length ps))) (omega arith), z) (more-places m n area (f .lent) c a (e .entry) (f .entry) p (r ∷ ps) k o (indexAfter m c e) x t);
+              making = rw s (making-more m n area (f .lent) c a (e .entry) (f .proper .entry) p (r ∷ ps) k o (indexAfter m c e) x t);
+              index = rw (s, lt-ltb 1 (suc (suc (length ps))) (omega arith)) (more-index m n area (f .lent) c a (e .entry) (f .proper .entry) p (r ∷ ps) k o (indexAfter m c e) x t);
+              named = rw (s, lt-ltb 1 (suc (suc (length ps))) (omega arith), z) (more-places m n area (f .lent) c a (e .entry) (f .proper .entry) p (r ∷ ps) k o (indexAfter m c e) x t);
               stays = λ (h : length (p ∷ r ∷ ps) ≡ 1). absurd (omega arith);
               divides = λ (h : 1 < length (p ∷ r ∷ ps)). rw s (length-more (m .size) (taken (suc (length ps)) (c .free)) (r ∷ ps) _ _ (length-taken (suc (length ps)) (c .free)));
             }
@@ -128,12 +130,13 @@ module _ (m : Measures) (n : ℕ) (area : List ℕ) (c : Content) (e : Edit) (f 
         let a = fit-laid m n area c e f in
         let x = parts .making in
         rw (parts .are)
-        (laid-parted m n c (e .entry) (parts .first) (parts .later) (parted-rules m n area (f .lent) c a (e .entry) (f .entry) (parts .first) (parts .later) (parts .enough) (parts .ordered))
-        area (stored (m .size) area ss) (f .lent .key-inside) a (f .entry) (parts .ordered) (x .index) (x .written) (x .others))
+        (laid-parted m n c (e .entry) (parts .first) (parts .later) (parted-rules m n area (f .lent) c a (e .entry) (f .proper .entry) (parts .first) (parts .later) (parts .enough) (parts .ordered))
+        area (stored (m .size) area ss) (f .lent .fits .key-inside) a (f .proper .entry) (parts .ordered) (x .index) (x .written) (x .others))
 
     -- and so it is sound, and reads as that content.
     pub made-whole : readArea m n (stored (m .size) area ss) ≡ whole (contentAfter m c e)
-    made-whole = area-never-damaged m (stored (m .size) area ss) (omega (arith, f .lent .key-some, f .lent .key-inside)) (f .lent .small) n (f .lent .few) (contentAfter m c e) made-laid
+    made-whole = area-never-damaged m (stored (m .size) area ss) (omega (arith, f .lent .fits .key-some, f .lent .fits .key-inside)) (fits-small (f .lent .fits)) n
+        (f .lent .fits .few) (contentAfter m c e) made-laid
 
     -- It is still bytes, as many as before.
     pub made-lent : Lent m n (stored (m .size) area ss)
@@ -148,8 +151,8 @@ module _ (m : Measures) (n : ℕ) (area : List ℕ) (c : Content) (e : Edit) (f 
           named = p;
           inside = rw (← p) (places-inside (m .size) n ss (x .sized));
           apart = rw (← p) (x .apart);
-          there = stored-there (m .size) n area ss (f .lent .long) (x .sized) (x .apart);
-          others = rw (← p) (stored-other (m .size) n area ss (f .lent .long) (x .sized));
+          there = stored-there (m .size) n area ss (f .lent .fits .bytes) (x .sized) (x .apart);
+          others = rw (← p) (stored-other (m .size) n area ss (f .lent .fits .bytes) (x .sized));
         }
 
     -- Each part lies in its interval in the writer's form.
@@ -162,7 +165,7 @@ module _ (m : Measures) (n : ℕ) (area : List ℕ) (c : Content) (e : Edit) (f 
 
     -- One interval is written if there is one part, else two and one for each part but the first; the free ones fall by these.
     pub made-count : Counted (length (divided m (c .filled) e)) (length ss) (length (c .free)) (length (contentAfter m c e .free))
-    unfolding partedAt
+    unfolding partedAt swap
     made-count =
         let r = one-to-three m (c .filled) e in
         let l : length (divided m (c .filled) e) ≡ suc (length (parts .later)) = ap length (parts .are) in

@@ -6,22 +6,24 @@ use mathlib.Core.List.{List, [], _∷_, _++_, List·Memᴰ, List·Memᴰ·head, 
 use lib.ListN.{length, take, drop}
 use native.Mathlib.Omega.{arith}
 use native.Mathlib.Nat.{zero-mul}
+use Rattle.fields.specs.Lists.{swap}
 use Rattle.measures.specs.declared.Measures.{Measures}
+use Rattle.measures.proofs.Fine.{fits-small}
 use Rattle.interval.specs.Layout.{form}
 use Rattle.index.specs.Bounds.{bound}
 use Rattle.index.specs.Meaning.{Meaning, numbers}
 use Rattle.index.specs.Rules.{keepsRules, boundBefore}
 use Rattle.index.specs.Layout.{LaidOut}
 use Rattle.index.specs.Form.{indexSize, indexBytes}
+use Rattle.index.specs.Divided.{dividedAt}
 use Rattle.index.proofs.Keeping.{rules-apart}
 use Rattle.index.proofs.ReadsBack.{form-length, form-laid-out}
-use Rattle.index_write.specs.Divided.{dividedAt}
 use Rattle.area.specs.Content.{Filled, Content, indexIn, dataIn, entriesOf, meaningOf}
 use Rattle.area.specs.Reading.{width}
 use Rattle.area.specs.Layout.{Lent, AreaLaidOut}
 use Rattle.area.proofs.Parts.{octets-index}
 use Rattle.area.proofs.Laying.{index-read}
-use Rattle.area.proofs.Filling.{entries-take, entries-drop}
+use Rattle.area.proofs.Filled.{entries-take, entries-drop}
 use Rattle.change.specs.Stores.{Store, stored}
 use Rattle.change.specs.Parts.{entryAt, taken}
 use Rattle.change.specs.Plan.{takenStores}
@@ -55,20 +57,20 @@ module _ (m : Measures) (n : ℕ) (area : List ℕ) (lent : Lent m n area) (c : 
   high = bound (m .key) (old .sep)
 
   some : 1 ≤ m .least
-  some = omega (arith, lent .key-some, lent .key-inside)
+  some = omega (arith, lent .fits .key-some, lent .fits .key-inside)
 
   means-bytes : MeansBytes (meaningOf c)
   means-bytes =
-      rw (index-read m area some (lent .small) n (lent .few) (meaningOf c) (laid .index))
+      rw (index-read m area some (fits-small (lent .fits)) n (lent .fits .few) (meaningOf c) (laid .index))
       at (read-bytes 1 n (indexIn m area) (octets-index m area (lent .octets)))
 
   module _ (p : List (List ℕ)) (ps : List (List (List ℕ))) (enough : length ps ≤ length (c .free)) (o : Ordered m low high (p ∷ ps)) where
     -- The content with the parts keeps all rules of the index record.
     pub parted-rules : keepsRules (m .size) (m .key) n [] [] (meaningOf (partedAt m c i (p ∷ ps))) ≡ true
-    unfolding dividedAt
+    unfolding dividedAt swap
     parted-rules =
         rw (meaning-parted m c i p ps, length-cuts m p ps, ← entries-take, ← entries-drop, entriesOf-at)
-        (parts-keep m (m .size) n [] [] (c .kept) (c .spare) (lent .key-inside) (entriesOf (take i (c .filled))) (entryOf old)
+        (parts-keep m (m .size) n [] [] (c .kept) (c .spare) (lent .fits .key-inside) (entriesOf (take i (c .filled))) (entryOf old)
         (entriesOf (drop (i + 1) (c .filled))) (c .free) p ps enough o
         (rw (entries-around c i h) at (laid .index .rules)))
 
@@ -104,10 +106,10 @@ module _ (m : Measures) (n : ℕ) (area : List ℕ) (lent : Lent m n area) (c : 
       new-rules = rw means at parted-rules
 
       new-bytes : MeansBytes ix
-      new-bytes = rw means at (parted-bytes m c i h (lent .key-inside) low high p ps o means-bytes)
+      new-bytes = rw means at (parted-bytes m c i h (lent .fits .key-inside) low high p ps o means-bytes)
 
       twelve : length (ix .kept) ≡ 12
-      unfolding partedAt
+      unfolding partedAt swap
       twelve = ap (λ (x : Meaning). length (x .kept)) (sym means) ∙ laid .index .laid .twelve
 
       -- It is stored as one interval of bytes, laid out with the new meaning.
@@ -116,11 +118,11 @@ module _ (m : Measures) (n : ℕ) (area : List ℕ) (lent : Lent m n area) (c : 
           record {
             inside = omega arith;
             size = form-length width (m .size) ix twelve room;
-            octets = index-octets (m .size) (m .key) [] ix (lent .key-most) (rules-apart (m .size) (m .key) n [] [] ix new-rules .rising) new-bytes;
+            octets = index-octets (m .size) (m .key) [] ix (lent .fits .key-most) (rules-apart (m .size) (m .key) n [] [] ix new-rules .rising) new-bytes;
           }
 
       index-laid : LaidOut width (m .size) ix (indexBytes width (m .size) ix)
-      index-laid = form-laid-out width (m .size) ix twelve room (m .key) n [] [] (lent .key-most) new-rules
+      index-laid = form-laid-out width (m .size) ix twelve room (m .key) n [] [] (lent .fits .key-most) new-rules
 
   -- ---- one part
 
@@ -134,7 +136,7 @@ module _ (m : Measures) (n : ℕ) (area : List ℕ) (lent : Lent m n area) (c : 
     pub one-index : indexIn m (stored (m .size) area oneStore) ≡ indexIn m area
     one-index =
         rw (zero-mul (m .size))
-        at (stored-other (m .size) n area oneStore (lent .long) one-sized 0 (λ (j : List·Memᴰ 0 ((old .num + 1) ∷ [])). not-first (old .num) j))
+        at (stored-other (m .size) n area oneStore (lent .fits .bytes) one-sized 0 (λ (j : List·Memᴰ 0 ((old .num + 1) ∷ [])). not-first (old .num) j))
 
     -- Where the records stay, the old interval alone is stored.
     pub making-one : Making m n area c i p [] oneStore
@@ -144,8 +146,8 @@ module _ (m : Measures) (n : ℕ) (area : List ℕ) (lent : Lent m n area) (c : 
           sized = one-sized;
           apart = (λ (j : List·Memᴰ (old .num + 1) []). List·Memᴰ·not-nil j, tt);
           index = rw (meaning-one c i h m p, one-index) (laid .index .laid);
-          written = (stored-there (m .size) n area oneStore (lent .long) one-sized (λ (j : List·Memᴰ (old .num + 1) []). List·Memᴰ·not-nil j, tt) .0, tt);
-          others = λ (k : ℕ) (d : List·Memᴰ k (old .num ∷ []) → ⊥). stored-other (m .size) n area oneStore (lent .long) one-sized (k + 1)
+          written = (stored-there (m .size) n area oneStore (lent .fits .bytes) one-sized (λ (j : List·Memᴰ (old .num + 1) []). List·Memᴰ·not-nil j, tt) .0, tt);
+          others = λ (k : ℕ) (d : List·Memᴰ k (old .num ∷ []) → ⊥). stored-other (m .size) n area oneStore (lent .fits .bytes) one-sized (k + 1)
               (λ (j : List·Memᴰ (k + 1) ((old .num + 1) ∷ [])). d (among-one k (old .num) j));
         }
 
@@ -178,7 +180,7 @@ module _ (m : Measures) (n : ℕ) (area : List ℕ) (lent : Lent m n area) (c : 
 
     more-there : AllThere (m .size) area' (takenStores (m .size) ks ps)
         × AllThere (m .size) area' (record { at = 0; bytes = indexBytes width (m .size) ix } ∷ record { at = old .num + 1; bytes = form (m .size) p } ∷ [])
-    more-there = there-append (m .size) area' (takenStores (m .size) ks ps) _ (stored-there (m .size) n area moreStores (lent .long) more-sized more-apart)
+    more-there = there-append (m .size) area' (takenStores (m .size) ks ps) _ (stored-there (m .size) n area moreStores (lent .fits .bytes) more-sized more-apart)
 
     pub more-index : indexIn m area' ≡ indexBytes width (m .size) ix
     more-index = rw (zero-mul (m .size)) at (more-there .1 .0)
@@ -191,6 +193,6 @@ module _ (m : Measures) (n : ℕ) (area : List ℕ) (lent : Lent m n area) (c : 
           apart = more-apart;
           index = rw (means, more-index) (index-laid p ps enough o ix means room);
           written = (more-there .1 .1 .0, taken-written m area' ks ps (length-taken (length ps) (c .free)) (more-there .0));
-          others = λ (k : ℕ) (d : List·Memᴰ k (old .num ∷ ks) → ⊥). stored-other (m .size) n area moreStores (lent .long) more-sized (k + 1)
+          others = λ (k : ℕ) (d : List·Memᴰ k (old .num ∷ ks) → ⊥). stored-other (m .size) n area moreStores (lent .fits .bytes) more-sized (k + 1)
               (λ (j : List·Memᴰ (k + 1) (placesOf moreStores)). d (among-places k (old .num) ks (rw more-places at j)));
         }

@@ -5,19 +5,20 @@ use mathlib.Core.Bool.{true}
 use mathlib.Core.List.{List, [], _∷_, map}
 use lib.ListN.{length, getD, length-map}
 use native.Mathlib.Omega.{arith}
+use Rattle.fields.specs.Lists.{concat, swap}
+use Rattle.fields.proofs.Lists.{concat-one}
 use Rattle.measures.specs.declared.Measures.{Measures}
 use Rattle.room.specs.Room.{need}
 use Rattle.interval.specs.Records.{keyOf, lengthsFine}
-use Rattle.interval.proofs.Keys.{within-high}
+use Rattle.interval.proofs.Lengths.{within-high}
 use Rattle.index.specs.Bounds.{bound, cutSeparator}
+use Rattle.index.specs.Cuts.{lastOf, firstOf}
 use Rattle.division.specs.Division.{divisionOf, counts, parts, pieces}
-use Rattle.division.specs.Fewest.{joined, AllHeld, Fewest}
-use Rattle.division.specs.Changed.{swap}
+use Rattle.division.specs.Fewest.{AllHeld, Fewest}
 use Rattle.division.specs.declared.Division.{Division}
 use Rattle.division.specs.declared.Division.the-variants.{Stays, Two, Three}
-use Rattle.division.proofs.Spreads.{joined-1, pieces-1}
+use Rattle.division.proofs.Spreads.{pieces-1}
 use Rattle.division.proofs.Intervals.{LaidOver, need-held, length-pieces, change-laid, erase-fits, erase-laid}
-use Rattle.change.specs.Parts.{lastOf, firstOf}
 use Rattle.change.proofs.Between.{Between, Cut, cut-between}
 
 -- no part is empty where there is a cut; a single one may be
@@ -28,7 +29,7 @@ CutsFilled (p ∷ q ∷ ps) = (0 < length p) × (0 < length q) × CutsFilled (q 
 
 -- What the parts of some records are.
 pub record Parting (S : ℕ) (rs : List (List ℕ)) (ps : List (List (List ℕ))) : Type 0 where
-  pub whole : joined ps ≡ rs
+  pub whole : concat ps ≡ rs
   pub filled : CutsFilled ps
   pub held : AllHeld S ps
   pub fewest : Fewest S rs (length ps)
@@ -82,7 +83,7 @@ module _ (S k c : ℕ) (rs : List (List ℕ)) (fit : need (map length rs) ≤ S)
   change-parting m most [] o f =
       rw erase-one
       (record {
-        whole = joined-1 (swap k c [] rs);
+        whole = concat-one (swap k c [] rs);
         filled = tt;
         held = (need-held S (swap k c [] rs) (erase-fits S k c rs fit), tt);
         fewest = erase-laid S k c rs fit .1;
@@ -96,20 +97,20 @@ module _ (S k c : ℕ) (rs : List (List ℕ)) (fit : need (map length rs) ≤ S)
 
 -- Parts that are held, whose records lie between two bounds.
 pub record Ordered (m : Measures) (low high : List ℕ) (ps : List (List (List ℕ))) : Type 0 where
-  pub between : Between m low high (joined ps)
+  pub between : Between m low high (concat ps)
   pub filled : CutsFilled ps
   pub held : AllHeld (m .size) ps
 
 module _ (m : Measures) (low high : List ℕ) where
   -- The last of them lies between the bounds.
   pub ordered-last : (p : List (List ℕ)) → Ordered m low high (p ∷ []) → Between m low high p
-  ordered-last p o = rw (joined-1 p) at (o .between)
+  ordered-last p o = rw (concat-one p) at (o .between)
 
   module _ (inside : m .offset + m .key ≤ m .least) (p q : List (List ℕ)) (ps : List (List (List ℕ))) (o : Ordered m low high (p ∷ q ∷ ps)) where
     -- The first of several is cut from the others,
-    pub ordered-cut : Cut m low high (keyOf m (lastOf p)) (keyOf m (firstOf q)) p (joined (q ∷ ps))
-    unfolding joined
-    ordered-cut = cut-between m low high inside p q (joined ps) (o .filled .0) (o .filled .1) (o .between)
+    pub ordered-cut : Cut m low high (keyOf m (lastOf p)) (keyOf m (firstOf q)) p (concat (q ∷ ps))
+    unfolding concat
+    ordered-cut = cut-between m low high inside p q (concat ps) (o .filled .0) (o .filled .1) (o .between)
 
     -- which lie between the bound of that cut and the one after.
     pub ordered-rest : Ordered m (bound (m .key) (cutSeparator (keyOf m (lastOf p)) (keyOf m (firstOf q)))) high (q ∷ ps)

@@ -106,7 +106,7 @@ module _ (S n : ℕ) where
 -- An area that was lent as the laws ask still is, whatever whole intervals of bytes were stored.
 pub stored-lent : (m : Measures) (n : ℕ) (area : List ℕ) (ss : List Store) → Lent m n area → AllSized (m .size) n ss → Lent m n (stored (m .size) area ss)
 stored-lent m n area ss lent z =
-    lent-other m n area (stored (m .size) area ss) lent (stored-octets (m .size) n area ss (lent .octets) z) (stored-length (m .size) n area ss (lent .long) z ∙ sym (lent .long))
+    lent-other m n area (stored (m .size) area ss) lent (stored-octets (m .size) n area ss (lent .octets) z) (stored-length (m .size) n area ss (lent .fits .bytes) z ∙ sym (lent .fits .bytes))
 
 -- Some stores, then others.
 pub stored-append : (S : ℕ) (area : List ℕ) (xs ys : List Store) → stored S area (xs ++ ys) ≡ stored S (stored S area xs) ys

@@ -1,28 +1,28 @@
 -- The stores that a change makes: which intervals they name, that no interval is named twice, and what they leave there.
 use Prim.Native.Nat.{ℕ, _+_, _<_, zero, suc, _-_, _≤_}
 use mathlib.Core.Path.{_≡_, refl, sym}
+use mathlib.Core.Bool.{true}
 use mathlib.Core.List.{List, [], _∷_, _++_, List·Memᴰ, List·Memᴰ·head, List·Memᴰ·tail, List·Memᴰ·not-nil, List·Memᴰ·cases-cons, List·Memᴰ·eq-of-singleton}
 use mathlib.Core.Logic.{⊎-elim}
 use lib.ListN.{length, length-append, getD, take}
-use native.Mathlib.Omega.{arith}
-use mathlib.Core.Bool.{true}
 use lib.Seq.{length-take-le}
+use native.Mathlib.Omega.{arith}
 use borrow.Author.Tests.{lt-ltb}
 use Rattle.fields.specs.Bytes.{Octets}
+use Rattle.fields.specs.Lists.{concat, every}
 use Rattle.measures.specs.declared.Measures.{Measures}
-use Rattle.interval.specs.Records.{concat}
 use Rattle.interval.specs.Layout.{form}
 use Rattle.interval.proofs.Form.{length-form, form-octets}
 use Rattle.index.specs.Meaning.{below}
 use Rattle.index.proofs.Counting.{below-at, below-take}
-use Rattle.division.specs.Fewest.{joined, Held, AllHeld}
+use Rattle.division.specs.Fewest.{Held, AllHeld}
 use Rattle.division.proofs.Intervals.{held-need}
 use Rattle.change.specs.Stores.{Store}
 use Rattle.change.specs.Plan.{takenStores}
 use Rattle.change.specs.Places.{placesOf, Apart, AllThere, AllWritten, nexts}
+use Rattle.change.specs.Parts.{taken}
 use Rattle.change.proofs.Between.{concat-octets}
 use Rattle.change.proofs.Storing.{Sized, AllSized}
-use Rattle.change.specs.Parts.{taken}
 
 -- ---- where they stand
 
@@ -48,7 +48,7 @@ length-more S ks ps a b e = omega (arith, length-append (takenStores S ks ps) (a
 
 -- The numbers taken are below n.
 pub taken-below : (n k : ℕ) (free : List ℕ) → below n free ≡ true → k ≤ length free → below n (taken k free) ≡ true
-unfolding below taken
+unfolding every taken
 taken-below n zero free h l = refl
 taken-below n (suc k) free h l =
     let a : getD free (length free - 1) 0 < n = below-at n free (length free - 1) h (omega arith) in
@@ -91,11 +91,11 @@ abbrev pub AllBytes : List (List (List ℕ)) → Type 0
 AllBytes [] = Unit {0}
 AllBytes (p ∷ ps) = Octets (concat p) × AllBytes ps
 
-pub parts-bytes : (ps : List (List (List ℕ))) → Octets (concat (joined ps)) → AllBytes ps
-unfolding joined
+pub parts-bytes : (ps : List (List (List ℕ))) → Octets (concat (concat ps)) → AllBytes ps
+unfolding concat
 parts-bytes [] o = tt
 parts-bytes (p ∷ ps) o =
-    let s = concat-octets p (joined ps) o in
+    let s = concat-octets p (concat ps) o in
     (s .0, parts-bytes ps (s .1))
 
 -- A part that is held is stored as one interval of bytes.

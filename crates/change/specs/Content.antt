@@ -1,10 +1,13 @@
 -- What an area holds after a change that is made: document 01, 'Dividing an interval'.
 use Prim.Native.Nat.{ℕ, _+_, _-_}
 use mathlib.Core.List.{List, [], _∷_, _++_}
-use lib.ListN.{length, take, drop}
+use lib.ListN.{length}
+use Rattle.fields.specs.Lists.{swap}
 use Rattle.measures.specs.declared.Measures.{Measures}
+use Rattle.index.specs.Cuts.{separators}
+use Rattle.index.specs.Divided.{freeAfter}
 use Rattle.area.specs.Content.{Filled, Content}
-use Rattle.change.specs.Parts.{Edit, entryAt, divided, cutsOf, taken}
+use Rattle.change.specs.Parts.{Edit, entryAt, divided, taken}
 
 -- entries one after another, with these separators, numbers and records
 unfoldable pub filledWith : List (List ℕ) → List ℕ → List (List (List ℕ)) → List Filled
@@ -16,7 +19,7 @@ filledWith (s ∷ seps) (k ∷ nums) [] = []
 -- The entries that the parts of an entry make. Each but the last has the separator of the cut after it, the last the old one. The first keeps the old
 -- number, each later one has the free number that it takes.
 abbrev pub partsFilled : Measures → List ℕ → Filled → List (List (List ℕ)) → List Filled
-partsFilled m free f ps = filledWith (cutsOf m ps ++ (f .sep ∷ [])) (f .num ∷ taken (length ps - 1) free) ps
+partsFilled m free f ps = filledWith (separators m ps ++ (f .sep ∷ [])) (f .num ∷ taken (length ps - 1) free) ps
 
 -- The content in which entry i (counted from 0) has given way to these parts: the free numbers that they take are free no longer, all else is as it was.
 unfoldable pub partedAt : Measures → Content → ℕ → List (List (List ℕ)) → Content
@@ -24,8 +27,8 @@ partedAt m c i ps =
     record {
       kept = c .kept;
       spare = c .spare;
-      free = take (length (c .free) - (length ps - 1)) (c .free);
-      filled = take i (c .filled) ++ (partsFilled m (c .free) (entryAt (c .filled) i) ps ++ drop (i + 1) (c .filled));
+      free = freeAfter (length ps - 1) (c .free);
+      filled = swap i 1 (partsFilled m (c .free) (entryAt (c .filled) i) ps) (c .filled);
     }
 
 -- and that is what a change leaves, with the parts that the rules of division prescribe

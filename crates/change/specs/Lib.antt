@@ -4,3 +4,4 @@ pub mod Plan
 pub mod Content
 pub mod Fitting
 pub mod Places
+pub mod Wants

@@ -2,11 +2,9 @@
 use Prim.Native.Nat.{ℕ, zero, suc, _-_}
 use mathlib.Core.List.{List, [], _∷_, map}
 use lib.ListN.{length, getD, take}
+use Rattle.fields.specs.Lists.{swap}
 use Rattle.measures.specs.declared.Measures.{Measures}
-use Rattle.interval.specs.Records.{keyOf}
-use Rattle.index.specs.Bounds.{cutSeparator}
 use Rattle.division.specs.Division.{parts, pieces}
-use Rattle.division.specs.Changed.{swap}
 use Rattle.area.specs.Content.{Filled}
 
 -- One change of one interval: `gone` records from the ordinal on make way for the fresh ones.
@@ -28,19 +26,6 @@ edited filled e = swap (e .ordinal) (e .gone) (e .fresh) (entryAt filled (e .ent
 -- and as they are divided; the changed record is the one at the ordinal
 unfoldable pub divided : Measures → List Filled → Edit → List (List (List ℕ))
 divided m filled e = pieces (parts (m .size) (map length (edited filled e)) (e .ordinal)) (edited filled e)
-
--- the last and the first record of a part
-abbrev pub lastOf : List (List ℕ) → List ℕ
-lastOf rs = getD rs (length rs - 1) []
-
-abbrev pub firstOf : List (List ℕ) → List ℕ
-firstOf rs = getD rs 0 []
-
--- at each cut the last key left of it, up to and with the first byte in which it differs from the first key right of it
-unfoldable pub cutsOf : Measures → List (List (List ℕ)) → List (List ℕ)
-cutsOf m [] = []
-cutsOf m (p ∷ []) = []
-cutsOf m (p ∷ q ∷ ps) = cutSeparator (keyOf m (lastOf p)) (keyOf m (firstOf q)) ∷ cutsOf m (q ∷ ps)
 
 -- the rightmost k free numbers, the rightmost first
 unfoldable pub taken : ℕ → List ℕ → List ℕ

@@ -1,7 +1,8 @@
--- Which intervals a change stores, what it leaves there, and how many it writes.
+-- Which intervals a change stores, what it leaves there, and how many it writes: document 01, 'Dividing an interval' and 'What each number tells the
+-- depot', number 0.
 use Prim.Native.Nat.{ℕ, _+_, _-_, _*_, _≤_, _<_}
 use mathlib.Core.Path.{_≡_}
-use mathlib.Core.List.{List, [], _∷_, _++_, List·Memᴰ}
+use mathlib.Core.List.{List, [], _∷_, _++_, List·Memᴰ, map}
 use lib.Dec.{ltb}
 use Rattle.fields.specs.Choice.{pick}
 use Rattle.fields.specs.Bytes.{part}
@@ -15,8 +16,7 @@ use Rattle.change.specs.Parts.{entryAt, taken}
 
 -- the places in the buffer that are stored
 abbrev pub placesOf : List Store → List ℕ
-placesOf [] = []
-placesOf (s ∷ ss) = s .at ∷ placesOf ss
+placesOf ss = map (λ (s : Store). s .at) ss
 
 -- no number of the list stands in it twice
 abbrev pub Apart : List ℕ → Type 0
@@ -39,8 +39,7 @@ AllWritten m area (k ∷ ks) (p ∷ ps) = (dataIn m area k ≡ form (m .size) p)
 
 -- the place in the buffer of each of these data intervals
 abbrev pub nexts : List ℕ → List ℕ
-nexts [] = []
-nexts (k ∷ ks) = (k + 1) ∷ nexts ks
+nexts ks = map (λ (k : ℕ). k + 1) ks
 
 -- The old interval; and where there are several parts, those taken and the index record besides. i is the entry, counted from 0.
 abbrev pub namedFor : Content → ℕ → ℕ → List ℕ

@@ -1,18 +1,19 @@
--- What a change comes to: refusal 6, refusal 7, or the stores that make it.
+-- What a change comes to: refusal 6, refusal 7, or the stores that make it: document 01, 'Dividing an interval' and 'What each number tells the depot'.
 use Prim.Native.Nat.{ℕ, _+_, _-_}
 use mathlib.Core.List.{List, [], _∷_, _++_}
 use lib.ListN.{length}
 use lib.Dec.{ltb}
-use Rattle.fields.specs.Choice.{pick}
+use Rattle.fields.specs.Choice.{pick, both}
 use Rattle.measures.specs.declared.Measures.{Measures}
 use Rattle.interval.specs.Layout.{form}
 use Rattle.index.specs.Meaning.{Meaning}
 use Rattle.index.specs.Form.{indexSize, indexBytes}
-use Rattle.index_write.specs.Divided.{dividedAt}
+use Rattle.index.specs.Divided.{dividedAt}
+use Rattle.index.specs.Cuts.{separators}
 use Rattle.area.specs.Content.{Content, meaningOf}
 use Rattle.area.specs.Reading.{width}
 use Rattle.change.specs.Stores.{Store}
-use Rattle.change.specs.Parts.{Edit, entryAt, divided, cutsOf, taken}
+use Rattle.change.specs.Parts.{Edit, entryAt, divided, taken}
 
 pub data Plan : Type 0 where
   noInterval : Plan
@@ -21,7 +22,7 @@ pub data Plan : Type 0 where
 
 -- the index record's meaning after the division
 abbrev pub indexAfter : Measures → Content → Edit → Meaning
-indexAfter m c e = dividedAt (meaningOf c) (e .entry) (cutsOf m (divided m (c .filled) e))
+indexAfter m c e = dividedAt (meaningOf c) (e .entry) (separators m (divided m (c .filled) e))
 
 -- the later parts go into the intervals taken, in the order of the parts
 unfoldable pub takenStores : ℕ → List ℕ → List (List (List ℕ)) → List Store
@@ -42,7 +43,6 @@ storesOf m c e (p ∷ q ∷ ps) =
 -- 6: the division needs more intervals, besides the old one, than are free. 7: it divides, and the index record would need more than S - 7 bytes.
 unfoldable pub planOf : Measures → Content → Edit → Plan
 planOf m c e =
-    pick (ltb (length (c .free)) (length (divided m (c .filled) e) - 1)) noInterval
-    (pick (ltb 1 (length (divided m (c .filled) e)))
-    (pick (ltb (m .size - 7) (indexSize width (indexAfter m c e))) noRoom (stores (storesOf m c e (divided m (c .filled) e))))
-    (stores (storesOf m c e (divided m (c .filled) e))))
+    let parts = divided m (c .filled) e in
+    pick (ltb (length (c .free)) (length parts - 1)) noInterval
+    (pick (both (ltb 1 (length parts)) (ltb (m .size - 7) (indexSize width (indexAfter m c e)))) noRoom (stores (storesOf m c e parts)))

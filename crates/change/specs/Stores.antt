@@ -1,4 +1,5 @@
--- A change is a list of stores, each of one whole interval; the area afterwards is the stores put in one after another.
+-- A change is a list of stores, each of one whole interval; the area afterwards is the stores put in one after another: document 01, 'Dividing an
+-- interval'.
 use Prim.Native.Nat.{ℕ, _*_}
 use mathlib.Core.List.{List, [], _∷_}
 use Rattle.fields.specs.Bytes.{splice}

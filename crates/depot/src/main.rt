@@ -4,7 +4,7 @@ mod files;
 mod print;
 mod serve;
 
-use answers::Answer;
+use requests::Answer;
 
 // How the depot's areas are measured: intervals of 512 bytes, keys of 8 bytes at the front of records of at most 60.
 fn check(area: &[u8]) -> Answer {

@@ -1,7 +1,7 @@
 // The lines that the depot reads. Each function gives whether all of it was written.
-use answers::Answer;
 use libc::STDOUT_FILENO;
-use requests::Line;
+use lines::Line;
+use requests::Answer;
 
 fn words(text: &[u8]) -> bool {
     io::write_all(STDOUT_FILENO, text)
@@ -13,7 +13,7 @@ fn number(n: u64) -> bool {
 
 // The one line for an area that is not taken: its number, and for damage its place.
 pub(crate) fn refused(answer: Answer) -> bool {
-    words(b"area ") && number(answers::number(answer) as u64) && place(answer) && words(b"\n")
+    words(b"area ") && number(requests::number(answer) as u64) && place(answer) && words(b"\n")
 }
 
 fn place(answer: Answer) -> bool {
@@ -40,7 +40,7 @@ fn found(answer: Answer, out: &[u8]) -> bool {
         return false;
     }
     let mut text = [0u8; 128];
-    let n = requests::hex(&out[..length], &mut text);
+    let n = lines::hex(&out[..length], &mut text);
     if 128 < n {
         return false;
     }
@@ -58,7 +58,7 @@ fn after(told: Line, out: &[u8]) -> bool {
 pub(crate) fn line(place: u64, told: Line, out: &[u8]) -> bool {
     number(place)
         && words(b" ")
-        && number(requests::number(told) as u64)
+        && number(lines::number(told) as u64)
         && after(told, out)
         && words(b"\n")
 }

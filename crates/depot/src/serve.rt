@@ -23,7 +23,7 @@ fn one(fd: i32, area: &mut [u8], place: u64) -> Turn {
         return Turn::Ended;
     }
     let mut out = [0u8; 64];
-    let told = requests::step(area, &request[..n], &mut out);
+    let told = lines::step(area, &request[..n], &mut out);
     if !print::line(place, told, &out) {
         os::fail(b"standard output");
         return Turn::Failed;

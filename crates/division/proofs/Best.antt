@@ -9,10 +9,10 @@ use native.Mathlib.Omega.{arith}
 use native.Mathlib.Decide.{decLt}
 use borrow.Author.Tests.{eqb-true, eqb-false, leb-true, ltb-true, ltb-false}
 use Rattle.fields.specs.Choice.{pick, both, either}
+use Rattle.fields.specs.Lists.{sum, every}
 use Rattle.fields.proofs.Choices.{false-true, both-split}
-use Rattle.room.specs.Room.{sum}
 use Rattle.interval.specs.Records.{within, allWithin}
-use Rattle.division.specs.Division.{gap, fitting, better, bestTo, bestCut, BestCut, NoCut}
+use Rattle.division.specs.Division.{difference, fitting, better, bestTo, bestCut, BestCut, NoCut}
 
 -- One of the cuts 1 to k that fits.
 pub record Cut (S : ℕ) (ls : List ℕ) (k d : ℕ) : Type 0 where
@@ -25,8 +25,8 @@ pub record To (S : ℕ) (ls : List ℕ) (k b : ℕ) : Type 0 where
   pub inside : b ≤ k
   pub none : b ≡ 0 → (d : ℕ) → Cut S ls k d → ⊥
   pub fit : 0 < b → fitting S ls b ≡ true
-  pub least : 0 < b → (d : ℕ) → Cut S ls k d → gap ls b ≤ gap ls d
-  pub tie : 0 < b → (d : ℕ) → Cut S ls k d → gap ls d ≡ gap ls b → b ≤ d
+  pub least : 0 < b → (d : ℕ) → Cut S ls k d → difference ls b ≤ difference ls d
+  pub tie : 0 < b → (d : ℕ) → Cut S ls k d → difference ls d ≡ difference ls b → b ≤ d
 
 pos : (b : ℕ) → (b ≡ 0 → ⊥) → 0 < b
 pos b n = omega arith
@@ -49,7 +49,7 @@ module _ (S : ℕ) (ls : List ℕ) (k b : ℕ) (i : To S ls k b) where
         fit = i .fit;
         least = λ (z : 0 < b) (d : ℕ) (c : Cut S ls (suc k) d). upto d c (i .least z d) (λ (q : d ≡ suc k). absurd (off d c q));
         tie =
-            λ (z : 0 < b) (d : ℕ) (c : Cut S ls (suc k) d) (g : gap ls d ≡ gap ls b).
+            λ (z : 0 < b) (d : ℕ) (c : Cut S ls (suc k) d) (g : difference ls d ≡ difference ls b).
             upto d c (λ (m : Cut S ls k d). i .tie z d m g) (λ (q : d ≡ suc k). absurd (off d c q));
       }
     where
@@ -57,7 +57,7 @@ module _ (S : ℕ) (ls : List ℕ) (k b : ℕ) (i : To S ls k b) where
       off d c q = false-true (sym e ∙ (rw q at (c .fit)))
 
   -- it fits, but its parts do not differ less
-  kept-worse : 0 < b → gap ls b ≤ gap ls (suc k) → To S ls (suc k) b
+  kept-worse : 0 < b → difference ls b ≤ difference ls (suc k) → To S ls (suc k) b
   kept-worse z e =
       record {
         inside = omega (arith, i .inside);
@@ -65,7 +65,7 @@ module _ (S : ℕ) (ls : List ℕ) (k b : ℕ) (i : To S ls k b) where
         fit = i .fit;
         least = λ (z : 0 < b) (d : ℕ) (c : Cut S ls (suc k) d). upto d c (i .least z d) (λ (q : d ≡ suc k). rw q e);
         tie =
-            λ (z : 0 < b) (d : ℕ) (c : Cut S ls (suc k) d) (g : gap ls d ≡ gap ls b).
+            λ (z : 0 < b) (d : ℕ) (c : Cut S ls (suc k) d) (g : difference ls d ≡ difference ls b).
             upto d c (λ (m : Cut S ls k d). i .tie z d m g) (λ (q : d ≡ suc k). omega (arith, i .inside));
       }
 
@@ -78,12 +78,12 @@ module _ (S : ℕ) (ls : List ℕ) (k b : ℕ) (i : To S ls k b) where
         fit = λ _. e;
         least = λ _ (d : ℕ) (c : Cut S ls (suc k) d). upto d c (λ (m : Cut S ls k d). absurd (i .none z d m)) (λ (q : d ≡ suc k). rw q (omega arith));
         tie =
-            λ _ (d : ℕ) (c : Cut S ls (suc k) d) (g : gap ls d ≡ gap ls (suc k)).
+            λ _ (d : ℕ) (c : Cut S ls (suc k) d) (g : difference ls d ≡ difference ls (suc k)).
             upto d c (λ (m : Cut S ls k d). absurd (i .none z d m)) (λ (q : d ≡ suc k). omega arith);
       }
 
   -- its parts differ less than those of the best so far
-  taken-better : 0 < b → gap ls (suc k) < gap ls b → fitting S ls (suc k) ≡ true → To S ls (suc k) (suc k)
+  taken-better : 0 < b → difference ls (suc k) < difference ls b → fitting S ls (suc k) ≡ true → To S ls (suc k) (suc k)
   taken-better z h e =
       record {
         inside = omega arith;
@@ -91,17 +91,17 @@ module _ (S : ℕ) (ls : List ℕ) (k b : ℕ) (i : To S ls k b) where
         fit = λ _. e;
         least = λ _ (d : ℕ) (c : Cut S ls (suc k) d). upto d c (less d) (λ (q : d ≡ suc k). rw q (omega arith));
         tie =
-            λ _ (d : ℕ) (c : Cut S ls (suc k) d) (g : gap ls d ≡ gap ls (suc k)).
+            λ _ (d : ℕ) (c : Cut S ls (suc k) d) (g : difference ls d ≡ difference ls (suc k)).
             upto d c (λ (m : Cut S ls k d). far d m g) (λ (q : d ≡ suc k). omega arith);
       }
     where
-      less : (d : ℕ) → Cut S ls k d → gap ls (suc k) ≤ gap ls d
+      less : (d : ℕ) → Cut S ls k d → difference ls (suc k) ≤ difference ls d
       less d m = omega (arith, i .least z d m)
 
-      far : (d : ℕ) → Cut S ls k d → gap ls d ≡ gap ls (suc k) → suc k ≤ d
+      far : (d : ℕ) → Cut S ls k d → difference ls d ≡ difference ls (suc k) → suc k ≤ d
       far d m g = absurd (let l = i .least z d m in omega arith)
 
-  step : (t u v : Bool) → fitting S ls (suc k) ≡ t → eqb b 0 ≡ u → ltb (gap ls (suc k)) (gap ls b) ≡ v
+  step : (t u v : Bool) → fitting S ls (suc k) ≡ t → eqb b 0 ≡ u → ltb (difference ls (suc k)) (difference ls b) ≡ v
       → To S ls (suc k) (pick (both t (either u v)) (suc k) b)
   step false u v e f g = kept-unfit e
   step true true v e f g = taken-first (eqb-true b 0 f) e
@@ -117,11 +117,11 @@ best-to S ls zero =
       none = λ (y : _≡_ {A = ℕ} 0 0) (d : ℕ) (c : Cut S ls 0 d). omega (arith, c .above, c .below);
       fit = λ (z : 0 < 0). absurd (omega arith);
       least = λ (z : 0 < 0) (d : ℕ) (c : Cut S ls 0 d). absurd (omega arith);
-      tie = λ (z : 0 < 0) (d : ℕ) (c : Cut S ls 0 d) (g : gap ls d ≡ gap ls 0). absurd (omega arith);
+      tie = λ (z : 0 < 0) (d : ℕ) (c : Cut S ls 0 d) (g : difference ls d ≡ difference ls 0). absurd (omega arith);
     }
 best-to S ls (suc k) =
     let b = bestTo S ls k in
-    step S ls k b (best-to S ls k) (fitting S ls (suc k)) (eqb b 0) (ltb (gap ls (suc k)) (gap ls b)) refl refl refl
+    step S ls k b (best-to S ls k) (fitting S ls (suc k)) (eqb b 0) (ltb (difference ls (suc k)) (difference ls b)) refl refl refl
 
 -- one of all cuts into two parts that aren't empty
 among : (S : ℕ) (ls : List ℕ) (d : ℕ) → 0 < d → d < length ls → fitting S ls d ≡ true → Cut S ls (length ls - 1) d
@@ -139,7 +139,7 @@ best-cut S ls n =
       fit = i .fit z;
       least = λ (d : ℕ) (p : 0 < d) (l : d < length ls) (f : fitting S ls d ≡ true). i .least z d (among S ls d p l f);
       tie =
-          λ (d : ℕ) (p : 0 < d) (l : d < length ls) (f : fitting S ls d ≡ true) (g : gap ls d ≡ gap ls (bestTo S ls (length ls - 1))).
+          λ (d : ℕ) (p : 0 < d) (l : d < length ls) (f : fitting S ls d ≡ true) (g : difference ls d ≡ difference ls (bestTo S ls (length ls - 1))).
           i .tie z d (among S ls d p l f) g;
     }
 
@@ -153,7 +153,7 @@ pub best-unique : (S : ℕ) (ls : List ℕ) (c d : ℕ) → BestCut S ls c → B
 best-unique S ls c d x y =
     let p = x .least d (y .above) (y .below) (y .fit) in
     let q = y .least c (x .above) (x .below) (x .fit) in
-    let e : gap ls d ≡ gap ls c = omega arith in
+    let e : difference ls d ≡ difference ls c = omega arith in
     let u = x .tie d (y .above) (y .below) (y .fit) e in
     let v = y .tie c (x .above) (x .below) (x .fit) (sym e) in
     omega arith
@@ -161,7 +161,7 @@ best-unique S ls c d x y =
 -- As no record is empty, a left part of fewer records is one of fewer bytes: "smaller" in rule 2 means either.
 pub fewer-smaller : (least most c d : ℕ) (ls : List ℕ) → 1 ≤ least → allWithin least most ls ≡ true → c < d → d ≤ length ls
     → sum (take c ls) < sum (take d ls)
-unfolding allWithin sum
+unfolding every sum
 fewer-smaller least most c d [] s w h k = absurd (omega arith)
 fewer-smaller least most c zero (l ∷ ls) s w h k = absurd (omega arith)
 fewer-smaller least most zero (suc d) (l ∷ ls) s w h k =

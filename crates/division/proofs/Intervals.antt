@@ -3,21 +3,22 @@ use Prim.Native.Nat.{ℕ, zero, suc, _+_, _≤_, _<_}
 use mathlib.Core.Path.{_≡_, refl, _∙_, sym, ap}
 use mathlib.Core.Bool.{true}
 use mathlib.Core.List.{List, [], _∷_, _++_, map, map-append}
-use lib.ListN.{length, take, drop, getD, length-map, length-append, length-drop, take-append-drop}
+use lib.ListN.{length, take, drop, getD, length-map, length-drop, take-append-drop}
 use lib.Seq.{take-add, take-all, length-take-le, take-append-seam, drop-append-seam, drop-drop}
 use native.Mathlib.Omega.{arith}
+use Rattle.fields.specs.Lists.{sum, concat, swap}
 use Rattle.fields.proofs.Choices.{both-split, both-join}
-use Rattle.room.specs.Room.{sum, need, fits}
-use Rattle.room.proofs.Laws.{need-out}
+use Rattle.fields.proofs.Lists.{map-take, map-drop, sum-lengths}
+use Rattle.room.specs.Room.{need, fits}
+use Rattle.room.proofs.Need.{need-out}
 use Rattle.interval.specs.Layout.{LaidOut, form}
 use Rattle.interval.proofs.Form.{form-laid-out, smallest}
+use Rattle.interval.proofs.Changed.{swap-lengths}
 use Rattle.division.specs.Division.{fitting, divisionOf, parts, pieces}
-use Rattle.division.specs.Fewest.{joined, Held, AllHeld, Spread, Fewest}
-use Rattle.division.specs.Changed.{swap}
+use Rattle.division.specs.Fewest.{Held, AllHeld, Spread, Fewest}
 use Rattle.division.specs.declared.Division.the-variants.{Stays}
 use Rattle.division.proofs.Answers.{fits-of, fits-is, fitting-of, fitting-is}
 use Rattle.division.proofs.Spreads.{allFit, Parted, FewestParts, Divided, Changing, fewest-1, changing-insert, divided}
-use Rattle.division.proofs.Changed.{map-take, map-drop, swap-lengths}
 
 -- Some S bytes hold the records exactly if they need at most S.
 module _ (S : ℕ) (part : List (List ℕ)) where
@@ -68,10 +69,10 @@ fit-held S (p ∷ ps) e =
     (need-held S p (fits-is S (map length p) (s .0)), fit-held S ps (s .1))
 
 -- Pieces, of records and of lengths.
-pub joined-pieces : {A : Type 0} (cs : List ℕ) (xs : List A) → joined (pieces cs xs) ≡ take (sum cs) xs
-unfolding joined pieces sum
-joined-pieces [] xs = refl
-joined-pieces (c ∷ cs) xs = rw (joined-pieces cs (drop c xs)) (sym (take-add c (sum cs) xs))
+pub concat-pieces : {A : Type 0} (cs : List ℕ) (xs : List A) → concat (pieces cs xs) ≡ take (sum cs) xs
+unfolding concat pieces sum
+concat-pieces [] xs = refl
+concat-pieces (c ∷ cs) xs = rw (concat-pieces cs (drop c xs)) (sym (take-add c (sum cs) xs))
 
 pub map-pieces : {A B : Type 0} (f : A → B) (cs : List ℕ) (xs : List A) → map (map f) (pieces cs xs) ≡ pieces cs (map f xs)
 unfolding pieces
@@ -91,27 +92,22 @@ sizes-pieces (c ∷ cs) xs h =
     rw (length-take-le c xs (omega arith), sizes-pieces cs (drop c xs) (omega (arith, length-drop c xs)))
 
 -- cutting undoes putting together
-pieces-joined : {A : Type 0} (ps : List (List A)) → pieces (map length ps) (joined ps) ≡ ps
-unfolding joined pieces
-pieces-joined [] = refl
-pieces-joined (p ∷ ps) = rw (take-append-seam p (joined ps), drop-append-seam p (joined ps), pieces-joined ps)
+pieces-concat : {A : Type 0} (ps : List (List A)) → pieces (map length ps) (concat ps) ≡ ps
+unfolding concat pieces
+pieces-concat [] = refl
+pieces-concat (p ∷ ps) = rw (take-append-seam p (concat ps), drop-append-seam p (concat ps), pieces-concat ps)
 
-map-joined : {A B : Type 0} (f : A → B) (ps : List (List A)) → joined (map (map f) ps) ≡ map f (joined ps)
-unfolding joined
-map-joined f [] = refl
-map-joined f (p ∷ ps) = rw (map-joined f ps) (sym (map-append f p (joined ps)))
-
-sum-sizes : {A : Type 0} (ps : List (List A)) → sum (map length ps) ≡ length (joined ps)
-unfolding joined sum
-sum-sizes [] = refl
-sum-sizes (p ∷ ps) = omega (arith, length-append p (joined ps), sum-sizes ps)
+map-concat : {A B : Type 0} (f : A → B) (ps : List (List A)) → concat (map (map f) ps) ≡ map f (concat ps)
+unfolding concat
+map-concat f [] = refl
+map-concat f (p ∷ ps) = rw (map-concat f ps) (sym (map-append f p (concat ps)))
 
 -- Records lie over k intervals exactly if their lengths lie over k parts that fit.
 pub spread-parted : (S : ℕ) (rs : List (List ℕ)) (k : ℕ) → Spread S rs k → Parted S (map length rs) k
 spread-parted S rs k s =
     record {
       over = map (map length) (s .over);
-      whole = map-joined length (s .over) ∙ ap (map length) (s .whole);
+      whole = map-concat length (s .over) ∙ ap (map length) (s .whole);
       count = length-map (s .over) (map length) ∙ s .count;
       some = s .some;
       fit = held-fit S (s .over) (s .held);
@@ -121,17 +117,17 @@ pub parted-spread : (S : ℕ) (rs : List (List ℕ)) (k : ℕ) → Parted S (map
 parted-spread S rs k p =
     record {
       over = pieces cs rs;
-      whole = joined-pieces cs rs ∙ take-all (sum cs) rs long;
+      whole = concat-pieces cs rs ∙ take-all (sum cs) rs long;
       count = length-pieces cs rs ∙ length-map (p .over) length ∙ p .count;
       some = p .some;
-      held = fit-held S (pieces cs rs) (rw (map-pieces length cs rs, ← p .whole, pieces-joined (p .over)) (p .fit));
+      held = fit-held S (pieces cs rs) (rw (map-pieces length cs rs, ← p .whole, pieces-concat (p .over)) (p .fit));
     }
   where
     cs : List ℕ
     cs = map length (p .over)
 
     long : length rs ≤ sum cs
-    long = omega (arith, sum-sizes (p .over), ap length (p .whole), length-map rs (length {A = ℕ}))
+    long = omega (arith, sum-lengths (p .over), ap length (p .whole), length-map rs (length {A = ℕ}))
 
 -- So the fewest intervals are the fewest parts.
 pub fewest-intervals : (S : ℕ) (rs : List (List ℕ)) (k : ℕ) → FewestParts S (map length rs) k → Fewest S rs k
@@ -157,7 +153,7 @@ fewest-one S rs h = fewest-intervals S rs 1 (fewest-1 S (map length rs) (fits-of
 
 -- Records divided into parts of so many: they are all of them in order, none is empty, each is held, and no fewer intervals hold them.
 pub record LaidOver (S : ℕ) (rs : List (List ℕ)) (cs : List ℕ) : Type 0 where
-  pub whole : joined (pieces cs rs) ≡ rs
+  pub whole : concat (pieces cs rs) ≡ rs
   pub sizes : map length (pieces cs rs) ≡ cs
   pub filled : (k : ℕ) → k < length cs → 0 < getD cs k 0
   pub held : AllHeld S (pieces cs rs)
@@ -168,7 +164,7 @@ pub laid-fewest : (S : ℕ) (rs : List (List ℕ)) (cs : List ℕ) → Divided S
 laid-fewest S rs cs d =
     let e : sum cs ≡ length rs = d .total ∙ length-map rs length in
     record {
-      whole = joined-pieces cs rs ∙ take-all (sum cs) rs (omega arith);
+      whole = concat-pieces cs rs ∙ take-all (sum cs) rs (omega arith);
       sizes = sizes-pieces cs rs (omega arith);
       filled = d .filled;
       held = fit-held S (pieces cs rs) (rw (map-pieces length cs rs) (d .fit));

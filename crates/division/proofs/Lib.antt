@@ -2,7 +2,6 @@ pub mod Best
 pub mod Answers
 pub mod Turns
 pub mod Spreads
-pub mod Changed
 pub mod Intervals
 pub mod Unique
 pub mod Vectors

@@ -10,11 +10,12 @@ use native.Mathlib.Omega.{arith}
 use native.Mathlib.Numerals.{add-one}
 use native.Mathlib.Decide.{decLt}
 use Rattle.fields.specs.Choice.{both}
+use Rattle.fields.specs.Lists.{sum, concat}
 use Rattle.fields.proofs.Choices.{false-true, both-split}
-use Rattle.room.specs.Room.{sum, need, fits}
-use Rattle.room.proofs.Laws.{need-one, need-front, need-back, need-out}
+use Rattle.fields.proofs.Lists.{concat-one}
+use Rattle.room.specs.Room.{need, fits}
+use Rattle.room.proofs.Need.{need-one, need-front, need-back, need-out}
 use Rattle.division.specs.Division.{divisionOf, counts, parts, pieces, BestCut, NoCut, Prescribed}
-use Rattle.division.specs.Fewest.{joined}
 use Rattle.division.specs.declared.Division.{Division}
 use Rattle.division.specs.declared.Division.the-variants.{Stays, Two, Three}
 use Rattle.division.proofs.Answers.{fits-of, fitting-of, fitting-is, prescribed}
@@ -27,7 +28,7 @@ allFit S (p ∷ ps) = both (fits S p) (allFit S ps)
 -- The lengths lie, in order, over k parts that fit, at least one. A part may be empty: that none over fewer exists then says more.
 pub record Parted (S : ℕ) (ls : List ℕ) (k : ℕ) : Type 0 where
   pub over : List (List ℕ)
-  pub whole : joined over ≡ ls
+  pub whole : concat over ≡ ls
   pub count : length over ≡ k
   pub some : 1 ≤ k
   pub fit : allFit S over ≡ true
@@ -37,18 +38,13 @@ pub record FewestParts (S : ℕ) (ls : List ℕ) (k : ℕ) : Type 0 where
   pub parted : Parted S ls k
   pub least : (j : ℕ) → Parted S ls j → k ≤ j
 
--- Lists put together.
-pub joined-1 : {A : Type 0} (p : List A) → joined (p ∷ []) ≡ p
-unfolding joined
-joined-1 p = append-nil p
+pub concat-two : {A : Type 0} (p q : List A) → concat (p ∷ q ∷ []) ≡ p ++ q
+unfolding concat
+concat-two p q = rw (append-nil q)
 
-pub joined-2 : {A : Type 0} (p q : List A) → joined (p ∷ q ∷ []) ≡ p ++ q
-unfolding joined
-joined-2 p q = rw (append-nil q)
-
-pub joined-3 : {A : Type 0} (p q r : List A) → joined (p ∷ q ∷ r ∷ []) ≡ p ++ (q ++ r)
-unfolding joined
-joined-3 p q r = rw (append-nil r)
+pub concat-three : {A : Type 0} (p q r : List A) → concat (p ∷ q ∷ r ∷ []) ≡ p ++ (q ++ r)
+unfolding concat
+concat-three p q r = rw (append-nil r)
 
 -- Lists cut up.
 pub pieces-1 : {A : Type 0} (xs : List A) → pieces (length xs ∷ []) xs ≡ xs ∷ []
@@ -95,7 +91,7 @@ fits-3 : (S : ℕ) (p q r : List ℕ) → fits S p ≡ true → fits S q ≡ tru
 unfolding allFit
 fits-3 S p q r e f g = rw (e, f, g)
 
-parted-of : (S : ℕ) (ls : List ℕ) (ps : List (List ℕ)) → joined ps ≡ ls → 1 ≤ length ps → allFit S ps ≡ true → Parted S ls (length ps)
+parted-of : (S : ℕ) (ls : List ℕ) (ps : List (List ℕ)) → concat ps ≡ ls → 1 ≤ length ps → allFit S ps ≡ true → Parted S ls (length ps)
 parted-of S ls ps e h f = record { over = ps; whole = e; count = refl; some = h; fit = f }
 
 -- None over fewer.
@@ -103,9 +99,9 @@ module _ (S : ℕ) (ls : List ℕ) (large : fits S ls ≡ false) where
   not-whole : (p : List ℕ) → p ≡ ls → fits S p ≡ true → ⊥
   not-whole p e f = false-true (sym large ∙ (rw e at f))
 
-  over-1 : (ps : List (List ℕ)) → joined ps ≡ ls → 1 ≤ length ps → allFit S ps ≡ true → 2 ≤ length ps
+  over-1 : (ps : List (List ℕ)) → concat ps ≡ ls → 1 ≤ length ps → allFit S ps ≡ true → 2 ≤ length ps
   over-1 [] e h f = absurd (omega arith)
-  over-1 (p ∷ []) e h f = absurd (not-whole p (sym (joined-1 p) ∙ e) (fit-1 S p [] f .0))
+  over-1 (p ∷ []) e h f = absurd (not-whole p (sym (concat-one p) ∙ e) (fit-1 S p [] f .0))
   over-1 (p ∷ q ∷ ps) e h f = omega arith
 
   -- what does not fit does not lie over one part
@@ -122,12 +118,12 @@ module _ (S : ℕ) (ls : List ℕ) (large : fits S ls ≡ false) where
         let d : drop c ls ≡ y ∷ q = rw (← e) (drop-append-seam (x ∷ p) (y ∷ q)) in
         none c (omega arith) (omega (arith, ap length e, length-append p (y ∷ q))) (fitting-of S ls c (rw t f) (rw d g))
 
-    over-2 : (ps : List (List ℕ)) → joined ps ≡ ls → 1 ≤ length ps → allFit S ps ≡ true → 3 ≤ length ps
+    over-2 : (ps : List (List ℕ)) → concat ps ≡ ls → 1 ≤ length ps → allFit S ps ≡ true → 3 ≤ length ps
     over-2 [] e h f = absurd (omega arith)
-    over-2 (p ∷ []) e h f = absurd (not-whole p (sym (joined-1 p) ∙ e) (fit-1 S p [] f .0))
+    over-2 (p ∷ []) e h f = absurd (not-whole p (sym (concat-one p) ∙ e) (fit-1 S p [] f .0))
     over-2 (p ∷ q ∷ []) e h f =
         let s = fit-1 S p (q ∷ []) f in
-        absurd (over-two p q (sym (joined-2 p q) ∙ e) (s .0) (fit-1 S q [] (s .1) .0))
+        absurd (over-two p q (sym (concat-two p q) ∙ e) (s .0) (fit-1 S q [] (s .1) .0))
     over-2 (p ∷ q ∷ r ∷ ps) e h f = omega arith
 
     -- and where no cut fits, not over two
@@ -136,7 +132,7 @@ module _ (S : ℕ) (ls : List ℕ) (large : fits S ls ≡ false) where
 
 -- What a division into parts of so many lengths must be.
 pub record Divided (S : ℕ) (ls cs : List ℕ) : Type 0 where
-  pub whole : joined (pieces cs ls) ≡ ls
+  pub whole : concat (pieces cs ls) ≡ ls
   pub total : sum cs ≡ length ls
   pub fit : allFit S (pieces cs ls) ≡ true
   pub fewest : FewestParts S ls (length cs)
@@ -145,13 +141,13 @@ pub record Divided (S : ℕ) (ls cs : List ℕ) : Type 0 where
 module _ (S : ℕ) (ls : List ℕ) where
   -- what fits lies over one part, also where there is none of it
   pub fewest-1 : fits S ls ≡ true → FewestParts S ls 1
-  fewest-1 e = record { parted = parted-of S ls (ls ∷ []) (joined-1 ls) (omega arith) (fits-1 S ls e); least = λ (j : ℕ) (s : Parted S ls j). s .some }
+  fewest-1 e = record { parted = parted-of S ls (ls ∷ []) (concat-one ls) (omega arith) (fits-1 S ls e); least = λ (j : ℕ) (s : Parted S ls j). s .some }
 
   -- rule 1
   pub divided-1 : fits S ls ≡ true → 0 < length ls → Divided S ls (length ls ∷ [])
   divided-1 e h =
       record {
-        whole = rw (pieces-1 ls) (joined-1 ls);
+        whole = rw (pieces-1 ls) (concat-one ls);
         total = sum-1 (length ls);
         fit = rw (pieces-1 ls) (fits-1 S ls e);
         fewest = fewest-1 e;
@@ -173,8 +169,8 @@ module _ (S : ℕ) (ls : List ℕ) where
         filled = filled;
       }
     where
-      w : joined (take c ls ∷ drop c ls ∷ []) ≡ ls
-      w = joined-2 (take c ls) (drop c ls) ∙ take-append-drop c ls
+      w : concat (take c ls ∷ drop c ls ∷ []) ≡ ls
+      w = concat-two (take c ls) (drop c ls) ∙ take-append-drop c ls
 
       f : allFit S (take c ls ∷ drop c ls ∷ []) ≡ true
       f = let t = fitting-is S ls c (b .fit) in fits-2 S (take c ls) (drop c ls) (t .0) (t .1)
@@ -250,9 +246,9 @@ module _ (S : ℕ) (ls : List ℕ) (at : ℕ) (w : Changing S ls at) where
       three : List (List ℕ)
       three = take at ls ∷ (getD ls at 0 ∷ []) ∷ drop (at + 1) ls ∷ []
 
-      together : joined (take at ls ∷ (getD ls at 0 ∷ []) ∷ drop (at + 1) ls ∷ []) ≡ ls
+      together : concat (take at ls ∷ (getD ls at 0 ∷ []) ∷ drop (at + 1) ls ∷ []) ≡ ls
       together =
-          joined-3 (take at ls) (getD ls at 0 ∷ []) (drop (at + 1) ls) ∙ ap (λ (x : List ℕ). take at ls ++ x) (sym from-here)
+          concat-three (take at ls) (getD ls at 0 ∷ []) (drop (at + 1) ls) ∙ ap (λ (x : List ℕ). take at ls ++ x) (sym from-here)
           ∙ take-append-drop at ls
 
       f : allFit S (take at ls ∷ (getD ls at 0 ∷ []) ∷ drop (at + 1) ls ∷ []) ≡ true

@@ -9,13 +9,15 @@ use native.Mathlib.Omega.{arith}
 use native.Mathlib.Numerals.{add-one}
 use borrow.Author.Tests.{eq-eqb, ne-eqb, le-leb, lt-leb, lt-ltb, le-ltb}
 use Rattle.fields.specs.Choice.{pick}
-use Rattle.room.specs.Room.{sum, need, fits}
-use Rattle.room.specs.Steps.{ahead, roomOf, also}
+use Rattle.fields.specs.Lists.{sum}
+use Rattle.fields.proofs.Lists.{sum-cons}
+use Rattle.room.specs.Room.{need, fits}
+use Rattle.room.specs.AidSteps.{ahead, roomOf, also}
 use Rattle.room.specs.declared.Room.{Room}
-use Rattle.room.proofs.Laws.{sum-cons, need-cons}
+use Rattle.room.proofs.Need.{need-cons}
 use Rattle.room.proofs.Steps.{room-of-need, room-of-bytes, room-none, snoc-at, also-bytes, also-rdfs}
-use Rattle.division.specs.Division.{distance, gap, fitting, better, bestTo, bestCut, byCut, divisionOf}
-use Rattle.division.specs.Choose.{weighed}
+use Rattle.division.specs.Division.{distance, difference, fitting, better, bestTo, bestCut, byCut, divisionOf}
+use Rattle.division.specs.AidChoose.{weighed}
 use Rattle.division.specs.declared.Chosen.{Chosen}
 use Rattle.division.specs.declared.Division.the-variants.{Stays, Two, Three}
 
@@ -31,37 +33,37 @@ module _ (best : Chosen) (cut b₁ n₁ b₂ n₂ s : ℕ) where
     right-large k = rw (le-leb n₁ s h, lt-leb n₂ s k)
 
     module _ (k : n₂ ≤ s) (g : ℕ) (e : g ≡ distance b₁ b₂) where
-      pub first-cut : best .cut ≡ 0 → record { cut = cut; gap = g } ≡ weighed best cut b₁ n₁ b₂ n₂ s
+      pub first-cut : best .cut ≡ 0 → record { cut = cut; difference = g } ≡ weighed best cut b₁ n₁ b₂ n₂ s
       unfolding weighed
       first-cut z = rw (e, le-leb n₁ s h, le-leb n₂ s k, eq-eqb (best .cut) 0 z)
 
-      pub nearer-cut : (best .cut ≡ 0 → ⊥) → g < best .gap → record { cut = cut; gap = g } ≡ weighed best cut b₁ n₁ b₂ n₂ s
+      pub nearer-cut : (best .cut ≡ 0 → ⊥) → g < best .difference → record { cut = cut; difference = g } ≡ weighed best cut b₁ n₁ b₂ n₂ s
       unfolding weighed
       nearer-cut z l =
-          let l' : distance b₁ b₂ < best .gap = rw e at l in
-          rw (e, le-leb n₁ s h, le-leb n₂ s k, ne-eqb (best .cut) 0 z, lt-ltb (distance b₁ b₂) (best .gap) l')
+          let l' : distance b₁ b₂ < best .difference = rw e at l in
+          rw (e, le-leb n₁ s h, le-leb n₂ s k, ne-eqb (best .cut) 0 z, lt-ltb (distance b₁ b₂) (best .difference) l')
 
-      pub no-nearer : (best .cut ≡ 0 → ⊥) → best .gap ≤ g → best ≡ weighed best cut b₁ n₁ b₂ n₂ s
+      pub no-nearer : (best .cut ≡ 0 → ⊥) → best .difference ≤ g → best ≡ weighed best cut b₁ n₁ b₂ n₂ s
       unfolding weighed
       no-nearer z l =
-          let l' : best .gap ≤ distance b₁ b₂ = rw e at l in
-          rw (le-leb n₁ s h, le-leb n₂ s k, ne-eqb (best .cut) 0 z, le-ltb (distance b₁ b₂) (best .gap) l')
+          let l' : best .difference ≤ distance b₁ b₂ = rw e at l in
+          rw (le-leb n₁ s h, le-leb n₂ s k, ne-eqb (best .cut) 0 z, le-ltb (distance b₁ b₂) (best .difference) l')
 
 -- The best of the cuts up to i, and what its parts differ in.
 pub record Known (S : ℕ) (ls : List ℕ) (i : ℕ) (best : Chosen) : Type 0 where
   pub cut : best .cut ≡ bestTo S ls i
-  pub gap : best .gap ≡ gap ls (best .cut)
+  pub difference : best .difference ≡ difference ls (best .cut)
 
 -- before the first cut: all bytes lie right of it
-known-none : (S : ℕ) (ls : List ℕ) (n : ℕ) → n ≡ sum ls → Known S ls 0 (record { cut = 0; gap = n })
-unfolding bestTo gap sum
-known-none S ls n e = record { cut = refl; gap = omega arith }
+known-none : (S : ℕ) (ls : List ℕ) (n : ℕ) → n ≡ sum ls → Known S ls 0 (record { cut = 0; difference = n })
+unfolding bestTo difference sum
+known-none S ls n e = record { cut = refl; difference = omega arith }
 
 picked : (S : ℕ) (ls : List ℕ) (i : ℕ) (best : Chosen) → Known S ls i best → (t : Bool) → better S ls (suc i) (bestTo S ls i) ≡ t
-    → Known S ls (suc i) (pick t (record { cut = suc i; gap = gap ls (suc i) }) best)
+    → Known S ls (suc i) (pick t (record { cut = suc i; difference = difference ls (suc i) }) best)
 unfolding bestTo
-picked S ls i best k true e = record { cut = rw e; gap = refl }
-picked S ls i best k false e = record { cut = rw e (k .cut); gap = k .gap }
+picked S ls i best k true e = record { cut = rw e; difference = refl }
+picked S ls i best k false e = record { cut = rw e (k .cut); difference = k .difference }
 
 -- one cut more is weighed
 known-more : (S : ℕ) (ls : List ℕ) (i : ℕ) (best : Chosen) (left : Room) (bytes n : ℕ) → left ≡ roomOf (take (i + 1) ls)
@@ -71,8 +73,8 @@ known-more S ls i best left bytes n l b m k =
     rw (l, b, m, room-of-need (take (i + 1) ls), add-one) (rw is (picked S ls i best k (better S ls (suc i) (bestTo S ls i)) refl))
   where
     is : weighed best (suc i) (roomOf (take (suc i) ls) .bytes) (need (take (suc i) ls)) (sum (drop (suc i) ls)) (need (drop (suc i) ls)) S
-        ≡ pick (better S ls (suc i) (bestTo S ls i)) (record { cut = suc i; gap = gap ls (suc i) }) best
-    is = unfold weighed better fitting gap fits roomOf in rw (k .gap, k .cut)
+        ≡ pick (better S ls (suc i) (bestTo S ls i)) (record { cut = suc i; difference = difference ls (suc i) }) best
+    is = unfold weighed better fitting difference fits roomOf in rw (k .difference, k .cut)
 
 -- What lies right of the place.
 module _ (ls : List ℕ) (i : ℕ) (h : i < length ls) where
@@ -94,7 +96,7 @@ pub record Holds (S : ℕ) (ls : List ℕ) (i : ℕ) (left : Room) (bytes n : �
 
 pub holds-start : (S : ℕ) (ls : List ℕ) (whole : Room) (n : ℕ) → whole ≡ roomOf ls → whole .bytes < 4294967296 → whole .rdfs < 4294967296
     → n ≡ whole .bytes + 3 * whole .rdfs + 4
-    → Holds S ls 0 (record { bytes = 0; rdfs = 0; last = 0; run = 0 }) (whole .bytes) n (record { cut = 0; gap = whole .bytes })
+    → Holds S ls 0 (record { bytes = 0; rdfs = 0; last = 0; run = 0 }) (whole .bytes) n (record { cut = 0; difference = whole .bytes })
 holds-start S ls whole n e h k w =
     record {
       room = sym room-none;

@@ -7,9 +7,9 @@ use lib.ListN.{replicate}
 use lib.Dec.{eqb}
 use Rattle.fields.specs.Table.{sameList, sameLists, all}
 use Rattle.fields.specs.Choice.{both}
-use Rattle.room.specs.Room.{sum, rdfCount, push, groups, need, fits}
-use Rattle.division.specs.Division.{gap, fitting, better, bestTo, bestCut, byCut, divisionOf, counts, parts, pieces}
-use Rattle.division.specs.Changed.{swap}
+use Rattle.fields.specs.Lists.{sum, swap}
+use Rattle.room.specs.Room.{rdfCount, push, groups, need, fits}
+use Rattle.division.specs.Division.{difference, fitting, better, bestTo, bestCut, byCut, divisionOf, counts, parts, pieces}
 
 -- Records of these lengths fit; with one of l put in at place k, or in place of the one there, they need n bytes, and stay or are
 -- divided into parts of so many.
@@ -61,5 +61,5 @@ table =
     ∷ [])
 
 pub vectors : table ≡ true
-unfolding table sum rdfCount push groups need fits gap fitting better bestTo bestCut byCut divisionOf counts parts pieces swap
+unfolding table sum rdfCount push groups need fits difference fitting better bestTo bestCut byCut divisionOf counts parts pieces swap
 vectors = refl

@@ -7,7 +7,8 @@ use mathlib.Core.List.{List, [], _∷_}
 use lib.ListN.{length, take, drop}
 use lib.Dec.{eqb, ltb}
 use Rattle.fields.specs.Choice.{pick, both, either}
-use Rattle.room.specs.Room.{sum, fits}
+use Rattle.fields.specs.Lists.{sum}
+use Rattle.room.specs.Room.{fits}
 use Rattle.division.specs.declared.Division.{Division}
 use Rattle.division.specs.declared.Division.the-variants.{Stays, Two, Three}
 
@@ -16,8 +17,8 @@ abbrev pub distance : ℕ → ℕ → ℕ
 distance a b = (a - b) + (b - a)
 
 -- rule 2: by how many bytes of records the parts differ if the first has c records; RDFs don't count
-unfoldable pub gap : List ℕ → ℕ → ℕ
-gap ls c = distance (sum (take c ls)) (sum (drop c ls))
+unfoldable pub difference : List ℕ → ℕ → ℕ
+difference ls c = distance (sum (take c ls)) (sum (drop c ls))
 
 -- rule 2: a cut fits where both parts do
 unfoldable pub fitting : ℕ → List ℕ → ℕ → Bool
@@ -26,7 +27,7 @@ fitting S ls c = both (fits S (take c ls)) (fits S (drop c ls))
 -- rule 2, the choice among cuts that fit: is the cut at c better than the earlier one at b (0: none yet)?
 -- Where they differ equally the earlier one stays, as its left part is smaller.
 unfoldable pub better : ℕ → List ℕ → ℕ → ℕ → Bool
-better S ls c b = both (fitting S ls c) (either (eqb b 0) (ltb (gap ls c) (gap ls b)))
+better S ls c b = both (fitting S ls c) (either (eqb b 0) (ltb (difference ls c) (difference ls b)))
 
 -- the best of the cuts 1 to k, or 0 where none of them fits
 unfoldable pub bestTo : ℕ → List ℕ → ℕ → ℕ
@@ -70,8 +71,8 @@ pub record BestCut (S : ℕ) (ls : List ℕ) (c : ℕ) : Type 0 where
   pub above : 0 < c
   pub below : c < length ls
   pub fit : fitting S ls c ≡ true
-  pub least : (d : ℕ) → 0 < d → d < length ls → fitting S ls d ≡ true → gap ls c ≤ gap ls d
-  pub tie : (d : ℕ) → 0 < d → d < length ls → fitting S ls d ≡ true → gap ls d ≡ gap ls c → c ≤ d
+  pub least : (d : ℕ) → 0 < d → d < length ls → fitting S ls d ≡ true → difference ls c ≤ difference ls d
+  pub tie : (d : ℕ) → 0 < d → d < length ls → fitting S ls d ≡ true → difference ls d ≡ difference ls c → c ≤ d
 
 -- no cut into two non-empty parts fits
 abbrev pub NoCut : ℕ → List ℕ → Type 0

@@ -2,14 +2,10 @@
 -- Each interval holds a stretch of the records in order, so records lie over k intervals as k parts one after another.
 use Prim.Native.Nat.{ℕ, _≤_}
 use mathlib.Core.Path.{_≡_}
-use mathlib.Core.List.{List, [], _∷_, _++_}
+use mathlib.Core.List.{List, [], _∷_}
 use lib.ListN.{length}
+use Rattle.fields.specs.Lists.{concat}
 use Rattle.interval.specs.Layout.{LaidOut}
-
--- lists one after another
-unfoldable pub joined : {A : Type 0} → List (List A) → List A
-joined [] = []
-joined (p ∷ ps) = p ++ joined ps
 
 -- Some S bytes of the grammar hold these records: in any legal grouping, with any bytes in the unused space.
 pub record Held (S : ℕ) (part : List (List ℕ)) : Type 0 where
@@ -24,7 +20,7 @@ AllHeld S (p ∷ ps) = Held S p × AllHeld S ps
 -- The records lie, in order, over k intervals of size S, at least one. An interval may be empty; that no fewer hold them then says more.
 pub record Spread (S : ℕ) (rs : List (List ℕ)) (k : ℕ) : Type 0 where
   pub over : List (List (List ℕ))
-  pub whole : joined over ≡ rs
+  pub whole : concat over ≡ rs
   pub count : length over ≡ k
   pub some : 1 ≤ k
   pub held : AllHeld S over

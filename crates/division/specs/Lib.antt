@@ -1,4 +1,3 @@
 pub mod Division
-pub mod Choose
+pub mod AidChoose
 pub mod Fewest
-pub mod Changed

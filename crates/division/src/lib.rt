@@ -1,10 +1,10 @@
 // Over how many intervals records are spread, and where they are cut: document 01, 'Dividing an interval'.
-ghost use mathlib.Core.Path.{_≡_};
 ghost use Prim.Native.Nat.{_+_, _*_, _≤_, _<_};
+ghost use mathlib.Core.Path.{_≡_};
 ghost use lib.ListN.{length};
-ghost use Rattle.room.specs.Steps.{roomOf};
+ghost use Rattle.room.specs.AidSteps.{roomOf};
 ghost use Rattle.division.specs.Division.{distance, bestCut, divisionOf};
-ghost use Rattle.division.specs.Choose.{weighed};
+ghost use Rattle.division.specs.AidChoose.{weighed};
 use room::Room;
 
 // Rule 1: the records stay. Rule 2: two parts, the first with `cut` records. Rule 3: those before the changed record, it alone,
@@ -18,7 +18,7 @@ pub enum Division {
 // The best cut so far, 0 for none yet, and what the record bytes of its parts differ in.
 pub(crate) struct Chosen {
     pub(crate) cut: usize,
-    pub(crate) gap: usize,
+    pub(crate) difference: usize,
 }
 
 // What two numbers differ in.
@@ -51,13 +51,19 @@ pub(crate) fn weigh(
     if s < need {
         return best;
     }
-    let gap = apart(left.bytes, bytes);
+    let difference = apart(left.bytes, bytes);
     if best.cut == 0 {
-        return Chosen { cut: cut, gap: gap };
+        return Chosen {
+            cut: cut,
+            difference: difference,
+        };
     }
     // On a tie the earlier cut stays: it has the smaller left part.
-    if gap < best.gap {
-        return Chosen { cut: cut, gap: gap };
+    if difference < best.difference {
+        return Chosen {
+            cut: cut,
+            difference: difference,
+        };
     }
     best
 }
@@ -78,7 +84,7 @@ pub(crate) fn best_cut(lens: &[u16], s: usize, whole: Room) -> usize
     let mut need = room::need_of(whole);
     let mut best = Chosen {
         cut: 0,
-        gap: whole.bytes,
+        difference: whole.bytes,
     };
     let mut i = 0;
     while i + 1 < lens.len() {
@@ -98,7 +104,7 @@ pub fn divide(lens: &[u16], s: usize) -> Division
     requires { ⌜ length (now lens) ≤ 32768 ⌝ }
     ensures { λ r. ⌜ r ≡ divisionOf s (now (lens .entry)) ⌝ }
 {
-    let whole = room::taken(lens);
+    let whole = room::room_of(lens);
     // Rule 1.
     if room::need_of(whole) <= s {
         return Division::Stays;

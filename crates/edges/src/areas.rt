@@ -1,6 +1,6 @@
 // Areas of four intervals of 512 bytes, offset 0, K 4, M 505: a sound one, and for each rule of soundness one that breaks just that rule.
 use crate::print;
-use answers::Answer;
+use requests::Answer;
 
 // Stores bytes from a place on, where they fit.
 fn put(area: &mut [u8], at: usize, new: &[u8]) {
@@ -62,7 +62,7 @@ fn told(answer: Answer) {
         }
         other => {
             print::words(b" ");
-            print::number(answers::number(other));
+            print::number(requests::number(other));
         }
     }
 }

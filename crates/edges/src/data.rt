@@ -31,7 +31,7 @@ fn form(lens: &[u16]) {
     if 64 < lens.len() {
         return;
     }
-    let taken = room::taken(lens);
+    let taken = room::room_of(lens);
     let total = taken.bytes;
     let need = room::need_of_lengths(lens);
     if 512 < need {

@@ -2,7 +2,7 @@
 use crate::build;
 use crate::print;
 use crate::request;
-use answers::Answer;
+use requests::Answer;
 
 // The key AAAA, CCCC, .. of a place.
 fn add(area: &mut [u8], i: usize, length: usize) {

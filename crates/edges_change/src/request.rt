@@ -1,8 +1,8 @@
 // One request of an area, and what it altered there. S 512, M 505.
 use crate::build;
 use crate::print;
-use answers::Answer;
 use fields::Order;
+use requests::Answer;
 
 pub(crate) fn wide(x: u16) -> usize {
     x as usize
@@ -47,7 +47,7 @@ fn told(answer: Answer) {
         }
         other => {
             print::words(b" ");
-            print::number(answers::number(other));
+            print::number(requests::number(other));
         }
     }
 }

@@ -8,3 +8,4 @@ pub mod Fronts
 pub mod Tables
 pub mod Masks
 pub mod Unique
+pub mod Lists

@@ -1,10 +1,10 @@
 -- A fact of every number below a bound, by one test that antt computes; and laws of masks.
 use Prim.Native.Nat.{ℕ, zero, suc, _*_, _/_, _%_, _<_}
 use mathlib.Core.Path.{_≡_, refl}
-use native.Mathlib.Omega.{arith}
-use lib.Bits.{bitAnd, and-high, and-mask}
 use mathlib.Core.Bool.{Bool, true, false}
 use lib.Dec.{T, eqb, eqb→eq}
+use lib.Bits.{bitAnd, and-high, and-mask}
+use native.Mathlib.Omega.{arith}
 use native.Mathlib.Nat.{not-suc-le-zero}
 use native.Mathlib.Decide.{decLt}
 use Rattle.fields.specs.Choice.{both}

@@ -9,7 +9,7 @@ use lib.Dec.{ltb}
 use native.Mathlib.Omega.{arith}
 use borrow.Author.Tests.{ltb-true, ltb-false, lt-ltb, le-ltb}
 use Rattle.fields.specs.Choice.{pick}
-use Rattle.fields.specs.Order.{orderOf, isLess, less}
+use Rattle.fields.specs.Order.{orderOf, isLess, less, flip}
 use Rattle.fields.specs.declared.Order.{Order}
 use Rattle.fields.specs.declared.Order.the-variants.{Less, Same, Greater}
 use Rattle.fields.proofs.Choices.{false-true, off}
@@ -45,12 +45,6 @@ order-front (x ∷ a) (y ∷ b) a' b' h = go (ltb x y) (ltb y x) (order-front a 
     go true t i = refl
     go false true i = refl
     go false false i = i
-
--- the two ways round
-abbrev pub flip : Order → Order
-flip Less = Greater
-flip Same = Same
-flip Greater = Less
 
 pub order-flip : (a b : List ℕ) → orderOf b a ≡ flip (orderOf a b)
 unfolding orderOf
@@ -146,7 +140,8 @@ le-less (x ∷ a) [] (z ∷ c) h k = absurd (false-true (sym h))
 le-less (x ∷ a) (y ∷ b) (z ∷ c) h k =
     ⊎-elim
     (λ (l : x < y). ⊎-elim (λ (m : y < z). less-lt x z a c (omega arith)) (λ (m : (y ≡ z) × (less b c ≡ true)). less-lt x z a c (omega (arith, m .0))) (less-inv y z b c k))
-    (λ (l : (y ≡ x) × (less b a ≡ false)). ⊎-elim (λ (m : y < z). less-lt x z a c (omega (arith, l .0))) (λ (m : (y ≡ z) × (less b c ≡ true)). less-eq x z a c (omega (arith, l .0, m .0)) ∙ le-less a b c (l .1) (m .1)) (less-inv y z b c k))
+    (λ (l : (y ≡ x) × (less b a ≡ false)). ⊎-elim (λ (m : y < z). less-lt x z a c (omega (arith, l .0)))
+    (λ (m : (y ≡ z) × (less b c ≡ true)). less-eq x z a c (omega (arith, l .0, m .0)) ∙ le-less a b c (l .1) (m .1)) (less-inv y z b c k))
     (not-less-inv y x b a h)
 
 -- a below b, b at most c
@@ -159,7 +154,8 @@ less-le [] (y ∷ b) (z ∷ c) h k = refl
 less-le (x ∷ a) (y ∷ b) (z ∷ c) h k =
     ⊎-elim
     (λ (l : x < y). ⊎-elim (λ (m : y < z). less-lt x z a c (omega arith)) (λ (m : (z ≡ y) × (less c b ≡ false)). less-lt x z a c (omega (arith, m .0))) (not-less-inv z y c b k))
-    (λ (l : (x ≡ y) × (less a b ≡ true)). ⊎-elim (λ (m : y < z). less-lt x z a c (omega (arith, l .0))) (λ (m : (z ≡ y) × (less c b ≡ false)). less-eq x z a c (omega (arith, l .0, m .0)) ∙ less-le a b c (l .1) (m .1)) (not-less-inv z y c b k))
+    (λ (l : (x ≡ y) × (less a b ≡ true)). ⊎-elim (λ (m : y < z). less-lt x z a c (omega (arith, l .0)))
+    (λ (m : (z ≡ y) × (less c b ≡ false)). less-eq x z a c (omega (arith, l .0, m .0)) ∙ less-le a b c (l .1) (m .1)) (not-less-inv z y c b k))
     (less-inv x y a b h)
 
 -- transitive

@@ -1,8 +1,9 @@
 -- For each public function: any two results that its contract allows are equal, buffers too. `Learnt` is the contract as a caller reads it.
-use mathlib.Core.Path.{_≡_}
-use Rattle.fields.proofs.Choices.{agree}
 use Prim.Native.Nat.{ℕ}
+use mathlib.Core.Path.{_≡_}
 use Rattle.fields.specs.declared.Order.{Order}
+use Rattle.fields.proofs.Choices.{agree}
+use Rattle.fields.proofs.wide.Reads as wide
 use Rattle.fields.proofs.read_two.Reads as read-two
 use Rattle.fields.proofs.read_four.Reads as read-four
 use Rattle.fields.proofs.read_pointer.Reads as read-pointer
@@ -12,6 +13,9 @@ use Rattle.fields.proofs.common_front.Reads as common-front
 use Rattle.fields.proofs.compare.Reads as compare
 use Rattle.fields.proofs.copy.Reads as copy
 use Rattle.fields.proofs.fill.Reads as fill
+
+pub unique-wide : (κs : _) (args : _) (r s : ℕ) (e f : _) → wide.Learnt κs args r e → wide.Learnt κs args s f → r ≡ s
+unique-wide κs args r s e f p q = agree (p .0) (q .0)
 
 pub unique-read-two : (κs : _) (args : _) (r s : ℕ) (e f : _) → read-two.Learnt κs args r e → read-two.Learnt κs args s f → r ≡ s
 unique-read-two κs args r s e f p q = agree (p .0) (q .0)

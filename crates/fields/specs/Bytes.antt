@@ -8,8 +8,8 @@ use lib.ListN.{length, getD, take, drop}
 abbrev pub Octets : List ℕ → Type 0
 Octets xs = (i : ℕ) → getD xs i 0 < 256
 
--- the n bytes from place a on
-abbrev pub part : List ℕ → ℕ → ℕ → List ℕ
+-- the n elements from place a on
+abbrev pub part : {A : Type 0} → List A → ℕ → ℕ → List A
 part xs a n = take n (drop a xs)
 
 -- xs with new stored from place a on

@@ -1,4 +1,4 @@
--- Choosing by a test: the small words that every definition of the register is made of.
+-- Choosing by a test: the small words that every definition of the register is made of. No document speaks of them.
 use mathlib.Core.Bool.{Bool, true, false}
 
 -- the first where the test holds, else the second

@@ -1,4 +1,5 @@
 pub mod Choice
+pub mod Lists
 pub mod Bytes
 pub mod Order
 pub mod Table

@@ -27,3 +27,9 @@ unfoldable pub common : List ℕ → List ℕ → ℕ
 common [] ys = 0
 common (x ∷ xs) [] = 0
 common (x ∷ xs) (y ∷ ys) = pick (eqb x y) (suc (common xs ys)) 0
+
+-- the two ways round
+abbrev pub flip : Order → Order
+flip Less = Greater
+flip Same = Same
+flip Greater = Less

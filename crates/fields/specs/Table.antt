@@ -1,4 +1,4 @@
--- What a table of cases is made of: tests that all must hold, and sameness of lists.
+-- What a table of cases is made of, tests that all must hold and sameness of lists: the words of document 01, 'Registers on both sides of each edge'.
 use Prim.Native.Nat.{ℕ}
 use mathlib.Core.Bool.{Bool, true, false}
 use mathlib.Core.List.{List, [], _∷_}

@@ -1,6 +1,6 @@
 // Numbers and parts of byte lists: what every layout is read and written by.
-ghost use mathlib.Core.Path.{_≡_};
 ghost use Prim.Native.Nat.{_+_, _-_, _*_, _^_, _≤_, _<_};
+ghost use mathlib.Core.Path.{_≡_};
 ghost use mathlib.Core.Logic.{_⊎_};
 ghost use lib.ListN.{length, replicate};
 ghost use Rattle.fields.specs.Bytes.{number, digits, splice};
@@ -13,7 +13,8 @@ pub enum Order {
     Greater,
 }
 
-pub(crate) fn wide(x: u8) -> usize
+// A byte as a number.
+pub fn wide(x: u8) -> usize
     ensures { λ r. ⌜ (r ≡ x) × (r < 256) ⌝ }
 {
     x as usize

@@ -11,15 +11,15 @@ use borrow.Author.Tests.{eqb-true, leb-true, leb-false, eq-eqb, ne-eqb, le-leb, 
 use Rattle.fields.specs.Choice.{both}
 use Rattle.fields.specs.Bytes.{Octets}
 use Rattle.fields.specs.Order.{less}
+use Rattle.fields.specs.Table.{sameList}
 use Rattle.fields.proofs.Choices.{false-true, both-false, both-none, same-means}
 use Rattle.fields.proofs.Octets.{octets-append, octets-take, octets-part}
-use Rattle.fields.specs.Table.{sameList}
 use Rattle.index.specs.Bounds.{empty, bound}
 use Rattle.index.specs.Meaning.{Entry, Meaning}
 use Rattle.index.specs.Rules.{rises, closed, baseFine, keepsRules}
 use Rattle.index.specs.Pieces.{Piece, spelt, spell, frontsFit, pieceSize, piecesSize, lastChars}
 use Rattle.index.specs.Reading.{unusedAt, lastAt, sectionAt, freeCount, lengthAt, pieceAt, piecesAt, piecesIn, readIndex, frame, places, soundIndex}
-use Rattle.index.proofs.Filling.{octets-bound, length-bound, empty-highest}
+use Rattle.index.proofs.Bounds.{octets-bound, length-bound, empty-highest}
 use Rattle.index.proofs.Keeping.{rules-apart, separator-short, rises-apart}
 use Rattle.index.proofs.Sounding.{sound-apart}
 
@@ -152,7 +152,12 @@ sound-base w K n low ib = go (closed [] (spell [] (piecesIn w n ib))) refl
         ≡ both (frame w ib) (both (basePlaces w n ib) (both (frontsFit [] (piecesIn w n ib)) (keepsRules (length ib) K n low [] (readIndex w n ib))))
     go true c = rw (places-base w n ib c)
     go false c =
-        rw (rules-closed (length ib) K n low (readIndex w n ib) (unfold readIndex in c), both-none (places w n ib) (frontsFit [] (piecesIn w n ib)), both-none (basePlaces w n ib) (frontsFit [] (piecesIn w n ib)))
+        rw (
+          rules-closed (length ib) K n low (readIndex w n ib) (unfold readIndex in c),
+          both-none (places w n ib) (frontsFit [] (piecesIn w n ib)),
+          both-none
+              (basePlaces w n ib) (frontsFit [] (piecesIn w n ib)),
+        )
 
 -- With one-byte numbers the free count is what U says, and the first equation is that U is 24 at least.
 pub count-one : (ib : List ℕ) → freeCount 1 ib ≡ unusedAt ib - 24

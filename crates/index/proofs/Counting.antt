@@ -10,7 +10,9 @@ use native.Mathlib.Omega.{arith}
 use native.Mathlib.Nat.{le-of-suc-le-suc, eq-or-lt-of-le}
 use borrow.Author.Tests.{eqb-true, ltb-true, eq-eqb, ne-eqb}
 use Rattle.fields.specs.Choice.{pick, both}
-use Rattle.fields.proofs.Choices.{both-split, both-assoc}
+use Rattle.fields.specs.Lists.{every}
+use Rattle.fields.proofs.Choices.{both-split}
+use Rattle.fields.proofs.Lists.{every-append}
 use Rattle.index.specs.Meaning.{count, below, once}
 
 -- ---- how often
@@ -73,24 +75,22 @@ once-each xs (suc n) k o h =
 -- ---- all below a bound
 
 pub below-append : (n : ℕ) (xs ys : List ℕ) → below n (xs ++ ys) ≡ both (below n xs) (below n ys)
-unfolding below
-below-append n [] ys = refl
-below-append n (x ∷ xs) ys = rw (below-append n xs ys) (sym (both-assoc (ltb x n) (below n xs) (below n ys)))
+below-append n xs ys = every-append (λ (x : ℕ). ltb x n) xs ys
 
 pub below-apart : (n x : ℕ) (xs : List ℕ) → below n (x ∷ xs) ≡ true → (x < n) × (below n xs ≡ true)
-unfolding below
+unfolding every
 below-apart n x xs h =
     let s = both-split (ltb x n) (below n xs) h in
     (ltb-true x n (s .0), s .1)
 
 pub below-at : (n : ℕ) (xs : List ℕ) (i : ℕ) → below n xs ≡ true → i < length xs → getD xs i 0 < n
-unfolding below
+unfolding every
 below-at n [] i h l = absurd (omega arith)
 below-at n (x ∷ xs) zero h l = ltb-true x n (both-split (ltb x n) (below n xs) h .0)
 below-at n (x ∷ xs) (suc i) h l = below-at n xs i (both-split (ltb x n) (below n xs) h .1) (omega arith)
 
 pub below-take : (n k : ℕ) (xs : List ℕ) → below n xs ≡ true → below n (take k xs) ≡ true
-unfolding below
+unfolding every
 below-take n zero xs h = refl
 below-take n (suc k) [] h = refl
 below-take n (suc k) (x ∷ xs) h =
@@ -99,7 +99,7 @@ below-take n (suc k) (x ∷ xs) h =
 
 -- What is in a list of numbers below n is below n.
 pub below-among : (n k : ℕ) (ks : List ℕ) → below n ks ≡ true → List·Memᴰ k ks → k < n
-unfolding below
+unfolding every
 below-among n k [] b i = absurd (List·Memᴰ·not-nil i)
 below-among n k (x ∷ ks) b i =
     let s = both-split (ltb x n) (below n ks) b in

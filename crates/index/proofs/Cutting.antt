@@ -1,5 +1,5 @@
 -- The separator of a cut: it is one, the left part's last key is at most its bound, and the right part's first key is above it.
-use Prim.Native.Nat.{ℕ, zero, suc, _-_, _≤_, _<_}
+use Prim.Native.Nat.{ℕ, zero, suc, _-_, _<_}
 use mathlib.Core.Path.{_≡_, refl, _∙_}
 use mathlib.Core.Bool.{true, false}
 use mathlib.Core.List.{List, [], _∷_}
@@ -11,8 +11,8 @@ use Rattle.fields.specs.Bytes.{Octets}
 use Rattle.fields.specs.Order.{orderOf, less, common}
 use Rattle.fields.proofs.Choices.{false-true}
 use Rattle.fields.proofs.Orders.{less-inv, less-lt, less-eq}
-use Rattle.index.specs.Bounds.{bound, separator, cutSeparator}
-use Rattle.index.proofs.Filling.{bound-cons, empty-highest}
+use Rattle.index.specs.Bounds.{bound, separator, cutSeparator, Fine}
+use Rattle.index.proofs.Bounds.{bound-cons, empty-highest}
 
 cut-same : (x y : ℕ) (a b : List ℕ) → x ≡ y → cutSeparator (x ∷ a) (y ∷ b) ≡ x ∷ cutSeparator a b
 unfolding cutSeparator common
@@ -44,14 +44,9 @@ cut-above K [] (y ∷ b) p q o h = absurd (omega arith)
 cut-above zero (x ∷ a) (y ∷ b) p q o h = absurd (omega arith)
 cut-above (suc K) (x ∷ a) (y ∷ b) p q o h =
     ⊎-elim (λ (l : x < y). rw (cut-other x y a b l, bound-cons) (less-eq x x (bound K []) a refl ∙ empty-highest K a (omega arith) (λ i. o (suc i))))
-    (λ (l : (x ≡ y) × (less a b ≡ true)). rw (cut-same x y a b (l .0), bound-cons) (less-eq x x (bound K (cutSeparator a b)) a refl ∙ cut-above K a b (omega arith) (omega arith) (λ i. o (suc i)) (l .1)))
+    (λ (l : (x ≡ y) × (less a b ≡ true)). rw (cut-same x y a b (l .0), bound-cons)
+    (less-eq x x (bound K (cutSeparator a b)) a refl ∙ cut-above K a b (omega arith) (omega arith) (λ i. o (suc i)) (l .1)))
     (less-inv x y a b h)
-
--- A separator of at least one byte and at most K, whose last byte is below X'FF'.
-pub record Fine (K : ℕ) (s : List ℕ) : Type 0 where
-  pub some : 0 < length s
-  pub most : length s ≤ K
-  pub last : getD s (length s - 1) 0 < 255
 
 fine-more : (K x : ℕ) (s : List ℕ) → Fine K s → Fine (suc K) (x ∷ s)
 fine-more K x [] c = absurd (omega (arith, c .some))

@@ -1,6 +1,5 @@
 -- The writer's form written out: an entry's bytes, one entry more, the whole record.
-use Prim.Native.Nat.{ℕ, _+_, _-_, _*_}
-use Prim.Native.Nat.{_≤_}
+use Prim.Native.Nat.{ℕ, _+_, _-_, _*_, _≤_}
 use mathlib.Core.Path.{_≡_, refl}
 use mathlib.Core.Bool.{true}
 use mathlib.Core.List.{List, [], _∷_, _++_}

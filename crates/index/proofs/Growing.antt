@@ -13,13 +13,12 @@ use Rattle.fields.proofs.Choices.{false-true}
 use Rattle.fields.proofs.Orders.{less-inv}
 use Rattle.fields.proofs.Fronts.{common-left, common-right, common-none}
 use Rattle.index.specs.Bounds.{bound}
-use Rattle.index.specs.Meaning.{Entry}
+use Rattle.index.specs.Meaning.{Entry, entry, separatorBefore}
 use Rattle.index.specs.Rules.{rises}
 use Rattle.index.specs.Form.{entrySize, entriesSize, indexSize}
-use Rattle.index.proofs.Filling.{bound-cons, length-bound, octets-bound, empty-highest}
+use Rattle.index.specs.Divided.{beforeCut, afterCut}
+use Rattle.index.proofs.Bounds.{bound-cons, length-bound, octets-bound, empty-highest}
 use Rattle.index.proofs.Keeping.{separator-short, rises-apart}
-use Rattle.index.proofs.Inserting.{entry}
-use Rattle.index.proofs.Dividing.{ready, divided}
 
 common-same : (x y : ℕ) (a b : List ℕ) → x ≡ y → common (x ∷ a) (y ∷ b) ≡ suc (common a b)
 unfolding common
@@ -44,7 +43,9 @@ common-between zero (x ∷ p) (y ∷ s) (z ∷ t) lp ls lt o a b = absurd (omega
 common-between (suc K) (x ∷ p) (y ∷ s) (z ∷ t) lp ls lt o a b =
     ⊎-elim
     (λ (l : x < y). ⊎-elim (λ (k : y < z). low l (omega arith)) (λ (k : (y ≡ z) × (less (bound K s) (bound K t) ≡ true)). low l (omega (arith, k .0))) second)
-    (λ (l : (x ≡ y) × (less (bound K p) (bound K s) ≡ true)). ⊎-elim (λ (k : y < z). high k (omega (arith, l .0))) (λ (k : (y ≡ z) × (less (bound K s) (bound K t) ≡ true)). same (l .0) (k .0) (common-between K p s t (omega arith) (omega arith) (omega arith) (λ i. o (suc i)) (λ (h : 0 < length p). l .1) (k .1))) second)
+    (λ (l : (x ≡ y) × (less (bound K p) (bound K s) ≡ true)). ⊎-elim (λ (k : y < z). high k (omega (arith, l .0)))
+    (λ (k : (y ≡ z) × (less (bound K s) (bound K t) ≡ true)). same (l .0) (k .0)
+    (common-between K p s t (omega arith) (omega arith) (omega arith) (λ i. o (suc i)) (λ (h : 0 < length p). l .1) (k .1))) second)
     first
   where
     first : (x < y) ⊎ ((x ≡ y) × (less (bound K p) (bound K s) ≡ true))
@@ -61,11 +62,6 @@ common-between (suc K) (x ∷ p) (y ∷ s) (z ∷ t) lp ls lt o a b =
 
     same : x ≡ y → y ≡ z → min (common p s) (common s t) ≡ common p t → min (common (x ∷ p) (y ∷ s)) (common (y ∷ s) (z ∷ t)) ≡ common (x ∷ p) (z ∷ t)
     same l k i = omega (arith, common-same x y p s l, common-same y z s t k, common-same x z p t (l ∙ k), i)
-
--- the separator before the entry that comes after these
-unfoldable pub separatorBefore : List ℕ → List Entry → List ℕ
-separatorBefore ref [] = ref
-separatorBefore ref (e ∷ es) = separatorBefore (e .sep) es
 
 grow-here : (w : ℕ) (p s t : List ℕ) → min (common p s) (common s t) ≡ common p t
     → entrySize w p s + entrySize w s t + max (common p s) (common s t) ≡ entrySize w p t + (w + 2 + length s)
@@ -91,9 +87,9 @@ entries-grow w K low ref (x ∷ pre) s n n' e post o h l r =
 
 -- With the free number that it takes, an index record grows by exactly 2 + length s less the longer common front: by 2 at least.
 pub index-grows : (w K : ℕ) (low kept : List ℕ) (spare : ℕ) (free : List ℕ) (a : ℕ) (pre : List Entry) (e : Entry) (post : List Entry) (s : List ℕ) → Octets (e .sep)
-    → rises K low (divided kept spare free a pre e post s .entries) ≡ true
-    → indexSize w (divided kept spare free a pre e post s) + max (common (separatorBefore [] pre) s) (common s (e .sep))
-    ≡ indexSize w (ready kept spare free a pre e post) + (2 + length s)
+    → rises K low (afterCut kept spare free a pre e post s .entries) ≡ true
+    → indexSize w (afterCut kept spare free a pre e post s) + max (common (separatorBefore [] pre) s) (common s (e .sep))
+    ≡ indexSize w (beforeCut kept spare free a pre e post) + (2 + length s)
 unfolding indexSize
 index-grows w K low kept spare free a pre e post s o r =
     omega
@@ -101,7 +97,7 @@ index-grows w K low kept spare free a pre e post s o r =
 
 -- So it always grows, although a free number goes.
 pub index-grows-some : (w K : ℕ) (low kept : List ℕ) (spare : ℕ) (free : List ℕ) (a : ℕ) (pre : List Entry) (e : Entry) (post : List Entry) (s : List ℕ) → Octets (e .sep)
-    → rises K low (divided kept spare free a pre e post s .entries) ≡ true
-    → indexSize w (ready kept spare free a pre e post) + 2 ≤ indexSize w (divided kept spare free a pre e post s)
+    → rises K low (afterCut kept spare free a pre e post s .entries) ≡ true
+    → indexSize w (beforeCut kept spare free a pre e post) + 2 ≤ indexSize w (afterCut kept spare free a pre e post s)
 index-grows-some w K low kept spare free a pre e post s o r =
     omega (arith, index-grows w K low kept spare free a pre e post s o r, common-right (separatorBefore [] pre) s, common-left s (e .sep))

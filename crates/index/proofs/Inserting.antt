@@ -8,13 +8,10 @@ use Rattle.fields.specs.Bytes.{Octets}
 use Rattle.fields.specs.Order.{less}
 use Rattle.fields.proofs.Orders.{less-le}
 use Rattle.index.specs.Bounds.{bound, separator, cutSeparator}
-use Rattle.index.specs.Meaning.{Entry}
+use Rattle.index.specs.Meaning.{Entry, entry}
 use Rattle.index.specs.Rules.{rises, closed, boundBefore}
 use Rattle.index.proofs.Keeping.{rises-apart}
 use Rattle.index.proofs.Cutting.{cut-below, cut-above, cut-fine, cut-separator}
-
-abbrev pub entry : List ℕ → ℕ → Entry
-entry s n = record { sep = s; num = n }
 
 -- ---- bounds
 

@@ -8,6 +8,7 @@ use lib.Dec.{ltb}
 use native.Mathlib.Omega.{arith}
 use borrow.Author.Tests.{ltb-true}
 use Rattle.fields.specs.Bytes.{part, number, digits}
+use Rattle.fields.specs.Lists.{every}
 use Rattle.fields.proofs.Choices.{both-split}
 use Rattle.fields.proofs.Numbers.{length-digits, at-seam, part-seam, number-seam}
 use Rattle.index.specs.Meaning.{numbers, below}
@@ -18,7 +19,7 @@ use Rattle.index.proofs.Compressing.{length-piecesBytes}
 
 -- Free numbers that were laid are read, if they are below what w bytes hold.
 pub free-there : (w n : ℕ) (b p xs t : List ℕ) (i : ℕ) → n ≤ 256 ^ w → below n xs ≡ true → b ≡ p ++ (freeBytes w xs ++ t) → length p ≡ i → numbersAt w b i (length xs) ≡ xs
-unfolding numbersAt freeBytes below
+unfolding numbersAt freeBytes every
 free-there w n b p [] t i h l e q = refl
 free-there w n b p (x ∷ xs) t i h l e q =
     let s = both-split (ltb x n) (below n xs) l in
@@ -48,7 +49,7 @@ pieces-cons w b r e x q = ap (λ (y : Piece). y ∷ piecesAt w b (r - pieceSize 
 -- All pieces that were laid up to r are read from there, each from the right edge that the one before left.
 pub pieces-there : (w n : ℕ) (b p t ref : List ℕ) (ps : List Piece) (r : ℕ) → n ≤ 256 ^ w → below n (numbers (spell ref ps)) ≡ true
     → b ≡ p ++ (piecesBytes w ps ++ t) → length p + piecesSize w ps ≡ r → piecesAt w b r (length ps) ≡ ps
-unfolding piecesAt piecesBytes piecesSize spell below
+unfolding piecesAt piecesBytes piecesSize spell every
 pieces-there w n b p t ref [] r h l q e = refl
 pieces-there w n b p t ref (x ∷ ps) r h l q e =
     let s = both-split (ltb (x .num) n) (below n (numbers (spell (spelt ref x) ps))) l in

@@ -13,19 +13,9 @@ use Rattle.fields.proofs.Orders.{less-trans}
 use Rattle.index.specs.Bounds.{bound}
 use Rattle.index.specs.Meaning.{Entry}
 use Rattle.index.specs.Rules.{rises, closed, boundBefore}
-use Rattle.index.specs.Search.{leadsTo}
-use Rattle.index.proofs.Filling.{lead-is-bound, empty-highest}
+use Rattle.index.specs.Search.{leadsTo, Belongs}
+use Rattle.index.proofs.Bounds.{lead-is-bound, empty-highest}
 use Rattle.index.proofs.Keeping.{separator-short, rises-apart}
-
--- The entry at place i holds the key's range: the bound before it is below the key, and its own is not.
-pub record Belongs (K : ℕ) (low key : List ℕ) (es : List Entry) (i : ℕ) : Type 0 where
-  pub pre : List Entry
-  pub entry : Entry
-  pub post : List Entry
-  pub split : es ≡ pre ++ (entry ∷ post)
-  pub place : length pre ≡ i
-  pub above : less (boundBefore K low pre) key ≡ true
-  pub within : less (bound K (entry .sep)) key ≡ false
 
 module _ (K : ℕ) (key : List ℕ) (long : length key ≡ K) (o : Octets key) where
   -- one entry more

@@ -10,6 +10,7 @@ use native.Mathlib.Omega.{arith}
 use native.Mathlib.Nat.{not-suc-le-zero, le-of-suc-le-suc, eq-or-lt-of-le}
 use borrow.Author.Tests.{eqb-true, ltb-true}
 use Rattle.fields.specs.Choice.{both}
+use Rattle.fields.specs.Lists.{every}
 use Rattle.fields.proofs.Choices.{both-split}
 use Rattle.index.specs.Meaning.{Entry, Meaning, numbers, named, count, below, once, namedOnce}
 use Rattle.index.proofs.Counting.{count-same, count-other, count-none, count-cons, count-append, below-append, once-each}
@@ -41,7 +42,7 @@ total-cons x xs (suc n) h = ⊎-elim (λ (p : x ≡ n). same p) (λ (l : x < n).
     other l i = rw (count-other n x xs (omega arith), i) (omega arith)
 
 below-total : (n : ℕ) (xs : List ℕ) → below n xs ≡ true → total xs n ≡ length xs
-unfolding below
+unfolding every
 below-total n [] e = total-nil n
 below-total n (x ∷ xs) e =
     let s = both-split (ltb x n) (below n xs) e in
@@ -94,13 +95,30 @@ once-same xs ys (suc n) h = rw (h n, once-same xs ys n h)
 module _ (free pre post : List ℕ) (a x : ℕ) where
   same-counts : (k : ℕ) → count k ((free ++ (a ∷ [])) ++ (pre ++ (x ∷ post))) ≡ count k (free ++ (pre ++ (x ∷ a ∷ post)))
   same-counts k =
-      omega
-      (arith, count-append k (free ++ (a ∷ [])) (pre ++ (x ∷ post)), count-append k free (a ∷ []), count-append k pre (x ∷ post), count-append k free (pre ++ (x ∷ a ∷ post)), count-append k pre (x ∷ a ∷ post), count-cons k a [], count-none k, count-cons k x post, count-cons k x (a ∷ post), count-cons k a post)
+      omega (
+        arith,
+        count-append k (free ++ (a ∷ [])) (pre ++ (x ∷ post)),
+        count-append k free (a ∷ []),
+        count-append k pre (x ∷ post),
+        count-append k free (pre ++ (x ∷ a ∷ post)),
+        count-append k pre (x ∷ a ∷ post),
+        count-cons k a [],
+        count-none k,
+        count-cons k x post,
+        count-cons k x (a ∷ post),
+        count-cons k a post,
+      )
 
   same-below : (n : ℕ) → below n ((free ++ (a ∷ [])) ++ (pre ++ (x ∷ post))) ≡ below n (free ++ (pre ++ (x ∷ a ∷ post)))
-  unfolding below
+  unfolding every
   same-below n =
-      rw (below-append n (free ++ (a ∷ [])) (pre ++ (x ∷ post)), below-append n free (a ∷ []), below-append n pre (x ∷ post), below-append n free (pre ++ (x ∷ a ∷ post)), below-append n pre (x ∷ a ∷ post)) (inner n)
+      rw (
+        below-append n (free ++ (a ∷ [])) (pre ++ (x ∷ post)),
+        below-append n free (a ∷ []),
+        below-append n pre (x ∷ post),
+        below-append n free (pre ++ (x ∷ a ∷ post)),
+        below-append n pre (x ∷ a ∷ post),
+      ) (inner n)
     where
       go : (f l p y q : Bool) → both (both f (both l true)) (both p (both y q)) ≡ both f (both p (both y (both l q)))
       go false l p y q = refl

@@ -31,23 +31,32 @@ module _ (w S K n : ℕ) (low end : List ℕ) (m : Meaning) (ib : List ℕ) (wid
   every =
       omega (arith, free-and-used n m (kept .naming), ap (λ (es : List Entry). length es) (laid .spells), length-spell [] (laid .pieces))
 
-  whole : S ≡ recordLength w m (laid .gap) (laid .pieces) + 7
-  whole = sym (laid .size) ∙ ap length (laid .bytes) ∙ length-layout w m (laid .gap) (laid .pieces) (laid .twelve)
+  whole : S ≡ recordLength w m (laid .unused) (laid .pieces) + 7
+  whole = sym (laid .size) ∙ ap length (laid .bytes) ∙ length-layout w m (laid .unused) (laid .pieces) (laid .twelve)
 
-  small : recordLength w m (laid .gap) (laid .pieces) < 65536
+  small : recordLength w m (laid .unused) (laid .pieces) < 65536
   small = omega (arith, whole)
 
   -- What was laid out is read as what it means, whatever the choice of F and the bytes in the unused space.
   pub index-reads : readIndex w n ib ≡ m
   index-reads =
-      rw (laid .bytes) (read-there w m (laid .gap) (laid .pieces) (laid .twelve) small n width wide (laid .spells) every free-below used-below)
+      rw (laid .bytes) (read-there w m (laid .unused) (laid .pieces) (laid .twelve) small n width wide (laid .spells) every free-below used-below)
 
   -- What was laid out and keeps the rules is never called damaged.
   pub index-never-damaged : soundIndex w K n low end ib ≡ true
   unfolding soundIndex
   index-never-damaged =
-      rw
-      (index-reads, laid .size, rules, laid .bytes, frame-there w m (laid .gap) (laid .pieces) (laid .twelve) small, places-there w m (laid .gap) (laid .pieces) (laid .twelve) small n width wide (laid .spells) every free-below used-below, all-there w m (laid .gap) (laid .pieces) (laid .twelve) small n width wide (laid .spells) every free-below used-below, laid .fits)
+      rw (
+        index-reads,
+        laid .size,
+        rules,
+        laid .bytes,
+        frame-there w m (laid .unused) (laid .pieces) (laid .twelve) small,
+        places-there w m (laid .unused) (laid .pieces)
+            (laid .twelve) small n width wide (laid .spells) every free-below used-below,
+        all-there w m (laid .unused) (laid .pieces) (laid .twelve) small n width wide (laid .spells) every free-below used-below,
+        laid .fits,
+      )
 
 -- Bytes are laid out as one meaning only.
 pub laid-one : (w S K n : ℕ) (low end : List ℕ) (m m' : Meaning) (ib : List ℕ) → 1 ≤ w → n ≤ 256 ^ w → S ≤ 32768 → LaidOut w S m ib → LaidOut w S m' ib

@@ -14,7 +14,7 @@ use Rattle.index.specs.Pieces.{Piece, spell, piecesSize, oneByteEach}
 use Rattle.index.specs.Layout.{piecesBytes, freeBytes, unusedPlace, lastPlace, recordLength, header, trailer, layout, LaidOut}
 use Rattle.index.specs.Reading.{unusedAt, lastAt, freeCount, piecesIn, readIndex, soundIndex}
 use Rattle.index.proofs.Sounding.{Sound, sound-apart}
-use Rattle.index.proofs.Taking.{part-at, byte-at, field-at, length-numbersAt, free-at, pieces-at, small-at, trailer-at}
+use Rattle.index.proofs.Apart.{part-at, byte-at, field-at, length-numbersAt, free-at, pieces-at, small-at, trailer-at}
 
 module _ (w K n : ℕ) (low end ib : List ℕ) (o : Octets ib) (some : 31 ≤ length ib) (sound : soundIndex w K n low end ib ≡ true) where
   s : Sound w K n low end ib
@@ -39,13 +39,13 @@ module _ (w K n : ℕ) (low end ib : List ℕ) (o : Octets ib) (some : 31 ≤ le
   abbrev B : ℕ
   B = R - piecesSize w ps
 
-  abbrev gap : List ℕ
-  gap = part ib U (B - U)
+  abbrev unused : List ℕ
+  unused = part ib U (B - U)
 
   abbrev m : Meaning
   m = readIndex w n ib
 
-  length-gap : length gap ≡ B - U
+  length-gap : length unused ≡ B - U
   length-gap = length-mid ib U (B - U) (omega (arith, s .placed .apart))
 
   ended : drop S ib ≡ []
@@ -55,15 +55,15 @@ module _ (w K n : ℕ) (low end ib : List ℕ) (o : Octets ib) (some : 31 ≤ le
   unfolding piecesIn
   from-entries = pieces-at w ib R (n - freeCount w ib) (trailer R) o (omega arith) (omega (arith, s .placed .apart)) (trailer-at w ib o some (s .framed))
 
-  from-unused : drop U ib ≡ gap ++ (piecesBytes w ps ++ trailer R)
+  from-unused : drop U ib ≡ unused ++ (piecesBytes w ps ++ trailer R)
   from-unused = part-at ib U (B - U) B _ (omega (arith, s .placed .apart)) from-entries
 
-  from-free : drop 24 ib ≡ freeBytes w (m .free) ++ (gap ++ (piecesBytes w ps ++ trailer R))
+  from-free : drop 24 ib ≡ freeBytes w (m .free) ++ (unused ++ (piecesBytes w ps ++ trailer R))
   unfolding readIndex
   from-free = free-at w ib 24 (freeCount w ib) U _ o (s .placed .unused) (omega (arith, s .placed .apart)) from-unused
 
   abbrev body : List ℕ
-  body = freeBytes w (m .free) ++ (gap ++ (piecesBytes w ps ++ trailer R))
+  body = freeBytes w (m .free) ++ (unused ++ (piecesBytes w ps ++ trailer R))
 
   from-header : ib ≡ header w m R U E ++ body
   unfolding header readIndex
@@ -89,13 +89,13 @@ module _ (w K n : ℕ) (low end ib : List ℕ) (o : Octets ib) (some : 31 ≤ le
   unused-is : unusedPlace w m ≡ U
   unused-is = rw free-many (s .placed .unused)
 
-  last-is : lastPlace w m gap ps ≡ E
+  last-is : lastPlace w m unused ps ≡ E
   last-is = omega (arith, unused-is, length-gap, s .placed .apart, s .placed .last)
 
-  record-is : recordLength w m gap ps ≡ R
+  record-is : recordLength w m unused ps ≡ R
   record-is = omega (arith, unused-is, length-gap, s .placed .apart)
 
-  laid : ib ≡ layout w m gap ps
+  laid : ib ≡ layout w m unused ps
   unfolding layout
   laid = rw (record-is, last-is, unused-is) from-header
 
@@ -114,7 +114,7 @@ module _ (w K n : ℕ) (low end ib : List ℕ) (o : Octets ib) (some : 31 ≤ le
   -- Bytes that are called sound were laid out as what they are read as.
   pub index-only-laid-out : LaidOut w (length ib) (readIndex w n ib) ib
   index-only-laid-out =
-      record { pieces = ps; gap = gap; twelve = twelve; fits = s .fronts; small = small; spells = spells; bytes = laid; size = refl }
+      record { pieces = ps; unused = unused; twelve = twelve; fits = s .fronts; small = small; spells = spells; bytes = laid; size = refl }
 
   -- And what they are read as keeps the rules.
   pub index-keeps-rules : keepsRules (length ib) K n low end (readIndex w n ib) ≡ true

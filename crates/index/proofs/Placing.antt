@@ -24,21 +24,21 @@ last-short (p ∷ q ∷ ps) w = omega (arith, last-short (q ∷ ps) w)
 
 -- ---- where everything lies in a layout
 
-module _ (w : ℕ) (m : Meaning) (gap : List ℕ) (ps : List Piece) (kept12 : length (m .kept) ≡ 12) where
+module _ (w : ℕ) (m : Meaning) (unused : List ℕ) (ps : List Piece) (kept12 : length (m .kept) ≡ 12) where
   abbrev b : List ℕ
-  b = layout w m gap ps
+  b = layout w m unused ps
 
   abbrev U : ℕ
   U = unusedPlace w m
 
   abbrev E : ℕ
-  E = lastPlace w m gap ps
+  E = lastPlace w m unused ps
 
   abbrev R : ℕ
-  R = recordLength w m gap ps
+  R = recordLength w m unused ps
 
   abbrev body : List ℕ
-  body = freeBytes w (m .free) ++ (gap ++ (piecesBytes w ps ++ trailer R))
+  body = freeBytes w (m .free) ++ (unused ++ (piecesBytes w ps ++ trailer R))
 
   -- what follows place 22, 20, 18, 16 and 4
   abbrev t22 : List ℕ
@@ -106,12 +106,12 @@ module _ (w : ℕ) (m : Meaning) (gap : List ℕ) (ps : List Piece) (kept12 : le
   parted = refl
 
   abbrev left : List ℕ
-  left = head24 ++ (freeBytes w (m .free) ++ gap)
+  left = head24 ++ (freeBytes w (m .free) ++ unused)
 
-  length-left : length left ≡ U + length gap
+  length-left : length left ≡ U + length unused
   length-left =
       omega
-      (arith, length-append head24 (freeBytes w (m .free) ++ gap), length-24, length-append (freeBytes w (m .free)) gap, length-freeBytes w (m .free))
+      (arith, length-append head24 (freeBytes w (m .free) ++ unused), length-24, length-append (freeBytes w (m .free)) unused, length-freeBytes w (m .free))
 
   abbrev most : List ℕ
   most = left ++ piecesBytes w ps
@@ -181,7 +181,7 @@ module _ (w : ℕ) (m : Meaning) (gap : List ℕ) (ps : List Piece) (kept12 : le
           rw (unused-there, z) (mul-div-cancel-left (length (m .free)) width)
 
       frees-there : numbersAt w b 24 (length (m .free)) ≡ m .free
-      frees-there = free-there w n b head24 (m .free) (gap ++ (piecesBytes w ps ++ trailer R)) 24 wide free-below parted length-24
+      frees-there = free-there w n b head24 (m .free) (unused ++ (piecesBytes w ps ++ trailer R)) 24 wide free-below parted length-24
 
       -- The pieces that were laid are read.
       pub all-there : piecesIn w n b ≡ ps
@@ -202,5 +202,17 @@ module _ (w : ℕ) (m : Meaning) (gap : List ℕ) (ps : List Piece) (kept12 : le
       unfolding places
       places-there =
           let r7 : length b - 7 ≡ R = omega (arith, length-layout) in
-          rw
-          (all-there, counted, r7, section-there, unused-there, last-there, eq-eqb U U refl, le-leb (length (m .free)) n (omega arith), le-leb (U + piecesSize w ps) R (omega arith), eq-eqb (E + piecesSize w ps) (R + length (lastChars ps)) (omega arith), eq-eqb E E refl)
+          rw (
+            all-there,
+            counted,
+            r7,
+            section-there,
+            unused-there,
+            last-there,
+            eq-eqb U U refl,
+            le-leb (length (m .free)) n (omega arith),
+            le-leb (U + piecesSize w ps) R
+                (omega arith),
+            eq-eqb (E + piecesSize w ps) (R + length (lastChars ps)) (omega arith),
+            eq-eqb E E refl,
+          )

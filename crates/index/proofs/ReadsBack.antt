@@ -7,6 +7,7 @@ use lib.ListN.{length, drop, replicate, length-replicate, length-drop}
 use native.Mathlib.Omega.{arith}
 use borrow.Author.Tests.{lt-ltb}
 use Rattle.fields.specs.Order.{common}
+use Rattle.fields.specs.Lists.{every}
 use Rattle.fields.proofs.Fronts.{common-right}
 use Rattle.index.specs.Bounds.{bound}
 use Rattle.index.specs.Meaning.{Entry, Meaning}
@@ -22,7 +23,7 @@ use Rattle.index.proofs.NeverDamaged.{index-reads, index-never-damaged}
 
 -- Where keys have at most 255 bytes, each F and L of the writer is one byte.
 pub small-packed : (K : ℕ) (low ref : List ℕ) (es : List Entry) → K ≤ 255 → rises K low es ≡ true → oneByteEach (packed ref es) ≡ true
-unfolding oneByteEach packed
+unfolding every packed
 small-packed K low ref [] h r = refl
 small-packed K low ref (e ∷ es) h r =
     let a = rises-apart K low e es r in
@@ -46,7 +47,7 @@ module _ (w S : ℕ) (m : Meaning) (twelve : length (m .kept) ≡ 12) (room : in
     form-laid-out =
         record {
           pieces = packed [] (m .entries);
-          gap = replicate (S - 7 - indexSize w m) 0;
+          unused = replicate (S - 7 - indexSize w m) 0;
           twelve = twelve;
           fits = fronts-packed [] (m .entries);
           small = small-packed K low [] (m .entries) short (rules-apart S K n low end m rules .rising);

@@ -42,4 +42,4 @@ unfolding indexSize
 laid-fits w S m ib laid =
     let l : entriesSize w [] (spell [] (laid .pieces)) ≤ piecesSize w (laid .pieces) = longest-shortest w [] (laid .pieces) (laid .fits) in
     let k : entriesSize w [] (m .entries) ≤ piecesSize w (laid .pieces) = rw (laid .spells) at l in
-    omega (arith, laid .size, ap length (laid .bytes), length-layout w m (laid .gap) (laid .pieces) (laid .twelve))
+    omega (arith, laid .size, ap length (laid .bytes), length-layout w m (laid .unused) (laid .pieces) (laid .twelve))

@@ -8,15 +8,15 @@ use lib.Dec.{eqb}
 use Rattle.fields.specs.Table.{all, sameList}
 use Rattle.fields.specs.Bytes.{part, number, digits}
 use Rattle.fields.specs.Order.{orderOf, common}
+use Rattle.fields.specs.Lists.{every}
 use Rattle.index.specs.Bounds.{bound, separator, cutSeparator}
-use Rattle.index.specs.Meaning.{Entry, Meaning, count, below, once, namedOnce}
+use Rattle.index.specs.Meaning.{Entry, Meaning, count, once, namedOnce, entry}
 use Rattle.index.specs.Rules.{rises, closed, keepsRules}
 use Rattle.index.specs.Pieces.{Piece, spell, frontsFit, piecesSize, lastChars}
 use Rattle.index.specs.Layout.{pieceBytes, piecesBytes, freeBytes, header, trailer, layout}
 use Rattle.index.specs.Form.{packed, entriesSize, entrySize, indexSize, indexBytes}
 use Rattle.index.specs.Reading.{numbersAt, piecesAt, piecesIn, readIndex, frame, places, soundIndex}
 use Rattle.index.specs.Search.{leadsTo}
-use Rattle.index.proofs.Inserting.{entry}
 
 abbrev pub meaning : List ℕ → List Entry → Meaning
 meaning fs es = record { kept = replicate 12 0; spare = 0; free = fs; entries = es }
@@ -66,5 +66,7 @@ table =
 
 -- The definitions give every byte and every place that document 01 gives.
 pub vectors : table ≡ true
-unfolding table number digits orderOf common bound separator cutSeparator count below once namedOnce rises closed keepsRules spell frontsFit piecesSize lastChars pieceBytes piecesBytes freeBytes header trailer layout packed entriesSize entrySize indexSize indexBytes numbersAt piecesAt piecesIn readIndex frame places soundIndex leadsTo
+unfolding table number digits orderOf common bound separator cutSeparator count every once namedOnce rises closed keepsRules spell frontsFit piecesSize lastChars
+    pieceBytes piecesBytes freeBytes header trailer layout packed entriesSize entrySize indexSize indexBytes numbersAt piecesAt piecesIn readIndex frame places
+    soundIndex leadsTo
 vectors = refl

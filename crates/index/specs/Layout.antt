@@ -31,11 +31,11 @@ unusedPlace w m = 24 + w * length (m .free)
 -- displacement to the control information of the last entry: it is the leftmost, so past the unused space and that entry's characters. (In the
 -- base its separator is empty and it has none.)
 abbrev pub lastPlace : ℕ → Meaning → List ℕ → List Piece → ℕ
-lastPlace w m gap ps = unusedPlace w m + length gap + length (lastChars ps)
+lastPlace w m unused ps = unusedPlace w m + length unused + length (lastChars ps)
 
 -- the record's length, S - 7
 abbrev pub recordLength : ℕ → Meaning → List ℕ → List Piece → ℕ
-recordLength w m gap ps = unusedPlace w m + length gap + piecesSize w ps
+recordLength w m unused ps = unusedPlace w m + length unused + piecesSize w ps
 
 -- The header, 24 bytes: record length R, control length, pointer indicator, base RBA with horizontal pointer and reserved bytes, level 1, reserved,
 -- displacements to the unused space (u), to the last entry (e), and to the last section entry, which is the same: one section
@@ -49,17 +49,17 @@ trailer R = 0 ∷ (digits 2 R ++ (digits 2 R ++ digits 2 0))
 
 -- header, free numbers, unused space, entries, RDF and CIDF
 unfoldable pub layout : ℕ → Meaning → List ℕ → List Piece → List ℕ
-layout w m gap ps =
-    header w m (recordLength w m gap ps) (unusedPlace w m) (lastPlace w m gap ps)
-    ++ (freeBytes w (m .free) ++ (gap ++ (piecesBytes w ps ++ trailer (recordLength w m gap ps))))
+layout w m unused ps =
+    header w m (recordLength w m unused ps) (unusedPlace w m) (lastPlace w m unused ps)
+    ++ (freeBytes w (m .free) ++ (unused ++ (piecesBytes w ps ++ trailer (recordLength w m unused ps))))
 
 -- ib is an index interval of size S that means m: with any legal choice of F at each entry, and any bytes in the unused space
 pub record LaidOut (w S : ℕ) (m : Meaning) (ib : List ℕ) : Type 0 where
   pub pieces : List Piece
-  pub gap : List ℕ
+  pub unused : List ℕ
   pub twelve : length (m .kept) ≡ 12
   pub fits : frontsFit [] pieces ≡ true
   pub small : oneByteEach pieces ≡ true
   pub spells : spell [] pieces ≡ m .entries
-  pub bytes : ib ≡ layout w m gap pieces
+  pub bytes : ib ≡ layout w m unused pieces
   pub size : length ib ≡ S

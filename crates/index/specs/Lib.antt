@@ -6,3 +6,5 @@ pub mod Layout
 pub mod Form
 pub mod Reading
 pub mod Search
+pub mod Divided
+pub mod Cuts

@@ -6,6 +6,7 @@ use mathlib.Core.List.{List, [], _∷_, _++_}
 use lib.ListN.{length, take}
 use lib.Dec.{leb, ltb}
 use Rattle.fields.specs.Choice.{both}
+use Rattle.fields.specs.Lists.{every}
 use Rattle.index.specs.Meaning.{Entry}
 
 -- F, the key characters (L of them), the pointer
@@ -29,9 +30,8 @@ frontsFit ref [] = true
 frontsFit ref (p ∷ ps) = both (leb (p .front) (length ref)) (frontsFit (spelt ref p) ps)
 
 -- F and L are one byte each
-unfoldable pub oneByteEach : List Piece → Bool
-oneByteEach [] = true
-oneByteEach (p ∷ ps) = both (ltb (p .front) 256) (both (ltb (length (p .chars)) 256) (oneByteEach ps))
+abbrev pub oneByteEach : List Piece → Bool
+oneByteEach ps = every (λ (p : Piece). both (ltb (p .front) 256) (ltb (length (p .chars)) 256)) ps
 
 -- the bytes that they take
 abbrev pub pieceSize : ℕ → Piece → ℕ

@@ -75,11 +75,12 @@ frame w ib =
 -- entry's characters; the last-section field equals the last-entry field. In the base the last entry has no characters: proofs/Closing.antt, sound-base.
 unfoldable pub places : ℕ → ℕ → List ℕ → Bool
 places w n ib =
+    let ps = piecesIn w n ib in
+    let size = piecesSize w ps in
     both (eqb (24 + w * freeCount w ib) (unusedAt ib))
     (both (leb (freeCount w ib) n)
-    (both (leb (unusedAt ib + piecesSize w (piecesIn w n ib)) (length ib - 7))
-    (both (eqb (lastAt ib + piecesSize w (piecesIn w n ib)) (length ib - 7 + length (lastChars (piecesIn w n ib))))
-    (eqb (sectionAt ib) (lastAt ib)))))
+    (both (leb (unusedAt ib + size) (length ib - 7))
+    (both (eqb (lastAt ib + size) (length ib - 7 + length (lastChars ps))) (eqb (sectionAt ib) (lastAt ib)))))
 
 unfoldable pub soundIndex : ℕ → ℕ → ℕ → List ℕ → List ℕ → List ℕ → Bool
 soundIndex w K n low end ib =

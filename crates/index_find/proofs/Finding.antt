@@ -19,17 +19,17 @@ use Rattle.index.proofs.Sounding.{sound-apart}
 use Rattle.index.proofs.Keeping.{Keeps, rules-apart}
 use Rattle.index.proofs.Leading.{lead-base, belongs-inside}
 use Rattle.index_read.specs.Check.{width}
-use Rattle.index_read.specs.Parsing.{parsedOf}
+use Rattle.index_read.specs.AidParsing.{parsedOf}
 use Rattle.index_read.specs.declared.Parsed.the-variants.{Of, Bad}
 use Rattle.index_read.proofs.Stepping.{Standing, Stepped, standing-start, standing-good, standing-step, entries-count}
-use Rattle.index_find.specs.Locate.{Readable, Leads}
+use Rattle.index_find.specs.AidLocate.{Searchable, Leads}
 
 -- the answer of a comparison
 pub below-is : (a b : List ℕ) (o : Order) (t : Bool) → o ≡ orderOf a b → isLess o ≡ t → t ≡ less a b
 below-is a b o t e h = sym (ap isLess (sym e) ∙ h)
 
 -- A key of one byte or more leads to one of the entries.
-pub leads-inside : (ib : List ℕ) (n : ℕ) (key : List ℕ) → Readable ib n key → Octets key → leadsTo key (readIndex width n ib .entries) < length (readIndex width n ib .entries)
+pub leads-inside : (ib : List ℕ) (n : ℕ) (key : List ℕ) → Searchable ib n key → Octets key → leadsTo key (readIndex width n ib .entries) < length (readIndex width n ib .entries)
 leads-inside ib n key g o =
     let s = sound-apart width (length key) n [] [] ib (g .sound) in
     let k : Keeps (length ib) (length key) n [] [] (readIndex width n ib) = rules-apart (length ib) (length key) n [] [] (readIndex width n ib) (s .rules) in
@@ -44,7 +44,7 @@ pub record State (ib : List ℕ) (n : ℕ) (key buf : List ℕ) (len r i : ℕ) 
   pub front : take len buf ≡ ref
   pub same : leadsTo key (readIndex width n ib .entries) ≡ i + leadsTo key (drop i (readIndex width n ib .entries))
 
-pub start : (ib : List ℕ) (n : ℕ) (key : List ℕ) → Readable ib n key → State ib n key (replicate 255 0) 0 (length ib - 7) 0
+pub start : (ib : List ℕ) (n : ℕ) (key : List ℕ) → Searchable ib n key → State ib n key (replicate 255 0) 0 (length ib - 7) 0
 start ib n key g =
     record { ref = []; standing = standing-start width (length key) n ib (g .sound); whole = length-replicate {A = ℕ} 255 0; front = refl; same = omega arith }
 
@@ -54,7 +54,7 @@ number-there [] (suc i) x ys h = absurd (let z : _≡_ {A = ℕ} 0 1 = cc in ome
 number-there (e ∷ es) zero x ys h = let a : e ≡ x = cc in rw a
 number-there (e ∷ es) (suc i) x ys h = number-there es i x ys h
 
-module _ (ib : List ℕ) (n : ℕ) (key buf : List ℕ) (len r i : ℕ) (g : Readable ib n key) (o : Octets key) (st : State ib n key buf len r i) where
+module _ (ib : List ℕ) (n : ℕ) (key buf : List ℕ) (len r i : ℕ) (g : Searchable ib n key) (o : Octets key) (st : State ib n key buf len r i) where
   abbrev es : List Entry
   es = readIndex width n ib .entries
 

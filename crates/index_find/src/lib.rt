@@ -1,11 +1,9 @@
-// Where a key leads in a sound index record, and its free numbers.
+// Where a key leads in a sound index record.
+ghost use Prim.Native.Nat.{_+_, _≤_, _<_};
 ghost use mathlib.Core.Path.{_≡_};
-ghost use Prim.Native.Nat.{_+_, _*_, _≤_, _<_};
-ghost use lib.ListN.{length, getD, take};
+ghost use lib.ListN.{length, take};
 ghost use Rattle.fields.specs.Order.{less};
-ghost use Rattle.index.specs.Reading.{freeCount, numbersAt};
-ghost use Rattle.index_read.specs.Check.{width};
-ghost use Rattle.index_find.specs.Locate.{Readable, Leads};
+ghost use Rattle.index_find.specs.AidLocate.{Searchable, Leads};
 use fields::Order;
 use index_read::Parsed;
 
@@ -29,7 +27,7 @@ pub(crate) fn is_below(buf: &[u8], key: &[u8], len: usize) -> bool
 // The first entry whose separator is not below as many bytes of the key, in a sound index record of n intervals. Such a
 // record's entries can all be taken apart, and the empty separator of the last stops every key, so the loop never runs out.
 pub fn locate(ib: &[u8], n: usize, key: &[u8]) -> Located
-    requires { ⌜ Readable (now ib) n (now key) ⌝ }
+    requires { ⌜ Searchable (now ib) n (now key) ⌝ }
     ensures { λ r. ⌜ Leads (now (ib .entry)) n (now (key .entry)) r ⌝ }
 {
     let last = fields::read_two(ib, 20);
@@ -63,12 +61,4 @@ pub fn locate(ib: &[u8], n: usize, key: &[u8]) -> Located
         ordinal: 0,
         number: 0,
     }
-}
-
-// A free number, by its place among them from 0.
-pub fn free_at(ib: &[u8], i: usize) -> usize
-    requires { ⌜ (i < freeCount width (now ib)) × (24 + width * freeCount width (now ib) ≤ length (now ib)) ⌝ }
-    ensures { λ r. ⌜ r ≡ getD (numbersAt width (now (ib .entry)) 24 (freeCount width (now (ib .entry)))) i 0 ⌝ }
-{
-    fields::read_pointer(ib, 24 + index_read::WIDTH * i, index_read::WIDTH)
 }

@@ -7,8 +7,8 @@ use lib.ListN.{length}
 use native.Mathlib.Omega.{arith}
 use Rattle.fields.specs.Choice.{pick}
 use Rattle.index.specs.Reading.{readIndex, soundIndex}
-use Rattle.index_read.specs.declared.Index.the-variants.{Sound, Unsound}
 use Rattle.index_read.specs.Check.{width, indexOf}
+use Rattle.index_read.specs.declared.Index.the-variants.{Sound, Unsound}
 
 pub record Judged (K n : ℕ) (ib : List ℕ) (free entries : ℕ) : Type 0 where
   pub sound : soundIndex width K n [] [] ib ≡ true

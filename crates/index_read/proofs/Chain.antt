@@ -9,13 +9,13 @@ use native.Mathlib.Omega.{arith}
 use borrow.Author.Tests.{eqb-true, eqb-false, leb-true, leb-false, eq-eqb, ne-eqb}
 use Rattle.fields.specs.Choice.{both}
 use Rattle.fields.specs.Order.{less}
-use Rattle.fields.proofs.Choices.{both-false, false-true, both-none}
 use Rattle.fields.specs.Table.{sameList}
+use Rattle.fields.proofs.Choices.{both-false, false-true, both-none}
 use Rattle.index.specs.Bounds.{empty, bound, separator}
 use Rattle.index.specs.Meaning.{numbers}
 use Rattle.index.specs.Rules.{rises, closed}
 use Rattle.index.specs.Pieces.{Piece, spelt, spell, frontsFit, pieceSize, piecesSize}
-use Rattle.index_read.specs.Walk.{chain, pieceNumbers}
+use Rattle.index_read.specs.AidWalk.{chain, pieceNumbers}
 
 -- the last separator is empty
 unfoldable closedAfter : List ℕ → List Piece → Bool

@@ -21,10 +21,10 @@ use Rattle.fields.proofs.Octets.{octets-take, octets-drop}
 use Rattle.index.specs.Bounds.{bound}
 use Rattle.index.specs.Pieces.{Piece, pieceSize}
 use Rattle.index.specs.Reading.{lengthAt, pieceAt, piecesAt}
-use Rattle.index.proofs.Filling.{length-bound}
+use Rattle.index.proofs.Bounds.{length-bound}
+use Rattle.index_read.specs.AidParsing.{frontAt, charsAt, parses, parsedOf}
+use Rattle.index_read.specs.AidWalk.{boundRises, someLow}
 use Rattle.index_read.specs.declared.Parsed.the-variants.{Of, Bad}
-use Rattle.index_read.specs.Parsing.{frontAt, charsAt, parses, parsedOf}
-use Rattle.index_read.specs.Walk.{someLow, above}
 
 -- ---- an entry taken apart
 
@@ -66,7 +66,7 @@ module _ (w : ℕ) (ib : List ℕ) (r edge len K : ℕ) where
   unfolding parsedOf
   parsed-off h = sym (rw (off (parses w ib r edge len K) h))
 
-  -- the three ways out
+  -- the ways out
   pub no-room : (l : ℕ) → l ≡ L → r < edge + (w + 2 + l) → Bad ≡ parsedOf w ib r edge len K
   no-room l e h = parsed-off (λ p. omega (arith, parses-apart p .0))
 
@@ -219,22 +219,29 @@ module _ (buf ib : List ℕ) (f l at K : ℕ) (h : f + l ≤ K) (i : K ≤ lengt
   rising : less (take K buf) (bound K (take f buf ++ part ib at l)) ≡ isLess (andThen (orderOf (part buf f l) (part ib at l)) (pick (someLow tail) Less Same))
   rising =
       let e2 : length (part buf f l) ≡ length (part ib at l) = length-mid buf f l (omega arith) ∙ sym (length-mid ib at l j) in
-      rw (old, new, order-prefix (take f buf), order-front (part buf f l) (part ib at l) tail (replicate (length tail) 255) e2, order-top tail (octets-take (K - (f + l)) (drop (f + l) buf) (octets-drop (f + l) buf o)))
+      rw (
+        old,
+        new,
+        order-prefix (take f buf),
+        order-front (part buf f l) (part ib at l) tail (replicate (length tail) 255) e2,
+        order-top tail
+            (octets-take (K - (f + l)) (drop (f + l) buf) (octets-drop (f + l) buf o)),
+      )
 
   module _ (first : Bool) (no-first : first ≡ false) (x : Order) (is : x ≡ orderOf (take (f + l - f) (drop f buf)) (take (at + l - at) (drop at ib))) where
-    above-by : above first K buf (take f buf ++ part ib at l) ≡ isLess (andThen x (pick (someLow tail) Less Same))
+    above-by : boundRises first K buf (take f buf ++ part ib at l) ≡ isLess (andThen x (pick (someLow tail) Less Same))
     above-by =
         let e1 : f + l - f ≡ l = omega arith in
         let e2 : at + l - at ≡ l = omega arith in
         rw (no-first, rising, is, e1, e2)
 
-    pub above-less : x ≡ Less → true ≡ above first K buf (take f buf ++ part ib at l)
+    pub above-less : x ≡ Less → true ≡ boundRises first K buf (take f buf ++ part ib at l)
     above-less e = sym (above-by ∙ rw e)
 
-    pub above-greater : x ≡ Greater → false ≡ above first K buf (take f buf ++ part ib at l)
+    pub above-greater : x ≡ Greater → false ≡ boundRises first K buf (take f buf ++ part ib at l)
     above-greater e = sym (above-by ∙ rw e)
 
-    pub above-same : x ≡ Same → (t : Bool) → t ≡ someLow (take (K - (f + l)) (drop (f + l) buf)) → t ≡ above first K buf (take f buf ++ part ib at l)
+    pub above-same : x ≡ Same → (t : Bool) → t ≡ someLow (take (K - (f + l)) (drop (f + l) buf)) → t ≡ boundRises first K buf (take f buf ++ part ib at l)
     above-same e t q = q ∙ sym (above-by ∙ rw e (go (someLow tail)))
       where
         go : (u : Bool) → isLess (pick u Less Same) ≡ u

@@ -15,8 +15,8 @@ use Rattle.fields.proofs.Choices.{both-split, off}
 use Rattle.index.specs.Rules.{baseFine}
 use Rattle.index.specs.Reading.{unusedAt, lastAt, sectionAt, freeCount, frame}
 use Rattle.index.proofs.Sounding.{Framed, frame-apart}
+use Rattle.index_read.specs.AidWalk.{liesWell, placesOf}
 use Rattle.index_read.specs.declared.Places.the-variants.{At, Nowhere}
-use Rattle.index_read.specs.Walk.{liesWell, placesOf}
 
 -- ---- header values, RDF and CIDF
 
@@ -42,8 +42,16 @@ pub frame-last : (w : ℕ) (ib : List ℕ) (x : ℕ) → number 2 ib 0 ≡ lengt
 unfolding frame
 frame-last w ib x a b c d e f g h =
     sym
-    (rw
-    (eq-eqb (number 2 ib 0) (length ib - 7) a, eq-eqb (getD ib 2 0) (w + 2) b, eq-eqb (getD ib 3 0) (2 ^ w - 1) c, eq-eqb (getD ib 16 0) 1 d, eq-eqb (getD ib (length ib - 7) 0) 0 e, eq-eqb (number 2 ib (length ib - 6)) (length ib - 7) f, eq-eqb (number 2 ib (length ib - 4)) (length ib - 7) g, h))
+    (rw (
+      eq-eqb (number 2 ib 0) (length ib - 7) a,
+      eq-eqb (getD ib 2 0) (w + 2) b,
+      eq-eqb (getD ib 3 0) (2 ^ w - 1) c,
+      eq-eqb (getD ib 16 0) 1 d,
+      eq-eqb (getD ib (length ib - 7) 0) 0 e,
+      eq-eqb (number 2 ib (length ib - 6)) (length ib - 7) f,
+      eq-eqb (number 2 ib (length ib - 4)) (length ib - 7) g,
+      h,
+    ))
 
 -- ---- the base
 
@@ -88,8 +96,14 @@ lies-apart w n ib h =
 pub lies-joined : (w n : ℕ) (ib : List ℕ) → Lies w n ib → liesWell w n ib ≡ true
 unfolding liesWell
 lies-joined w n ib l =
-    rw
-    (eq-eqb (sectionAt ib) (lastAt ib) (l .section), eq-eqb (24 + w * freeCount w ib) (unusedAt ib) (l .unused), lt-ltb (freeCount w ib) n (l .some), le-leb (unusedAt ib) (lastAt ib) (l .order), le-leb (lastAt ib) (length ib - 7) (l .inside))
+    rw (
+      eq-eqb (sectionAt ib) (lastAt ib) (l .section),
+      eq-eqb (24 + w * freeCount w ib) (unusedAt ib) (l .unused),
+      lt-ltb (freeCount w ib) n (l .some),
+      le-leb (unusedAt ib)
+          (lastAt ib) (l .order),
+      le-leb (lastAt ib) (length ib - 7) (l .inside),
+    )
 
 pub no-place : (w n : ℕ) (ib : List ℕ) → (Lies w n ib → ⊥) → Nowhere ≡ placesOf w n ib
 unfolding placesOf

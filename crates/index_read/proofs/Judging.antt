@@ -17,12 +17,12 @@ use Rattle.index.specs.Reading.{unusedAt, lastAt, sectionAt, freeCount, numbers
 use Rattle.index.proofs.Sounding.{sound-apart}
 use Rattle.index.proofs.Keeping.{Keeps, rules-apart}
 use Rattle.index.proofs.Closing.{closed-last, basePlaces, sound-base}
-use Rattle.index.proofs.Taking.{entries-are}
+use Rattle.index.proofs.Apart.{entries-are}
+use Rattle.index_read.specs.Check.{width, indexOf}
+use Rattle.index_read.specs.AidWalk.{placesOf, chain, pieceNumbers, marking, seenAfter, allSeen, emptyMarks, freeAll, usedAll, fineFrom}
 use Rattle.index_read.specs.declared.Marks.{Marks}
 use Rattle.index_read.specs.declared.Index.the-variants.{Sound, Unsound}
 use Rattle.index_read.specs.declared.Places.the-variants.{At, Nowhere}
-use Rattle.index_read.specs.Check.{width, indexOf}
-use Rattle.index_read.specs.Walk.{placesOf, chain, pieceNumbers, marking, seenAfter, allSeen, emptyMarks, freeAll, usedAll, fineFrom}
 use Rattle.index_read.proofs.Entry.{pieces-next}
 use Rattle.index_read.proofs.Header.{Lies, place-good, place-bad}
 use Rattle.index_read.proofs.Chain.{chain-is, numbers-spelt, length-spelt}
@@ -85,8 +85,14 @@ module _ (w K n : ℕ) (ib : List ℕ) where
     places-are : basePlaces w n ib ≡ eqb (E + piecesSize w ps) R
     unfolding basePlaces
     places-are =
-        rw
-        (pieces-are, eq-eqb (24 + w * freeCount w ib) (unusedAt ib) (l .unused), le-leb (freeCount w ib) n (omega (arith, l .some)), le-leb (unusedAt ib) (lastAt ib) (l .order), eq-eqb (sectionAt ib) (lastAt ib) (l .section))
+        rw (
+          pieces-are,
+          eq-eqb (24 + w * freeCount w ib) (unusedAt ib) (l .unused),
+          le-leb (freeCount w ib) n (omega (arith, l .some)),
+          le-leb (unusedAt ib) (lastAt ib)
+              (l .order),
+          eq-eqb (sectionAt ib) (lastAt ib) (l .section),
+        )
 
     chain-are : chain w K E R [] [] ps ≡ both (eqb (E + piecesSize w ps) R) (both (frontsFit [] ps) (both (rises K [] (spell [] ps)) (closed [] (spell [] ps))))
     chain-are =
@@ -100,7 +106,8 @@ module _ (w K n : ℕ) (ib : List ℕ) where
     sound-by =
         sound-base w K n [] ib
         ∙ rw (f, places-are, pieces-are, b, numbers-spelt [] ps, ← named-by-marks n (fr ++ pieceNumbers ps) big, marking-append, seen-append, chain-are)
-        (arrange (eqb (E + piecesSize w ps) R) (frontsFit [] ps) (rises K [] (spell [] ps)) (closed [] (spell [] ps)) (marking n zeros fr) (marking n (seenAfter zeros fr) (pieceNumbers ps)) (allSeen (seenAfter (seenAfter zeros fr) (pieceNumbers ps)) n))
+        (arrange (eqb (E + piecesSize w ps) R) (frontsFit [] ps) (rises K [] (spell [] ps)) (closed [] (spell [] ps)) (marking n zeros fr)
+        (marking n (seenAfter zeros fr) (pieceNumbers ps)) (allSeen (seenAfter (seenAfter zeros fr) (pieceNumbers ps)) n))
 
 -- ---- the ways out
 

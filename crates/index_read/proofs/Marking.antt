@@ -1,25 +1,26 @@
 -- Marks find exactly whether each number below n is named once, and no other: a mark is a count, 0 or 1, so that no argument by pigeonholes is needed.
+use Prim.Native.Nat.{ℕ, zero, suc, _+_, _-_, _<_, _≤_}
 use mathlib.Core.Path.{_≡_, refl, sym, ap, _∙_, subst}
 use mathlib.Core.Bool.{Bool, true, false}
 use mathlib.Core.List.{List, [], _∷_, _++_}
 use mathlib.Core.Logic.{_⊎_, inl, inr, ⊎-elim}
-use Prim.Native.Nat.{ℕ, zero, suc, _+_, _-_, _<_, _≤_}
+use lib.ListN.{length, getD, set, length-set, length-replicate, replicate, getD-replicate, List·getD-eq-default}
+use lib.Seq.{getD-set-same, getD-set-other}
+use lib.Dec.{eqb, ltb}
 use native.Mathlib.Nat.{not-suc-le-zero, le-of-suc-le-suc, eq-or-lt-of-le}
 use native.Mathlib.Numerals.{add-one}
 use native.Mathlib.Decide.{ℕ-discrete, decLt}
 use native.Mathlib.Omega.{arith}
-use lib.Dec.{eqb, ltb}
-use lib.ListN.{length, getD, set, length-set, length-replicate, replicate, getD-replicate, List·getD-eq-default}
-use lib.Seq.{getD-set-same, getD-set-other}
 use borrow.Author.Tests.{lt-ltb, le-ltb, eq-eqb, ne-eqb, ltb-true, ltb-false, eqb-true, eqb-false}
 use Rattle.fields.specs.Choice.{pick, both}
+use Rattle.fields.specs.Bytes.{number}
+use Rattle.fields.specs.Lists.{every}
 use Rattle.fields.proofs.Choices.{false-true, both-false}
 use Rattle.index.specs.Meaning.{count, below, once, namedOnce}
 use Rattle.index.specs.Reading.{numbersAt}
-use Rattle.fields.specs.Bytes.{number}
 use Rattle.index.proofs.Counting.{count-same, count-other}
+use Rattle.index_read.specs.AidWalk.{marking, seenAfter, allSeen, freeAll}
 use Rattle.index_read.specs.declared.Marks.{Marks}
-use Rattle.index_read.specs.Walk.{marking, seenAfter, allSeen, freeAll}
 
 record Sane (m : List ℕ) : Type 0 where
   whole : length m ≡ 256
@@ -57,11 +58,11 @@ mark-sane m x s h = record { whole = length-set m x 1 ∙ s .whole; small = λ k
     other k d = rw (getD-set-other m x k 1 0 (λ p. d (sym p))) (s .small k)
 
 below-cons : (n x : ℕ) (xs : List ℕ) → x < n → below n (x ∷ xs) ≡ below n xs
-unfolding below
+unfolding every
 below-cons n x xs h = rw (lt-ltb x n h)
 
 below-big : (n x : ℕ) (xs : List ℕ) → n ≤ x → below n (x ∷ xs) ≡ false
-unfolding below
+unfolding every
 below-big n x xs h = rw (le-ltb x n h)
 
 step : (n : ℕ) (m : List ℕ) (x : ℕ) (xs : List ℕ) (ok : Bool) (r : List ℕ) → n ≤ 256 → Sane m → (b₁ b₂ : Bool) → ltb x n ≡ b₁ → eqb (getD m x 0) 0 ≡ b₂
@@ -83,7 +84,7 @@ step n m x xs ok r hn s true false e₁ e₂ ih =
 step n m x xs ok r hn s false b₂ e₁ e₂ ih = record { good = λ o. absurd (false-true o); bad = λ o. inl (below-big n x xs (ltb-false x n e₁)) }
 
 says : (n : ℕ) (m xs : List ℕ) → n ≤ 256 → Sane m → Says n m xs (marking n m xs) (seenAfter m xs)
-unfolding marking seenAfter below count
+unfolding marking seenAfter every count
 says n m [] hn s = record { good = λ o. record { all = refl; sum = λ k. omega arith; sane = s }; bad = λ o. absurd (false-true (sym o)) }
 says n m (x ∷ xs) hn s =
     step n m x xs (marking n (set m x 1) xs) (seenAfter (set m x 1) xs) hn s (ltb x n) (eqb (getD m x 0) 0) refl refl (λ l z. says n (set m x 1) xs hn (mark-sane m x s (omega arith)))
@@ -128,7 +129,8 @@ named-by-marks n xs hn = go (marking n zeros xs) (says n zeros xs hn empty-sane)
         let g = s .good refl in
         rw (g .all) (seen-once (seenAfter zeros xs) xs n (λ k. g .sum k ∙ from-empty k (count k xs)) (g .sane .small))
     go false s =
-        ⊎-elim (λ (b : below n xs ≡ false). rw b) (λ (t : Twice n zeros xs). rw (once-not xs n (t .0) (t .1) (subst (λ (w : ℕ). 2 ≤ w) (from-empty (t .0) (count (t .0) xs)) (t .2)), both-false (below n xs)))
+        ⊎-elim (λ (b : below n xs ≡ false). rw b)
+        (λ (t : Twice n zeros xs). rw (once-not xs n (t .0) (t .1) (subst (λ (w : ℕ). 2 ≤ w) (from-empty (t .0) (count (t .0) xs)) (t .2)), both-false (below n xs)))
         (s .bad refl)
 
 -- one list of numbers after another
@@ -137,7 +139,8 @@ unfolding marking seenAfter
 marking-append n m [] ys = refl
 marking-append n m (x ∷ xs) ys = rw (marking-append n (set m x 1) xs ys) (go (ltb x n) (eqb (getD m x 0) 0))
   where
-    go : (a b : Bool) → both a (both b (both (marking n (set m x 1) xs) (marking n (seenAfter (set m x 1) xs) ys))) ≡ both (both a (both b (marking n (set m x 1) xs))) (marking n (seenAfter (set m x 1) xs) ys)
+    go : (a b : Bool) → both a (both b (both (marking n (set m x 1) xs) (marking n (seenAfter (set m x 1) xs) ys)))
+        ≡ both (both a (both b (marking n (set m x 1) xs))) (marking n (seenAfter (set m x 1) xs) ys)
     go true true = refl
     go true false = refl
     go false b = refl

@@ -24,12 +24,12 @@ use Rattle.index.proofs.Sounding.{Sound, sound-apart, sound-below}
 use Rattle.index.proofs.Keeping.{Keeps, rules-apart, separator-short}
 use Rattle.index.proofs.Closing.{closed-last}
 use Rattle.index.proofs.Counting.{below-apart}
-use Rattle.index.proofs.Taking.{length-piecesAt, entries-are}
+use Rattle.index.proofs.Apart.{length-piecesAt, entries-are}
 use Rattle.index.proofs.Compressing.{length-spell}
 use Rattle.index.proofs.Inserting.{before-snoc}
+use Rattle.index_read.specs.AidParsing.{frontAt, charsAt, parses, parsedOf}
+use Rattle.index_read.specs.AidWalk.{chain}
 use Rattle.index_read.specs.declared.Parsed.the-variants.{Of, Bad}
-use Rattle.index_read.specs.Parsing.{frontAt, charsAt, parses, parsedOf}
-use Rattle.index_read.specs.Walk.{chain}
 use Rattle.index_read.proofs.Entry.{Good, good, of-bad, parses-joined, size-test, pieces-next, place-is, chars-inside, held-front, renewed-held, renewed-length}
 use Rattle.index_read.proofs.Chain.{chain-all}
 
@@ -72,7 +72,8 @@ link w K ib e r low ref left inside more h =
     let long : length (spelt ref p) ≡ F + L = omega (arith, length-append (take F ref) (p .chars), length-take-le F ref (q .1)) in
     let parsed : parsedOf w ib r e (length ref) K ≡ Of F L (charsAt w ib r) (number w ib (r - w)) =
     parsed-is w ib r e (length ref) K (parses-joined w ib r e (length ref) K room (q .1) (omega (arith, separator-short K (spelt ref p) (q .2)))) in
-    let place : r - pieceSize w p ≡ charsAt w ib r = place-is w ib r e (length ref) K F L (charsAt w ib r) (number w ib (r - w)) (good w ib r e (length ref) K F L (charsAt w ib r) (number w ib (r - w)) parsed) inside in
+    let place : r - pieceSize w p ≡ charsAt w ib r = place-is w ib r e (length ref) K F L (charsAt w ib r) (number w ib (r - w))
+    (good w ib r e (length ref) K F L (charsAt w ib r) (number w ib (r - w)) parsed) inside in
     record { parsed = parsed; long = long; fine = q .2; rising = q .3; rest = rw place at (q .4) }
 
 -- ---- where a walk stands

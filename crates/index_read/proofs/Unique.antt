@@ -1,6 +1,6 @@
 -- For each public function: any two results that its contract allows are equal, buffers too.
-use mathlib.Core.Path.{_≡_}
 use Prim.Native.Nat.{ℕ}
+use mathlib.Core.Path.{_≡_}
 use Rattle.fields.proofs.Choices.{agree}
 use Rattle.index_read.specs.declared.Parsed.{Parsed}
 use Rattle.index_read.specs.declared.Index.{Index}

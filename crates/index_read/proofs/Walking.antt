@@ -15,10 +15,10 @@ use Rattle.fields.proofs.Choices.{false-true, both-split, both-join, off, both-
 use Rattle.index.specs.Bounds.{empty, bound, separator}
 use Rattle.index.specs.Pieces.{spelt, pieceSize}
 use Rattle.index.specs.Reading.{lengthAt, pieceAt, piecesAt}
+use Rattle.index_read.specs.AidParsing.{frontAt, charsAt, parsedOf}
+use Rattle.index_read.specs.AidWalk.{boundRises, nextIn, entryOf, chain, pieceNumbers, marking, seenAfter, usedAll, fineFrom}
 use Rattle.index_read.specs.declared.Marks.{Marks}
 use Rattle.index_read.specs.declared.Parsed.the-variants.{Of, Bad}
-use Rattle.index_read.specs.Parsing.{frontAt, charsAt, parsedOf}
-use Rattle.index_read.specs.Walk.{above, nextIn, entryOf, chain, pieceNumbers, marking, seenAfter, usedAll, fineFrom}
 use Rattle.index_read.proofs.Entry.{Good, good, parses-joined, pieces-next, size-is, place-is, chars-inside, chars-length, held-front}
 use Rattle.index_read.proofs.Next.{entry-good, entry-bad}
 use Rattle.index_read.proofs.Stepping.{Link, link, Holding, holding-start, holding-step}
@@ -45,7 +45,8 @@ fine-step : (w K n e : ℕ) (ib seen low ref : List ℕ) (r left : ℕ) → 0 < 
 unfolding fineFrom chain marking
 fine-step w K n e ib seen low ref r left h =
     rw (pieces-next w ib r left h)
-    (shuffle (leb (e + pieceSize w (pieceAt w ib r)) r) (leb (frontAt w ib r) (length ref)) (separator K (spelt ref (pieceAt w ib r))) (less low (bound K (spelt ref (pieceAt w ib r)))) _ (ltb (number w ib (r - w)) n) (eqb (getD seen (number w ib (r - w)) 0) 0) _)
+    (shuffle (leb (e + pieceSize w (pieceAt w ib r)) r) (leb (frontAt w ib r) (length ref)) (separator K (spelt ref (pieceAt w ib r)))
+    (less low (bound K (spelt ref (pieceAt w ib r)))) _ (ltb (number w ib (r - w)) n) (eqb (getD seen (number w ib (r - w)) 0) 0) _)
 
 fine-end : (w K n e : ℕ) (ib seen low ref : List ℕ) (r : ℕ) → fineFrom w K n e ib seen low ref r 0 ≡ both (eqb r e) (empty ref)
 unfolding fineFrom chain marking piecesAt
@@ -99,7 +100,7 @@ start w K n e ib count m₀ h g =
     }
 
 -- a bound isn't empty, so it is above no bound at all
-less-low : (t : Bool) (K : ℕ) (buf sep : List ℕ) → 1 ≤ K → less (lowOf t K buf) (bound K sep) ≡ above t K buf sep
+less-low : (t : Bool) (K : ℕ) (buf sep : List ℕ) → 1 ≤ K → less (lowOf t K buf) (bound K sep) ≡ boundRises t K buf sep
 unfolding bound
 less-low t K buf sep h = go t (bound K sep) (omega (arith, length-append sep (replicate (K - length sep) 255), length-replicate {A = ℕ} (K - length sep) 255))
   where
@@ -137,13 +138,14 @@ module _ (w K n e : ℕ) (ib : List ℕ) (count : ℕ) (m₀ m : Marks) (buf : L
           let g : Good w ib r e (length (st .ref)) K (frontAt w ib r) (lengthAt w ib r) (charsAt w ib r) (number w ib (r - w)) =
           good w ib r e (length (st .ref)) K (frontAt w ib r) (lengthAt w ib r) (charsAt w ib r) (number w ib (r - w)) (k .parsed) in
           let f : frontAt w ib r ≤ len = omega (arith, g .front, st .long) in
-          let a : above (eqb left count) K buf (nextIn w ib r buf) ≡ true =
+          let a : boundRises (eqb left count) K buf (nextIn w ib r buf) ≡ true =
           rw (next-is f) (sym (less-low (eqb left count) K buf (spelt (st .ref) (pieceAt w ib r)) least) ∙ k .rising) in
           let b : separator K (nextIn w ib r buf) ≡ true = rw (next-is f) (k .fine) in
-          false-true (sym (entry-bad w ib r e len K (eqb left count) buf h (parses-joined w ib r e len K (g .room) f (g .fits))) ∙ both-join (above (eqb left count) K buf (nextIn w ib r buf)) (separator K (nextIn w ib r buf)) a b)
+          false-true (sym (entry-bad w ib r e len K (eqb left count) buf h (parses-joined w ib r e len K (g .room) f (g .fits))) ∙ both-join
+          (boundRises (eqb left count) K buf (nextIn w ib r buf)) (separator K (nextIn w ib r buf)) a b)
 
   module _ (f l at num : ℕ) (entry : entryOf w ib r e len K (eqb left count) buf ≡ Of f l at num) where
-    told : (parsedOf w ib r e len K ≡ Of f l at num) × (above (eqb left count) K buf (nextIn w ib r buf) ≡ true) × (separator K (nextIn w ib r buf) ≡ true)
+    told : (parsedOf w ib r e len K ≡ Of f l at num) × (boundRises (eqb left count) K buf (nextIn w ib r buf) ≡ true) × (separator K (nextIn w ib r buf) ≡ true)
     told = entry-good w ib r e len K (eqb left count) buf f l at num entry
 
     pub fits : Good w ib r e len K f l at num
@@ -177,7 +179,7 @@ module _ (w K n e : ℕ) (ib : List ℕ) (count : ℕ) (m₀ m : Marks) (buf : L
     t3 = ap (λ (x : List ℕ). separator K x) (sym next-sep) ∙ told .2
 
     t4 : less low (bound K sep) ≡ true
-    t4 = less-low (eqb left count) K buf sep least ∙ ap (λ (x : List ℕ). above (eqb left count) K buf x) (sym next-sep) ∙ told .1
+    t4 = less-low (eqb left count) K buf sep least ∙ ap (λ (x : List ℕ). boundRises (eqb left count) K buf x) (sym next-sep) ∙ told .1
 
     same-on : num < n → getD (m .seen) num 0 ≡ 0 → all ≡ fineFrom w K n e ib (set (m .seen) num 1) (bound K sep) sep at (left - 1)
     same-on h z =

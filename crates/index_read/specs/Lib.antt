@@ -1,3 +1,3 @@
 pub mod Check
-pub mod Parsing
-pub mod Walk
+pub mod AidParsing
+pub mod AidWalk

@@ -1,16 +1,17 @@
 // The index record, read and judged in one walk.
+ghost use Prim.Native.Nat.{_+_, _-_, _*_, _≤_, _<_, _^_};
 ghost use mathlib.Core.Path.{_≡_};
 ghost use mathlib.Core.Bool.{true};
 ghost use mathlib.Core.List.{[], _++_};
-ghost use Prim.Native.Nat.{_+_, _-_, _*_, _≤_, _<_, _^_};
 ghost use lib.ListN.{length, getD, take, drop};
 ghost use Rattle.fields.specs.Bytes.{part, number};
 ghost use Rattle.index.specs.Bounds.{bound};
 ghost use Rattle.index.specs.Rules.{baseFine};
 ghost use Rattle.index.specs.Reading.{numbersAt, piecesAt, frame};
 ghost use Rattle.index_read.specs.Check.{indexOf};
-ghost use Rattle.index_read.specs.Parsing.{parsedOf};
-ghost use Rattle.index_read.specs.Walk.{placesOf, someLow, above, entryOf, Renewed, marking, allSeen, fineFrom, pieceNumbers, emptyMarks, freeAll, usedAll};
+ghost use Rattle.index_read.specs.AidParsing.{parsedOf, joinedOf};
+ghost use Rattle.index_read.specs.AidWalk.{boundRises, placesOf, someLow, entryOf, Renewed, marking};
+ghost use Rattle.index_read.specs.AidWalk.{allSeen, fineFrom, pieceNumbers, emptyMarks, freeAll, usedAll, Walkable};
 use fields::Order;
 
 // The bytes of a pointer and of a free number.
@@ -61,12 +62,6 @@ pub enum Index {
     Unsound,
 }
 
-pub(crate) fn wide(x: u8) -> usize
-    ensures { λ r. ⌜ (r ≡ x) × (r < 256) ⌝ }
-{
-    x as usize
-}
-
 // The entry that ends at place r. It must not begin left of `edge`; F is at most the `len` bytes of the separator
 // before it, and the separator that F and L make has at most `key` bytes. F and L are bytes, so their sum may reach 510.
 pub fn piece_at(ib: &[u8], w: usize, r: usize, edge: usize, len: usize, key: usize) -> Parsed
@@ -76,11 +71,11 @@ pub fn piece_at(ib: &[u8], w: usize, r: usize, edge: usize, len: usize, key: usi
     if r < edge + (w + 2) {
         return Parsed::Bad;
     }
-    let l = wide(ib[r - (w + 1)]);
+    let l = fields::wide(ib[r - (w + 1)]);
     if r < edge + (w + 2 + l) {
         return Parsed::Bad;
     }
-    let f = wide(ib[r - (w + 2)]);
+    let f = fields::wide(ib[r - (w + 2)]);
     if len < f {
         return Parsed::Bad;
     }
@@ -100,7 +95,7 @@ pub fn piece_at(ib: &[u8], w: usize, r: usize, edge: usize, len: usize, key: usi
 // what follows them, X'FF' after.
 pub fn renew(buf: &mut [u8], front: usize, ib: &[u8], at: usize, len: usize, key: usize)
     requires { ⌜ (front + len ≤ key) × (key ≤ length (now buf)) × (at + len ≤ length (now ib)) ⌝ }
-    ensures { λ _. ⌜ now (buf .exit) ≡ bound key (take front (now (buf .entry)) ++ part (now (ib .entry)) at len) ++ drop key (now (buf .entry)) ⌝ }
+    ensures { λ _. ⌜ now (buf .exit) ≡ bound key (joinedOf front (now (buf .entry)) (now (ib .entry)) at len) ++ drop key (now (buf .entry)) ⌝ }
 {
     let z = at + len;
     fields::copy(buf, front, &ib[at..z]);
@@ -134,7 +129,7 @@ pub(crate) fn ascends(
     key: usize,
 ) -> bool
     requires { ⌜ (front + len ≤ key) × (key ≤ length (now buf)) × (at + len ≤ length (now ib)) ⌝ }
-    ensures { λ r. ⌜ r ≡ above first key (now (buf .entry)) (take front (now (buf .entry)) ++ part (now (ib .entry)) at len) ⌝ }
+    ensures { λ r. ⌜ r ≡ boundRises first key (now (buf .entry)) (joinedOf front (now (buf .entry)) (now (ib .entry)) at len) ⌝ }
 {
     if first {
         return true;
@@ -171,7 +166,8 @@ pub(crate) fn next_entry(
     by: Limits,
 ) -> Parsed
     requires { ⌜ (1 ≤ by .width) × (by .width ≤ 4) × (r ≤ length (now ib)) × (by .edge < 65536) × (by .key ≤ length (now buf)) ⌝ }
-    ensures { λ x. ⌜ (x ≡ entryOf (by .width) (now (ib .entry)) r (by .edge) len (by .key) first (now (buf .entry))) × Renewed (by .key) (now (ib .entry)) (now (buf .entry)) (now (buf .exit)) x ⌝ }
+    ensures is { λ x. ⌜ x ≡ entryOf (by .width) (now (ib .entry)) r (by .edge) len (by .key) first (now (buf .entry)) ⌝ }
+    ensures renewed { λ x. ⌜ Renewed (by .key) (now (ib .entry)) (now (buf .entry)) (now (buf .exit)) x ⌝ }
 {
     let key = by.key;
     let Parsed::Of {
@@ -247,7 +243,7 @@ pub(crate) fn walk_free(marks: Marks, ib: &[u8], w: usize, count: usize, n: usiz
 // Walks `count` entries from the RDF leftwards and marks their numbers. The last must begin at the edge and have an
 // empty separator.
 pub(crate) fn walk_entries(marks: Marks, ib: &[u8], count: usize, by: Limits) -> Marked
-    requires { ⌜ (1 ≤ by .width) × (by .width ≤ 4) × (7 ≤ length (now ib)) × (by .edge < 65536) × (1 ≤ by .key) × (by .key ≤ 255) × (by .n ≤ 256) × (marks .used + count < 2 ^ 64) ⌝ }
+    requires { ⌜ Walkable (now ib) by marks count ⌝ }
     ensures sound { λ r. ⌜ r .ok ≡ fineFrom (by .width) (by .key) (by .n) (by .edge) (now (ib .entry)) (marks .seen) [] [] (length (now (ib .entry)) - 7) count ⌝ }
     ensures marks { λ r. ⌜ (r .ok ≡ true → r .marks ≡ usedAll marks (pieceNumbers (piecesAt (by .width) (now (ib .entry)) (length (now (ib .entry)) - 7) count))) ⌝ }
 {
@@ -308,10 +304,10 @@ pub(crate) fn framed(ib: &[u8], w: usize) -> bool
     if fields::read_two(ib, 0) != size - 7 {
         return false;
     }
-    if wide(ib[2]) != w + 2 {
+    if fields::wide(ib[2]) != w + 2 {
         return false;
     }
-    if wide(ib[3]) != (1 << w) - 1 {
+    if fields::wide(ib[3]) != (1 << w) - 1 {
         return false;
     }
     if ib[16] != 1 {

@@ -7,19 +7,17 @@ use lib.Seq.{take-take}
 use native.Mathlib.Omega.{arith}
 use Rattle.fields.specs.Bytes.{number, splice}
 use Rattle.fields.proofs.Splices.{length-mid, part-here}
-use Rattle.index.specs.Meaning.{Entry}
+use Rattle.index.specs.Meaning.{Entry, entry, separatorBefore}
 use Rattle.index.specs.Pieces.{Piece, spelt, spell, pieceSize, piecesSize}
 use Rattle.index.specs.Reading.{lengthAt, pieceAt, piecesAt}
-use Rattle.index.proofs.Inserting.{entry}
-use Rattle.index.proofs.Growing.{separatorBefore}
+use Rattle.index_write.specs.AidFlat.{EntriesLie, sepBytes, Roomy, Added, newest, Newest}
 use Rattle.index_write.specs.declared.Cursor.{Cursor}
-use Rattle.index_write.specs.Flat.{separators, Readable, Roomy, Added, newest, Newest}
 use Rattle.index_write.proofs.Adding.{added-none, added-more}
 use Rattle.index_write.proofs.Walking.{before-append, Next, next}
 
 -- the bytes of one separator
-pub one-separator : (sep : List ℕ) (num : ℕ) → separators (entry sep num ∷ []) ≡ sep
-unfolding separators
+pub one-separator : (sep : List ℕ) (num : ℕ) → sepBytes (entry sep num ∷ []) ≡ sep
+unfolding sepBytes
 one-separator sep num = append-nil sep
 
 -- An entry that was added stands last, if the cursor says so.
@@ -46,14 +44,14 @@ pub record Filled (ib : List ℕ) (count : ℕ) (s₀ l₀ x₀ : List ℕ) (c :
   pub added : Added done c d s₀ l₀ x₀ s l x
   pub order : d .last ≤ d .bytes
   pub ref : newest d s ≡ separatorBefore (newest c s₀) done
-  pub readable : Readable 1 ib (d .right) left (newest d s)
+  pub readable : EntriesLie 1 ib (d .right) left (newest d s)
   pub size : d .right + piecesSize 1 (piecesAt 1 ib (c .right) count) ≡ c .right + piecesSize 1 (piecesAt 1 ib (d .right) left)
   pub room : Roomy d left s₀ l₀ x₀
   pub same-s : length s ≡ length s₀
   pub same-l : length l ≡ length l₀
   pub same-x : length x ≡ length x₀
 
-pub fill-start : (ib : List ℕ) (count : ℕ) (s l x : List ℕ) (c : Cursor) → Roomy c count s l x → c .last ≤ c .bytes → Readable 1 ib (c .right) count (newest c s)
+pub fill-start : (ib : List ℕ) (count : ℕ) (s l x : List ℕ) (c : Cursor) → Roomy c count s l x → c .last ≤ c .bytes → EntriesLie 1 ib (c .right) count (newest c s)
     → Filled ib count s l x c s l x c count
 unfolding separatorBefore
 fill-start ib count s l x c room order readable =

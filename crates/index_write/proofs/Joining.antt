@@ -6,6 +6,7 @@ use mathlib.Core.List.{List, []}
 use lib.ListN.{length, take}
 use native.Mathlib.Omega.{arith}
 use Rattle.fields.specs.Choice.{both}
+use Rattle.fields.specs.Lists.{swap}
 use Rattle.fields.proofs.Choices.{both-split}
 use Rattle.fields.proofs.Splices.{length-splice, length-mid}
 use Rattle.index.specs.Meaning.{Entry, Meaning, numbers}
@@ -13,19 +14,19 @@ use Rattle.index.specs.Rules.{closed, keepsRules}
 use Rattle.index.specs.Pieces.{frontsFit}
 use Rattle.index.specs.Form.{indexSize, indexBytes}
 use Rattle.index.specs.Reading.{freeCount, numbersAt, piecesIn, readIndex, frame, places, soundIndex}
+use Rattle.index.specs.Divided.{cuts, dividedAt, newMeaning}
 use Rattle.index.proofs.Naming.{length-numbers}
 use Rattle.index.proofs.Keeping.{rules-apart}
 use Rattle.index.proofs.Sounding.{Sound, sound-apart}
-use Rattle.index.proofs.Taking.{length-numbersAt}
+use Rattle.index.proofs.Apart.{length-numbersAt}
 use Rattle.index.proofs.ReadsBack.{index-reads-back, form-sound}
+use Rattle.index.proofs.DividedEntries.{divided-closed, rebuilt}
+use Rattle.index_write.specs.AidFlat.{sepBytes, sepLengths, renewed}
+use Rattle.index_write.specs.AidPrepared.{Divisible, Prepared, heldIn, Writable}
 use Rattle.index_write.specs.declared.Renewal.{Renewal}
-use Rattle.index_write.specs.Divided.{cuts, dividedAt, newMeaning}
-use Rattle.index_write.specs.Flat.{separators, lengths, renewed}
-use Rattle.index_write.specs.Prepared.{Divisible, Prepared, heldIn, Writable}
 use Rattle.index_write.proofs.Adding.{length-lengths}
 use Rattle.index_write.proofs.Taking.{take-numbersAt}
 use Rattle.index_write.proofs.Measuring.{flat-held, total-held}
-use Rattle.index_write.proofs.Dividing.{divided-closed, rebuilt}
 use Rattle.index_write.proofs.Spreading.{new-many, new-bytes}
 
 frame-of : (w K n : ℕ) (low end ib : List ℕ) → soundIndex w K n low end ib ≡ true → frame w ib ≡ true
@@ -39,7 +40,7 @@ module _ (n i : ℕ) (seps : List (List ℕ)) (ib s l x s' l' x' : List ℕ) (r 
   held-new = flat-held (newMeaning 1 n ib i seps .entries) s l x s' l' x' (r .entries) (p .entries) (p .seps-are) (p .lens-are) (p .nums-are)
 
   free-left : newMeaning 1 n ib i seps .free ≡ numbersAt 1 ib 24 (r .free)
-  unfolding dividedAt readIndex
+  unfolding dividedAt readIndex swap
   free-left =
       let c : ℕ = freeCount 1 ib in
       let k : length (numbersAt 1 ib 24 c) ≡ c = length-numbersAt 1 ib 24 c in
@@ -49,7 +50,7 @@ module _ (n i : ℕ) (seps : List (List ℕ)) (ib s l x s' l' x' : List ℕ) (r 
 
   -- What is written from it is the new meaning.
   pub renewed-new : renewed 1 ib (r .free) (heldIn r s' l' x') ≡ newMeaning 1 n ib i seps
-  unfolding renewed dividedAt readIndex
+  unfolding renewed dividedAt readIndex swap
   renewed-new = sym (rebuilt (newMeaning 1 n ib i seps) (numbersAt 1 ib 24 (r .free)) (heldIn r s' l' x') free-left (sym held-new))
 
   -- So the record that is written is the writer's form of it.
@@ -64,12 +65,12 @@ can-write n i three first second ib s l x s' l' x' r d fs ss p small room =
     let seps : List (List ℕ) = cuts three first second in
     let es : List Entry = newMeaning 1 n ib i seps .entries in
     let many : length es ≤ n = omega (arith, new-many n i three first second ib s l x d fs ss) in
-    let bytes : length (separators es) ≤ length s = new-bytes n i three first second ib s l x d fs ss in
+    let bytes : length (sepBytes es) ≤ length s = new-bytes n i three first second ib s l x d fs ss in
     let k : Sound 1 (d .old .key) n [] [] ib = sound-apart 1 (d .old .key) n [] [] ib (d .old .sound) in
     let ends : closed [] es ≡ true =
     divided-closed [] (readIndex 1 n ib) i seps (d .there) (rules-apart (length ib) (d .old .key) n [] [] (readIndex 1 n ib) (k .rules) .closing) in
-    let ks : length s' ≡ length s = ap length (p .seps-are) ∙ length-splice s 0 (separators es) (omega arith) in
-    let kl : length l' ≡ length l = ap length (p .lens-are) ∙ length-splice l 0 (lengths es) (omega (arith, length-lengths es, d .lens)) in
+    let ks : length s' ≡ length s = ap length (p .seps-are) ∙ length-splice s 0 (sepBytes es) (omega arith) in
+    let kl : length l' ≡ length l = ap length (p .lens-are) ∙ length-splice l 0 (sepLengths es) (omega (arith, length-lengths es, d .lens)) in
     let kx : length x' ≡ length x = ap length (p .nums-are) ∙ length-splice x 0 (numbers es) (omega (arith, length-numbers es, d .nums)) in
     record {
       large = d .large;
@@ -87,7 +88,7 @@ can-write n i three first second ib s l x s' l' x' r d fs ss p small room =
 module _ (n i : ℕ) (seps : List (List ℕ)) (ib : List ℕ) (K : ℕ) (large : 31 ≤ length ib) (small : length ib ≤ 32768) (few : n ≤ 256) (short : K ≤ 255)
     (rules : keepsRules (length ib) K n [] [] (newMeaning 1 n ib i seps) ≡ true) (room : indexSize 1 (newMeaning 1 n ib i seps) ≤ length ib - 7) where
   twelve : length (newMeaning 1 n ib i seps .kept) ≡ 12
-  unfolding dividedAt readIndex
+  unfolding dividedAt readIndex swap
   twelve = length-mid ib 4 12 (omega arith)
 
   -- The record that is written reads as the new meaning.

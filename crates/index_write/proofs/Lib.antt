@@ -4,11 +4,9 @@ pub mod Taking
 pub mod Walking
 pub mod Filling
 pub mod Parting
-pub mod Dividing
 pub mod Spreading
 pub mod Measuring
 pub mod Writing
 pub mod Renewing
 pub mod Joining
-pub mod Vectors
 pub mod Unique

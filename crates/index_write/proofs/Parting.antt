@@ -8,14 +8,13 @@ use lib.Seq.{length-take-le, getD-take}
 use native.Mathlib.Omega.{arith}
 use Rattle.fields.specs.Bytes.{part}
 use Rattle.fields.proofs.Splices.{length-mid, part-left}
-use Rattle.index.specs.Meaning.{Entry}
+use Rattle.index.specs.Meaning.{Entry, entry}
 use Rattle.index.specs.Pieces.{Piece, spelt, pieceSize}
 use Rattle.index.specs.Reading.{freeCount, lengthAt, pieceAt, numbersAt}
-use Rattle.index.proofs.Inserting.{entry}
-use Rattle.index.proofs.Taking.{length-numbersAt}
+use Rattle.index.specs.Divided.{cuts, partsOf}
+use Rattle.index.proofs.Apart.{length-numbersAt}
+use Rattle.index_write.specs.AidFlat.{EntriesLie, sepBytes, Roomy, Added, newest, Newest}
 use Rattle.index_write.specs.declared.Cursor.{Cursor}
-use Rattle.index_write.specs.Divided.{cuts, partsOf}
-use Rattle.index_write.specs.Flat.{separators, Readable, Roomy, Added, newest, Newest}
 use Rattle.index_write.proofs.Adding.{added-more}
 use Rattle.index_write.proofs.Walking.{Next, next}
 use Rattle.index_write.proofs.Filling.{one-separator, newest-one, spelt-newest}
@@ -39,7 +38,7 @@ three-parts first second free sep own a b h e g =
 
 -- ---- the last part, after what was put before it
 
-module _ (ib : List ℕ) (c : Cursor) (s l x : List ℕ) (order : c .last ≤ c .bytes) (inside : c .bytes ≤ length s) (readable : Readable 1 ib (c .right) 1 (newest c s)) where
+module _ (ib : List ℕ) (c : Cursor) (s l x : List ℕ) (order : c .last ≤ c .bytes) (inside : c .bytes ≤ length s) (readable : EntriesLie 1 ib (c .right) 1 (newest c s)) where
   abbrev p : Piece
   p = pieceAt 1 ib (c .right)
 
@@ -58,7 +57,7 @@ module _ (ib : List ℕ) (c : Cursor) (s l x : List ℕ) (order : c .last ≤ c 
     spelt-is : spelt (drop (d .last) s') (pieceAt 1 ib (d .right)) ≡ spelt (newest c s) p
     spelt-is =
         let e : part s' (c .last) (p .front) ≡ part s (c .last) (p .front) =
-        ap (λ (b : List ℕ). part b (c .last) (p .front)) (added .seps) ∙ part-left s (c .bytes) (separators es) (c .last) (p .front) inside front-inside in
+        ap (λ (b : List ℕ). part b (c .last) (p .front)) (added .seps) ∙ part-left s (c .bytes) (sepBytes es) (c .last) (p .front) inside front-inside in
         rw (right, last, e) (spelt-newest c s p (part-next .front) order inside)
 
     module _ (num : ℕ) (e : Cursor) (s'' l'' x'' : List ℕ)

@@ -15,10 +15,10 @@ use Rattle.index.specs.Layout.{freeBytes, header}
 use Rattle.index.specs.Form.{entriesSize, entriesBytes, indexSize, indexBytes}
 use Rattle.index.specs.Reading.{numbersAt, frame}
 use Rattle.index.proofs.Sounding.{Framed, frame-apart}
-use Rattle.index.proofs.Taking.{part-at, byte-at, field-at, free-at, length-numbersAt, trailer-at}
+use Rattle.index.proofs.Apart.{part-at, byte-at, field-at, free-at, length-numbersAt, trailer-at}
 use Rattle.index.proofs.Compressing.{length-freeBytes, length-entriesBytes}
 use Rattle.index.proofs.Forming.{form-is}
-use Rattle.index_write.specs.Flat.{renewed}
+use Rattle.index_write.specs.AidFlat.{renewed}
 
 splice-six : (b h : List ℕ) → length h ≡ 6 → splice b 18 h ≡ take 18 b ++ (h ++ drop 24 b)
 unfolding splice

@@ -7,23 +7,22 @@ use lib.ListN.{length, length-append}
 use lib.Seq.{length-take-le}
 use native.Mathlib.Omega.{arith}
 use borrow.Author.Tests.{le-leb}
-use Rattle.index.specs.Meaning.{Entry}
+use Rattle.fields.specs.Lists.{every, swap}
+use Rattle.index.specs.Meaning.{Entry, entry, separatorBefore}
 use Rattle.index.specs.Form.{entriesSize, indexSize}
 use Rattle.index.specs.Pieces.{Piece, spelt, spell, pieceSize, piecesSize}
 use Rattle.index.specs.Reading.{unusedAt, freeCount, pieceAt, piecesAt, numbersAt, piecesIn, readIndex}
+use Rattle.index.specs.Divided.{cuts, partsOf, dividedAt, newMeaning}
 use Rattle.index.proofs.Sounding.{Sound, sound-apart}
 use Rattle.index.proofs.Keeping.{rules-apart}
 use Rattle.index.proofs.Compressing.{length-spell}
-use Rattle.index.proofs.Taking.{length-numbersAt, free-are, length-piecesAt}
-use Rattle.index.proofs.Inserting.{entry}
-use Rattle.index.proofs.Growing.{separatorBefore}
+use Rattle.index.proofs.Apart.{length-numbersAt, free-are, length-piecesAt}
+use Rattle.index.proofs.DividedEntries.{length-parts, divided-entries}
+use Rattle.index_write.specs.AidFlat.{EntriesLie, sepBytes, short, Roomy, Added, newest, Newest}
+use Rattle.index_write.specs.AidPrepared.{SoundRecord, Divisible, Prepared}
 use Rattle.index_write.specs.declared.Cursor.{Cursor}
-use Rattle.index_write.specs.Divided.{cuts, partsOf, dividedAt, newMeaning}
-use Rattle.index_write.specs.Flat.{separators, short, Readable, Roomy, Added, newest, Newest}
-use Rattle.index_write.specs.Prepared.{SoundRecord, Divisible, Prepared}
 use Rattle.index_write.proofs.Adding.{separators-append, added-as, added-more, short-bytes}
 use Rattle.index_write.proofs.Walking.{rises-short, pieces-append, spell-append, readable-first, readable-second, Next, next}
-use Rattle.index_write.proofs.Dividing.{length-parts, divided-entries}
 
 -- What a sound record gives.
 module _ (n : ℕ) (ib : List ℕ) (old : SoundRecord n ib) where
@@ -50,7 +49,7 @@ module _ (n : ℕ) (ib : List ℕ) (old : SoundRecord n ib) where
   entries-many =
       rw entries-are (length-spell [] (piecesAt 1 ib (length ib - 7) (n - freeCount 1 ib)) ∙ length-piecesAt 1 ib (length ib - 7) (n - freeCount 1 ib))
 
-  pub readable-all : Readable 1 ib (length ib - 7) (n - freeCount 1 ib) []
+  pub readable-all : EntriesLie 1 ib (length ib - 7) (n - freeCount 1 ib) []
   unfolding readIndex piecesIn
   readable-all =
       record {
@@ -62,7 +61,7 @@ module _ (n : ℕ) (ib : List ℕ) (old : SoundRecord n ib) where
 
 short-parts : (three : Bool) (first second free : List ℕ) (e : Entry) → length first ≤ 255 → length second ≤ 255 → length (e .sep) ≤ 255
     → short (partsOf (cuts three first second) free e) ≡ true
-unfolding partsOf short
+unfolding partsOf every
 short-parts true first second free e h k l = rw (le-leb (length first) 255 h, le-leb (length second) 255 k, le-leb (length (e .sep)) 255 l)
 short-parts false first second free e h k l = rw (le-leb (length first) 255 h, le-leb (length (e .sep)) 255 l)
 
@@ -113,16 +112,16 @@ module _ (n i : ℕ) (three : Bool) (first second ib s l x : List ℕ) (given : 
   pub all-few : i + (m + 1) + k ≤ n
   all-few = omega (arith, there, enough, free-few n ib (given .old))
 
-  readable : Readable 1 ib r (i + suc k) []
+  readable : EntriesLie 1 ib r (i + suc k) []
   readable = rw many-is at (readable-all n ib (given .old))
 
-  pub first-readable : Readable 1 ib (length ib - 7) i []
+  pub first-readable : EntriesLie 1 ib (length ib - 7) i []
   first-readable = readable-first 1 ib r i (suc k) [] readable
 
-  rest-readable : Readable 1 ib r' (suc k) ref
+  rest-readable : EntriesLie 1 ib r' (suc k) ref
   rest-readable = readable-second 1 ib r i (suc k) [] readable
 
-  one-readable : Readable 1 ib r' 1 ref
+  one-readable : EntriesLie 1 ib r' 1 ref
   one-readable = let e : suc k ≡ 1 + k = omega arith in readable-first 1 ib r' 1 k ref (rw e at rest-readable)
 
   divided : Next 1 ib r' k ref
@@ -152,14 +151,14 @@ module _ (n i : ℕ) (three : Bool) (first second ib s l x : List ℕ) (given : 
   new-entries =
       rw (← free-are 1 n ib) (divided-entries (readIndex 1 n ib) pre (entry sep (p .num)) post i (cuts three first second) old-entries pre-many)
 
-  pre-bytes : length (separators pre) ≤ 255 * i
+  pre-bytes : length (sepBytes pre) ≤ 255 * i
   pre-bytes = omega (arith, short-bytes pre (first-readable .few), pre-many)
 
-  parts-bytes : length (separators parts) ≤ 255 * (m + 1)
+  parts-bytes : length (sepBytes parts) ≤ 255 * (m + 1)
   parts-bytes =
       omega (arith, short-bytes parts (short-parts three first second (numbersAt 1 ib 24 (freeCount 1 ib)) (entry sep (p .num)) fs ss (omega (arith, divided .long, divided .few))), parts-many)
 
-  post-bytes : length (separators post) ≤ 255 * k
+  post-bytes : length (sepBytes post) ≤ 255 * k
   post-bytes = omega (arith, short-bytes post (divided .others .few), post-many)
 
   -- ---- how much it is
@@ -170,15 +169,15 @@ module _ (n i : ℕ) (three : Bool) (first second ib s l x : List ℕ) (given : 
       (omega (arith, length-append pre (parts ++ post), length-append parts post, pre-many, parts-many, post-many, there, enough, free-few n ib (given .old)))
 
   pub new-free : length (newMeaning 1 n ib i (cuts three first second) .free) ≡ freeCount 1 ib - length (cuts three first second)
-  unfolding dividedAt
+  unfolding dividedAt swap
   new-free =
       let f : List ℕ = readIndex 1 n ib .free in
       omega (arith, length-take-le (length f - m) f (omega arith), free-many n ib (given .old))
 
-  pub new-bytes : length (separators (newMeaning 1 n ib i (cuts three first second) .entries)) ≤ length s
+  pub new-bytes : length (sepBytes (newMeaning 1 n ib i (cuts three first second) .entries)) ≤ length s
   new-bytes =
       rw new-entries
-      (omega (arith, ap length (separators-append pre (parts ++ post)), length-append (separators pre) (separators (parts ++ post)), ap length (separators-append parts post), length-append (separators parts) (separators post), pre-bytes, parts-bytes, post-bytes, all-few, given .seps))
+      (omega (arith, ap length (separators-append pre (parts ++ post)), length-append (sepBytes pre) (sepBytes (parts ++ post)), ap length (separators-append parts post), length-append (sepBytes parts) (sepBytes post), pre-bytes, parts-bytes, post-bytes, all-few, given .seps))
 
   -- ---- added one after another
 
@@ -198,7 +197,7 @@ module _ (n i : ℕ) (three : Bool) (first second ib s l x : List ℕ) (given : 
     right1-is : d .right ≡ r'
     right1-is = omega (arith, right1)
 
-    pub second-readable : Readable 1 ib (d .right) 1 (newest d s1)
+    pub second-readable : EntriesLie 1 ib (d .right) 1 (newest d s1)
     second-readable = rw (right1-is, new1 .is) one-readable
 
     pub second-room : length s1 ≡ length s → length l1 ≡ length l → length x1 ≡ length x → Roomy d (m + 1) s1 l1 x1
@@ -221,7 +220,7 @@ module _ (n i : ℕ) (three : Bool) (first second ib s l x : List ℕ) (given : 
       a2-is : Added parts d e s1 l1 x1 s2 l2 x2
       a2-is = added-as _ parts d e s1 l1 x1 s2 l2 x2 (rw (new1 .is, right1-is)) a2
 
-      pub third-readable : Readable 1 ib (e .right) k (newest e s2)
+      pub third-readable : EntriesLie 1 ib (e .right) k (newest e s2)
       third-readable = rw (right2-is, new2-is) (divided .others)
 
       pub third-room : length s2 ≡ length s → length l2 ≡ length l → length x2 ≡ length x → Roomy e k s2 l2 x2
@@ -244,7 +243,7 @@ module _ (n i : ℕ) (three : Bool) (first second ib s l x : List ℕ) (given : 
           (omega (arith, given .nums, all-few, a1 .entries, pre-many, a2-is .entries, parts-many, post-many, hx)) in
           let c : Added (pre ++ (parts ++ post)) start f s l x s3 l3 x3 =
           added-more pre (parts ++ post) start d f s l x s1 l1 x1 s3 l3 x3 a1 b
-          (omega (arith, given .seps, all-few, a1 .bytes, pre-bytes, parts-bytes, post-bytes, length-append (separators parts) (separators post), ap length (separators-append parts post)))
+          (omega (arith, given .seps, all-few, a1 .bytes, pre-bytes, parts-bytes, post-bytes, length-append (sepBytes parts) (sepBytes post), ap length (separators-append parts post)))
           (omega (arith, given .lens, all-few, a1 .entries, pre-many, length-append parts post, parts-many, post-many))
           (omega (arith, given .nums, all-few, a1 .entries, pre-many, length-append parts post, parts-many, post-many)) in
           let z : Added (newMeaning 1 n ib i (cuts three first second) .entries) start f s l x s3 l3 x3 =

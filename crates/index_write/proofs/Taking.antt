@@ -7,7 +7,7 @@ use native.Mathlib.Omega.{arith}
 use Rattle.fields.specs.Bytes.{number}
 use Rattle.index.specs.Reading.{unusedAt, freeCount, numbersAt, readIndex}
 use Rattle.index.proofs.Closing.{count-one}
-use Rattle.index.proofs.Taking.{length-numbersAt, number-at, free-are}
+use Rattle.index.proofs.Apart.{length-numbersAt, number-at, free-are}
 
 -- The first c' of them.
 pub take-numbersAt : (w : ℕ) (ib : List ℕ) (a c k : ℕ) → k ≤ c → take k (numbersAt w ib a c) ≡ numbersAt w ib a k

@@ -9,25 +9,24 @@ use lib.Dec.{leb}
 use native.Mathlib.Omega.{arith}
 use borrow.Author.Tests.{leb-true, le-leb}
 use Rattle.fields.specs.Choice.{both}
+use Rattle.fields.specs.Lists.{every}
 use Rattle.fields.proofs.Choices.{both-split, both-assoc}
+use Rattle.fields.proofs.Lists.{every-append}
 use Rattle.index.specs.Bounds.{bound}
-use Rattle.index.specs.Meaning.{Entry}
+use Rattle.index.specs.Meaning.{Entry, separatorBefore}
 use Rattle.index.specs.Rules.{rises}
 use Rattle.index.specs.Pieces.{Piece, spelt, spell, frontsFit, pieceSize, piecesSize}
 use Rattle.index.specs.Reading.{lengthAt, pieceAt, piecesAt}
 use Rattle.index.proofs.Keeping.{separator-short, rises-apart}
-use Rattle.index.proofs.Growing.{separatorBefore}
-use Rattle.index.proofs.Taking.{chars-long}
-use Rattle.index_write.specs.Flat.{short, Readable}
+use Rattle.index.proofs.Apart.{chars-long}
+use Rattle.index_write.specs.AidFlat.{EntriesLie, short}
 
 pub short-append : (xs ys : List Entry) → short (xs ++ ys) ≡ both (short xs) (short ys)
-unfolding short
-short-append [] ys = refl
-short-append (x ∷ xs) ys = rw (short-append xs ys) (sym (both-assoc (leb (length (x .sep)) 255) (short xs) (short ys)))
+short-append xs ys = every-append (λ (e : Entry). leb (length (e .sep)) 255) xs ys
 
 -- Separators of at most 255 bytes are short.
 pub rises-short : (K : ℕ) (low : List ℕ) (es : List Entry) → K ≤ 255 → rises K low es ≡ true → short es ≡ true
-unfolding short
+unfolding every
 rises-short K low [] h r = refl
 rises-short K low (e ∷ es) h r =
     let a = rises-apart K low e es r in
@@ -70,7 +69,7 @@ before-append ref [] ys = refl
 before-append ref (x ∷ xs) ys = before-append (x .sep) xs ys
 
 -- What can be read as a whole can be read in two.
-module _ (w : ℕ) (b : List ℕ) (r i k : ℕ) (ref : List ℕ) (readable : Readable w b r (i + k) ref) where
+module _ (w : ℕ) (b : List ℕ) (r i k : ℕ) (ref : List ℕ) (readable : EntriesLie w b r (i + k) ref) where
   abbrev first : List Piece
   first = piecesAt w b r i
 
@@ -86,7 +85,7 @@ module _ (w : ℕ) (b : List ℕ) (r i k : ℕ) (ref : List ℕ) (readable : Rea
   size-two : piecesSize w first + piecesSize w second ≤ r
   size-two = omega (arith, size-append w first second, rw (pieces-append w b r i k) at (readable .room))
 
-  pub readable-first : Readable w b r i ref
+  pub readable-first : EntriesLie w b r i ref
   readable-first =
       record {
         inside = readable .inside;
@@ -95,7 +94,7 @@ module _ (w : ℕ) (b : List ℕ) (r i k : ℕ) (ref : List ℕ) (readable : Rea
         few = both-split (short (spell ref first)) _ short-two .0;
       }
 
-  pub readable-second : Readable w b (r - piecesSize w (piecesAt w b r i)) k (separatorBefore ref (spell ref (piecesAt w b r i)))
+  pub readable-second : EntriesLie w b (r - piecesSize w (piecesAt w b r i)) k (separatorBefore ref (spell ref (piecesAt w b r i)))
   readable-second =
       record {
         inside = omega (arith, readable .inside);
@@ -113,10 +112,10 @@ pub record Next (w : ℕ) (b : List ℕ) (r k : ℕ) (ref : List ℕ) : Type 0 w
   pub few : pieceAt w b r .front + lengthAt w b r ≤ 255
   pub long : length (spelt ref (pieceAt w b r)) ≡ pieceAt w b r .front + lengthAt w b r
   pub size : pieceSize w (pieceAt w b r) ≡ w + 2 + lengthAt w b r
-  pub others : Readable w b (r - pieceSize w (pieceAt w b r)) k (spelt ref (pieceAt w b r))
+  pub others : EntriesLie w b (r - pieceSize w (pieceAt w b r)) k (spelt ref (pieceAt w b r))
 
-pub next : (w : ℕ) (b : List ℕ) (r k : ℕ) (ref : List ℕ) → Readable w b r (suc k) ref → Next w b r k ref
-unfolding piecesAt piecesSize frontsFit spell short
+pub next : (w : ℕ) (b : List ℕ) (r k : ℕ) (ref : List ℕ) → EntriesLie w b r (suc k) ref → Next w b r k ref
+unfolding piecesAt piecesSize frontsFit spell every
 next w b r k ref readable =
     let p : Piece = pieceAt w b r in
     let room : pieceSize w p ≤ r = omega (arith, readable .room) in

@@ -8,15 +8,15 @@ use native.Mathlib.Omega.{arith}
 use native.Mathlib.Numerals.{add-one}
 use Rattle.fields.specs.Bytes.{part, splice, digits}
 use Rattle.fields.specs.Order.{common}
+use Rattle.fields.specs.Lists.{sum}
 use Rattle.fields.proofs.Numbers.{length-digits}
 use Rattle.fields.proofs.Splices.{sets-splice, length-splice, splice-splice, splice-nil, splice-after, part-is}
-use Rattle.index.specs.Meaning.{Entry}
+use Rattle.index.specs.Meaning.{Entry, entry}
 use Rattle.index.specs.Layout.{piecesBytes}
 use Rattle.index.specs.Form.{packed, entrySize, entryBytes, entriesSize, entriesBytes}
 use Rattle.index.proofs.Compressing.{length-entryBytes, length-entriesBytes}
 use Rattle.index.proofs.Forming.{entry-is, entries-cons}
-use Rattle.index.proofs.Inserting.{entry}
-use Rattle.index_write.specs.Flat.{flat, total}
+use Rattle.index_write.specs.AidFlat.{flat}
 use Rattle.index_write.proofs.Measuring.{size-is, total-next, flat-next, flat-none}
 
 -- ---- one entry
@@ -66,7 +66,7 @@ pub record Written (b₀ : List ℕ) (right : ℕ) (seps lens nums b : List ℕ)
   pub place : r + length done ≡ right
   pub inside : i ≤ length lens
   pub order : q ≤ p
-  pub left : p + total (drop i lens) ≡ total lens
+  pub left : p + sum (drop i lens) ≡ sum lens
 
 pub write-start : (b : List ℕ) (right : ℕ) (seps lens nums : List ℕ) → Written b right seps lens nums b right 0 0 0
 write-start b right seps lens nums =
@@ -94,7 +94,7 @@ module _ (b₀ : List ℕ) (right : ℕ) (seps lens nums b : List ℕ) (r q p i 
     next : flat (drop p seps) (drop i lens) (drop i nums) ≡ entry (part seps p l) (getD nums i 0) ∷ others
     next = flat-next seps lens nums p i l more (omega arith) l-is
 
-    pub write-reach : total lens ≤ length seps → p + l ≤ length seps
+    pub write-reach : sum lens ≤ length seps → p + l ≤ length seps
     write-reach h = omega (arith, total-next lens i l more l-is, w .left)
 
     bytes-next : entriesBytes 1 prev (flat (drop p seps) (drop i lens) (drop i nums)) ≡ entriesBytes 1 (part seps p l) others ++ entryBytes 1 prev (part seps p l) (getD nums i 0)

@@ -1,3 +1,2 @@
-pub mod Divided
-pub mod Flat
-pub mod Prepared
+pub mod AidFlat
+pub mod AidPrepared

@@ -5,15 +5,15 @@ ghost use mathlib.Core.Path.{_≡_};
 ghost use mathlib.Core.List.{List, [], _∷_};
 ghost use lib.ListN.{length, getD, take, drop};
 ghost use Rattle.fields.specs.Bytes.{part, splice};
+ghost use Rattle.fields.specs.Lists.{sum};
 ghost use Rattle.index.specs.Bounds.{cutSeparator};
 ghost use Rattle.index.specs.Pieces.{spelt, spell, pieceSize, piecesSize};
 ghost use Rattle.index.specs.Reading.{unusedAt, freeCount, lengthAt, pieceAt, piecesAt, numbersAt};
 ghost use Rattle.index.specs.Form.{entrySize, entryBytes, entriesSize, entriesBytes, indexBytes};
-ghost use Rattle.index.proofs.Growing.{separatorBefore};
-ghost use Rattle.index.proofs.Inserting.{entry};
-ghost use Rattle.index_write.specs.Divided.{cuts, partsOf, newMeaning};
-ghost use Rattle.index_write.specs.Flat.{flat, total, renewed, Readable, Roomy, Added, newest, Newest};
-ghost use Rattle.index_write.specs.Prepared.{Divisible, Prepared, heldIn, Writable};
+ghost use Rattle.index.specs.Meaning.{separatorBefore, entry};
+ghost use Rattle.index.specs.Divided.{cuts, partsOf, newMeaning};
+ghost use Rattle.index_write.specs.AidFlat.{EntriesLie, flat, renewed, Roomy, Added, newest, Newest};
+ghost use Rattle.index_write.specs.AidPrepared.{Divisible, Prepared, heldIn, Writable};
 
 // Pointers and free numbers have one byte each.
 const WIDTH: usize = 1;
@@ -35,13 +35,7 @@ pub struct Renewal {
     pub size: usize,
 }
 
-// Numbers as places and counts are.
-fn wide(x: u8) -> usize
-    ensures { λ r. ⌜ (r ≡ x) × (r < 256) ⌝ }
-{
-    x as usize
-}
-
+// A number as places and counts are.
 fn number_of(x: u16) -> usize
     ensures { λ r. ⌜ r ≡ x ⌝ }
 {
@@ -103,8 +97,8 @@ fn put_separator(
     ensures long { λ x. ⌜ (x ≡ length (spelt (drop from (now (seps .entry))) (pieceAt width (now (ib .entry)) r))) × (x ≡ pieceAt width (now (ib .entry)) r .front + lengthAt width (now (ib .entry)) r) ⌝ }
     ensures bytes { λ _. ⌜ now (seps .exit) ≡ splice (now (seps .entry)) at (spelt (drop from (now (seps .entry))) (pieceAt width (now (ib .entry)) r)) ⌝ }
 {
-    let l = wide(ib[r - (width + 1)]);
-    let f = wide(ib[r - (width + 2)]);
+    let l = fields::wide(ib[r - (width + 1)]);
+    let f = fields::wide(ib[r - (width + 2)]);
     let a = r - (width + 2 + l);
     let z = a + l;
     repeat(seps, from, at, f);
@@ -155,7 +149,7 @@ fn append_old(
     let r = c.right;
     let at = c.bytes;
     let k = c.entries;
-    let l = wide(ib[r - (WIDTH + 1)]);
+    let l = fields::wide(ib[r - (WIDTH + 1)]);
     let len = put_separator(seps, at, c.last, ib, r, WIDTH);
     enter(lens, nums, k, len, num);
     Cursor {
@@ -175,7 +169,7 @@ fn append_all(
     lens: &mut [u8],
     nums: &mut [u16],
 ) -> Cursor
-    requires { ⌜ Roomy c count (now seps) (now lens) (now nums) × (c .last ≤ c .bytes) × Readable 1 (now ib) (c .right) count (newest c (now seps)) ⌝ }
+    requires { ⌜ Roomy c count (now seps) (now lens) (now nums) × (c .last ≤ c .bytes) × EntriesLie 1 (now ib) (c .right) count (newest c (now seps)) ⌝ }
     ensures added { λ r. ⌜ Added (spell (newest c (now (seps .entry))) (piecesAt 1 (now (ib .entry)) (c .right) count)) c r (now (seps .entry)) (now (lens .entry)) (now (nums .entry)) (now (seps .exit)) (now (lens .exit)) (now (nums .exit)) ⌝ }
     ensures moves { λ r. ⌜ (r .right + piecesSize 1 (piecesAt 1 (now (ib .entry)) (c .right) count) ≡ c .right) × Newest r (now (seps .exit)) (separatorBefore (newest c (now (seps .entry))) (spell (newest c (now (seps .entry))) (piecesAt 1 (now (ib .entry)) (c .right) count))) ⌝ }
 {
@@ -204,7 +198,7 @@ fn append_parts(
     nums: &mut [u16],
 ) -> Cursor
     requires room { ⌜ Roomy c (length (cuts three (now first) (now second)) + 1) (now seps) (now lens) (now nums) × (length (now first) ≤ 255) × (length (now second) ≤ 255) ⌝ }
-    requires there { ⌜ (c .last ≤ c .bytes) × Readable 1 (now ib) (c .right) 1 (newest c (now seps)) × (length (cuts three (now first) (now second)) ≤ freeCount 1 (now ib)) × (unusedAt (now ib) ≤ length (now ib)) ⌝ }
+    requires there { ⌜ (c .last ≤ c .bytes) × EntriesLie 1 (now ib) (c .right) 1 (newest c (now seps)) × (length (cuts three (now first) (now second)) ≤ freeCount 1 (now ib)) × (unusedAt (now ib) ≤ length (now ib)) ⌝ }
     ensures added { λ r. ⌜ Added (partsOf (cuts three (now (first .entry)) (now (second .entry))) (numbersAt 1 (now (ib .entry)) 24 (freeCount 1 (now (ib .entry)))) (entry (spelt (newest c (now (seps .entry))) (pieceAt 1 (now (ib .entry)) (c .right))) (pieceAt 1 (now (ib .entry)) (c .right) .num))) c r (now (seps .entry)) (now (lens .entry)) (now (nums .entry)) (now (seps .exit)) (now (lens .exit)) (now (nums .exit)) ⌝ }
     ensures moves { λ r. ⌜ (r .right + pieceSize 1 (pieceAt 1 (now (ib .entry)) (c .right)) ≡ c .right) × Newest r (now (seps .exit)) (spelt (newest c (now (seps .entry))) (pieceAt 1 (now (ib .entry)) (c .right))) ⌝ }
 {
@@ -260,7 +254,7 @@ fn entry_size(prev: &[u8], sep: &[u8], width: usize) -> usize
 
 // How many bytes the entries of the scratch take so.
 fn size_entries(seps: &[u8], lens: &[u8]) -> usize
-    requires { ⌜ (length (now lens) ≤ 256) × (total (now lens) ≤ length (now seps)) ⌝ }
+    requires { ⌜ (length (now lens) ≤ 256) × (sum (now lens) ≤ length (now seps)) ⌝ }
     ensures { λ r. ⌜ ((xs : List ℕ) → length xs ≡ length (now (lens .entry)) → r ≡ entriesSize 1 [] (flat (now (seps .entry)) (now (lens .entry)) xs)) × (r ≤ 258 * length (now (lens .entry))) ⌝ }
 {
     let mut size = 0;
@@ -268,7 +262,7 @@ fn size_entries(seps: &[u8], lens: &[u8]) -> usize
     let mut p = 0;
     let mut i = 0;
     while i < lens.len() {
-        let e = p + wide(lens[i]);
+        let e = p + fields::wide(lens[i]);
         size += entry_size(&seps[q..p], &seps[p..e], WIDTH);
         q = p;
         p = e;
@@ -326,7 +320,7 @@ fn put_entry(b: &mut [u8], r: usize, prev: &[u8], sep: &[u8], num: usize, width:
 
 // Stores the entries of the scratch from place `right` leftward, and gives the place where the last one begins.
 fn write_entries(b: &mut [u8], right: usize, seps: &[u8], lens: &[u8], nums: &[u16]) -> usize
-    requires { ⌜ (right ≤ length (now b)) × (length (now nums) ≡ length (now lens)) × (total (now lens) ≤ length (now seps)) × (entriesSize 1 [] (flat (now seps) (now lens) (now nums)) ≤ right) ⌝ }
+    requires { ⌜ (right ≤ length (now b)) × (length (now nums) ≡ length (now lens)) × (sum (now lens) ≤ length (now seps)) × (entriesSize 1 [] (flat (now seps) (now lens) (now nums)) ≤ right) ⌝ }
     ensures place { λ x. ⌜ x + entriesSize 1 [] (flat (now (seps .entry)) (now (lens .entry)) (now (nums .entry))) ≡ right ⌝ }
     ensures bytes { λ x. ⌜ now (b .exit) ≡ splice (now (b .entry)) x (entriesBytes 1 [] (flat (now (seps .entry)) (now (lens .entry)) (now (nums .entry)))) ⌝ }
 {
@@ -335,7 +329,7 @@ fn write_entries(b: &mut [u8], right: usize, seps: &[u8], lens: &[u8], nums: &[u
     let mut p = 0;
     let mut i = 0;
     while i < lens.len() {
-        let e = p + wide(lens[i]);
+        let e = p + fields::wide(lens[i]);
         let num = number_of(nums[i]);
         r = put_entry(b, r, &seps[q..p], &seps[p..e], num, WIDTH);
         q = p;

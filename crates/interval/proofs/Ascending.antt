@@ -1,27 +1,25 @@
 -- Laws of keys: those of two lists within bounds, and keys that ascend.
 use Prim.Native.Nat.{ℕ}
-use mathlib.Core.Path.{_≡_, refl, sym}
+use mathlib.Core.Path.{_≡_, refl}
 use mathlib.Core.Bool.{true, false}
 use mathlib.Core.List.{List, [], _∷_, _++_}
 use Rattle.fields.specs.Choice.{both, no}
 use Rattle.fields.specs.Order.{less}
-use Rattle.fields.proofs.Choices.{both-split, both-join, both-assoc}
+use Rattle.fields.specs.Lists.{every}
+use Rattle.fields.proofs.Choices.{both-split, both-join}
 use Rattle.fields.proofs.Orders.{less-asym, le-less}
+use Rattle.fields.proofs.Lists.{every-append}
 use Rattle.interval.specs.Records.{ascendFrom, ascending, above, upTo}
 
 -- ---- keys of two lists
 
 -- All keys of two lists are above a bound exactly if those of each are.
 pub above-append : (low : List ℕ) (ks ls : List (List ℕ)) → above low (ks ++ ls) ≡ both (above low ks) (above low ls)
-unfolding above
-above-append low [] ls = refl
-above-append low (k ∷ ks) ls = rw (above-append low ks ls) (sym (both-assoc (less low k) (above low ks) (above low ls)))
+above-append low ks ls = every-append (less low) ks ls
 
 -- The same of keys up to a bound.
 pub up-append : (high : List ℕ) (ks ls : List (List ℕ)) → upTo high (ks ++ ls) ≡ both (upTo high ks) (upTo high ls)
-unfolding upTo
-up-append high [] ls = refl
-up-append high (k ∷ ks) ls = rw (up-append high ks ls) (sym (both-assoc (no (less high k)) (upTo high ks) (upTo high ls)))
+up-append high ks ls = every-append (λ (k : List ℕ). no (less high k)) ks ls
 
 -- ---- keys that ascend
 
@@ -38,7 +36,7 @@ ascend-tail k ks h = from-ascends k ks h
 
 -- Keys that ascend, all of them above a bound, ascend from it.
 pub ascends-from : (a : List ℕ) (ks : List (List ℕ)) → ascending ks ≡ true → above a ks ≡ true → ascendFrom a ks ≡ true
-unfolding ascending ascendFrom above
+unfolding ascending ascendFrom every
 ascends-from a [] u h = refl
 ascends-from a (k ∷ ks) u h = both-join (less a k) (ascendFrom k ks) (both-split (less a k) (above a ks) h .0) u
 
@@ -52,7 +50,7 @@ from-lower a high (x ∷ ks) h k =
 
 -- Keys that ascend from one that is not below a bound are above the bound.
 pub ascend-above : (low key : List ℕ) (ks : List (List ℕ)) → ascendFrom low ks ≡ true → less low key ≡ false → above key ks ≡ true
-unfolding ascendFrom above
+unfolding ascendFrom every
 ascend-above low key [] h e = refl
 ascend-above low key (k ∷ ks) h e =
     let s = both-split (less low k) (ascendFrom k ks) h in

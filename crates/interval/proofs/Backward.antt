@@ -10,15 +10,17 @@ use native.Mathlib.Omega.{arith}
 use borrow.Author.Tests.{eqb-true, eqb-false}
 use Rattle.fields.specs.Choice.{no}
 use Rattle.fields.specs.Bytes.{Octets, part, digits}
+use Rattle.fields.specs.Lists.{sum, concat}
 use Rattle.fields.proofs.Choices.{both-split, no-true}
 use Rattle.fields.proofs.Splices.{length-mid}
 use Rattle.fields.proofs.Numbers.{number-below, digits-number}
+use Rattle.fields.proofs.Lists.{sum-lengths}
 use Rattle.measures.specs.declared.Measures.{Measures}
-use Rattle.room.specs.Room.{sum, Group, spelt}
-use Rattle.interval.specs.Records.{concat, lengthsFine, keysOf, ascending}
+use Rattle.room.specs.Room.{described, Group}
+use Rattle.interval.specs.Records.{lengthsFine, keysOf, ascending}
 use Rattle.interval.specs.Layout.{groupsBytes, layout, LaidOut}
 use Rattle.interval.specs.Reading.{displacement, unusedField, busy, unusedLength, rdfsAt, rdfsMany, rdfsIn, wellFormed, lengths, recordsIn, formSound, sound}
-use Rattle.interval.proofs.Cutting.{concat-cut, map-length-cut, sum-lengths}
+use Rattle.interval.proofs.Cutting.{concat-cut, map-length-cut}
 use Rattle.interval.proofs.Groups.{rdfsBytes, groups-bytes, lengths-rdfsOf, Grouped, grouped}
 use Rattle.interval.proofs.Written.{rdfs-there}
 
@@ -75,7 +77,7 @@ module _ (m : Measures) (ci : List ℕ) (h : formSound m ci ≡ true) where
   inside : sum (lengths (rdfsIn ci)) ≤ length ci
   inside = omega (arith, tests .total, tests .adds-up)
 
-  spelt-lengths : spelt (legal .grouping) ≡ lengths (rdfsIn ci)
+  spelt-lengths : described (legal .grouping) ≡ lengths (rdfsIn ci)
   spelt-lengths = sym (lengths-rdfsOf (legal .grouping) (legal .counted)) ∙ ap lengths (legal .same)
 
   -- the records that are read have the lengths that the RDFs give

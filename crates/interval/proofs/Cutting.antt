@@ -2,18 +2,11 @@
 use Prim.Native.Nat.{ℕ, _+_, _≤_, zero, suc, _<_}
 use mathlib.Core.Path.{_≡_, refl, ap, _∙_}
 use mathlib.Core.List.{List, [], _∷_, _++_, map, append-assoc, append-nil}
-use lib.ListN.{length, take, drop, length-append, length-drop, getD}
+use lib.ListN.{length, take, drop, length-drop, getD}
 use lib.Seq.{take-append-seam, drop-append-seam, length-take-le, take-add, drop-drop}
 use native.Mathlib.Omega.{arith}
-use Rattle.room.specs.Room.{sum}
-use Rattle.interval.specs.Records.{concat}
+use Rattle.fields.specs.Lists.{sum, concat}
 use Rattle.interval.specs.Reading.{cut}
-
--- the lengths of records add up to the length of all their bytes
-pub sum-lengths : (rs : List (List ℕ)) → sum (map length rs) ≡ length (concat rs)
-unfolding sum concat
-sum-lengths [] = refl
-sum-lengths (r ∷ rs) = simp (length-append, sum-lengths rs)
 
 -- records laid one after another, whatever follows them, are cut apart again by their lengths
 pub cut-front : (rs : List (List ℕ)) (x : List ℕ) → cut (concat rs ++ x) (map length rs) ≡ rs

@@ -8,14 +8,15 @@ use lib.Dec.{leb}
 use native.Mathlib.Omega.{arith}
 use Rattle.fields.specs.Choice.{pick}
 use Rattle.fields.specs.Bytes.{Octets, digits}
+use Rattle.fields.specs.Lists.{concat}
 use Rattle.fields.proofs.Octets.{octets-nil, octets-cons, octets-append, octets-take, octets-replicate, octets-digits}
+use Rattle.fields.proofs.Lists.{sum-lengths}
 use Rattle.measures.specs.declared.Measures.{Measures}
 use Rattle.room.specs.Room.{Group, rdfCount, groups, need}
-use Rattle.interval.specs.Records.{concat, keysOf, ascending, lengthsFine}
+use Rattle.room.proofs.Need.{spelt-groups, counted-groups, groups-fewest}
+use Rattle.interval.specs.Records.{keysOf, ascending, lengthsFine}
 use Rattle.interval.specs.Layout.{rdfBytes, groupBytes, groupsBytes, layout, LaidOut, form}
 use Rattle.interval.specs.Reading.{displacement, recordsIn, formSound, sound}
-use Rattle.interval.proofs.Cutting.{sum-lengths}
-use Rattle.room.proofs.Laws.{spelt-groups, counted-groups, groups-fewest}
 use Rattle.interval.proofs.Forward.{layout-length, laid-out-size, laid-out-reads, laid-out-form, laid-out-sound}
 use Rattle.interval.proofs.Backward.{read-concat, interval-only-laid-out}
 

@@ -7,13 +7,15 @@ use lib.ListN.{length, length-append}
 use native.Mathlib.Omega.{arith}
 use borrow.Author.Tests.{eq-eqb, ne-eqb}
 use Rattle.fields.specs.Bytes.{digits}
+use Rattle.fields.specs.Lists.{sum, concat}
 use Rattle.fields.proofs.Numbers.{length-digits, number-seam}
+use Rattle.fields.proofs.Lists.{sum-lengths}
 use Rattle.measures.specs.declared.Measures.{Measures}
-use Rattle.room.specs.Room.{sum, Group, spelt, rdfCount}
-use Rattle.interval.specs.Records.{concat, allWithin, keysOf, ascending, lengthsFine}
+use Rattle.room.specs.Room.{described, Group, rdfCount}
+use Rattle.interval.specs.Records.{allWithin, keysOf, ascending, lengthsFine}
 use Rattle.interval.specs.Layout.{cidf, groupsBytes, layout, LaidOut}
 use Rattle.interval.specs.Reading.{displacement, unusedField, busy, unusedLength, rdfsAt, rdfsMany, rdfsIn, wellFormed, lengths, recordsIn, formSound, sound}
-use Rattle.interval.proofs.Cutting.{sum-lengths, cut-front}
+use Rattle.interval.proofs.Cutting.{cut-front}
 use Rattle.interval.proofs.Groups.{rdfsOf, groups-bytes, length-rdfsOf, lengths-rdfsOf, formed-rdfsOf, small-rdfsOf}
 use Rattle.interval.proofs.Written.{length-rdfsBytes, rdfs-seam}
 
@@ -68,10 +70,10 @@ module _ (S : ℕ) (rs : List (List ℕ)) (ci : List ℕ) (small : S ≤ 32768) 
   rdfs-many = rw (rdfs-at, l .size) (omega (arith, laid-out-size S rs ci l))
 
 module _ (m : Measures) (S : ℕ) (rs : List (List ℕ)) (ci : List ℕ) (some : 1 ≤ m .least) (small : S ≤ 32768) (fine : lengthsFine m rs ≡ true) (l : LaidOut S rs ci) where
-  spelt-fine : allWithin (m .least) (m .most) (spelt (l .grouping)) ≡ true
+  spelt-fine : allWithin (m .least) (m .most) (described (l .grouping)) ≡ true
   spelt-fine = rw (l .spells) fine
 
-  spelt-sum : sum (spelt (l .grouping)) ≡ length (concat rs)
+  spelt-sum : sum (described (l .grouping)) ≡ length (concat rs)
   spelt-sum = rw (l .spells) (sum-lengths rs)
 
   -- the RDFs that are read are those of the groups

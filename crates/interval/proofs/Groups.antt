@@ -8,8 +8,9 @@ use lib.Dec.{eqb, leb}
 use native.Mathlib.Omega.{arith}
 use borrow.Author.Tests.{eqb-true, leb-true, leb-false, le-leb, lt-leb}
 use Rattle.fields.specs.Choice.{pick, both}
+use Rattle.fields.specs.Lists.{sum, every}
 use Rattle.fields.proofs.Choices.{false-true, both-split, both-join}
-use Rattle.room.specs.Room.{sum, Group, spelt, allCounted, rdfCount}
+use Rattle.room.specs.Room.{described, Group, allCounted, rdfCount}
 use Rattle.interval.specs.Records.{within, allWithin}
 use Rattle.interval.specs.Layout.{rdfBytes, groupBytes, groupsBytes}
 use Rattle.interval.specs.Reading.{Rdf, wellFormed, paired, lengths}
@@ -57,15 +58,15 @@ length-rdfsOf (g ∷ gs) = go (leb (g .count) 1) (length-rdfsOf gs)
     go false i = omega arith
 
 -- the lengths that the RDFs give are those that the groups describe
-pub lengths-rdfsOf : (gs : List Group) → allCounted gs ≡ true → lengths (rdfsOf gs) ≡ spelt gs
-unfolding rdfsOf groupRdfs allCounted spelt lengths
+pub lengths-rdfsOf : (gs : List Group) → allCounted gs ≡ true → lengths (rdfsOf gs) ≡ described gs
+unfolding rdfsOf groupRdfs every described lengths
 lengths-rdfsOf [] e = refl
 lengths-rdfsOf (g ∷ gs) e =
     let s = both-split (leb 1 (g .count)) (allCounted gs) e in
     go (leb (g .count) 1) refl (leb-true 1 (g .count) (s .0)) (lengths-rdfsOf gs (s .1))
   where
-    go : (t : Bool) → leb (g .count) 1 ≡ t → 1 ≤ g .count → lengths (rdfsOf gs) ≡ spelt gs
-        → lengths (pick t (rdf 0 (g .len) ∷ []) (rdf 64 (g .len) ∷ rdf 8 (g .count) ∷ []) ++ rdfsOf gs) ≡ replicate (g .count) (g .len) ++ spelt gs
+    go : (t : Bool) → leb (g .count) 1 ≡ t → 1 ≤ g .count → lengths (rdfsOf gs) ≡ described gs
+        → lengths (pick t (rdf 0 (g .len) ∷ []) (rdf 64 (g .len) ∷ rdf 8 (g .count) ∷ []) ++ rdfsOf gs) ≡ replicate (g .count) (g .len) ++ described gs
     go true q h i =
         let k : g .count ≡ 1 = omega (arith, leb-true (g .count) 1 q) in
         rw (k, i)
@@ -73,31 +74,31 @@ lengths-rdfsOf (g ∷ gs) e =
 
 -- a run of a length within the limits, before lengths within them
 within-run : (least most c l : ℕ) (xs : List ℕ) → within least most l ≡ true → allWithin least most xs ≡ true → allWithin least most (replicate c l ++ xs) ≡ true
-unfolding allWithin
+unfolding every
 within-run least most zero l xs w e = e
 within-run least most (suc c) l xs w e = rw w (within-run least most c l xs w e)
 
 -- what follows a run
 pub within-rest : (least most c l : ℕ) (xs : List ℕ) → allWithin least most (replicate c l ++ xs) ≡ true → allWithin least most xs ≡ true
-unfolding allWithin
+unfolding every
 within-rest least most zero l xs e = e
 within-rest least most (suc c) l xs e =
     within-rest least most c l xs (both-split (within least most l) (allWithin least most (replicate c l ++ xs)) e .1)
 
 -- and the length of the run, if it has a record
 pub within-len : (least most c l : ℕ) (xs : List ℕ) → 1 ≤ c → allWithin least most (replicate c l ++ xs) ≡ true → within least most l ≡ true
-unfolding allWithin
+unfolding every
 within-len least most zero l xs h e = absurd (omega arith)
 within-len least most (suc c) l xs h e = both-split (within least most l) (allWithin least most (replicate c l ++ xs)) e .0
 
 -- the RDFs of legal groups are well formed
-pub formed-rdfsOf : (least most : ℕ) (gs : List Group) → allCounted gs ≡ true → allWithin least most (spelt gs) ≡ true → wellFormed least most (rdfsOf gs) ≡ true
-unfolding rdfsOf groupRdfs allCounted spelt wellFormed
+pub formed-rdfsOf : (least most : ℕ) (gs : List Group) → allCounted gs ≡ true → allWithin least most (described gs) ≡ true → wellFormed least most (rdfsOf gs) ≡ true
+unfolding rdfsOf groupRdfs every described wellFormed
 formed-rdfsOf least most [] e f = refl
 formed-rdfsOf least most (g ∷ gs) e f =
     let s = both-split (leb 1 (g .count)) (allCounted gs) e in
-    go (leb (g .count) 1) refl (within-len least most (g .count) (g .len) (spelt gs) (leb-true 1 (g .count) (s .0)) f)
-    (formed-rdfsOf least most gs (s .1) (within-rest least most (g .count) (g .len) (spelt gs) f))
+    go (leb (g .count) 1) refl (within-len least most (g .count) (g .len) (described gs) (leb-true 1 (g .count) (s .0)) f)
+    (formed-rdfsOf least most gs (s .1) (within-rest least most (g .count) (g .len) (described gs) f))
   where
     go : (t : Bool) → leb (g .count) 1 ≡ t → within least most (g .len) ≡ true → wellFormed least most (rdfsOf gs) ≡ true
         → wellFormed least most (pick t (rdf 0 (g .len) ∷ []) (rdf 64 (g .len) ∷ rdf 8 (g .count) ∷ []) ++ rdfsOf gs) ≡ true
@@ -122,18 +123,18 @@ run-len zero l xs h = absurd (omega arith)
 run-len (suc c) l xs h = omega arith
 
 -- lengths and counts are at most the bytes of all records, since no record is empty
-pub small-rdfsOf : (least most : ℕ) (gs : List Group) → 1 ≤ least → allCounted gs ≡ true → allWithin least most (spelt gs) ≡ true
-    → sum (spelt gs) < 65536 → Small (rdfsOf gs)
-unfolding rdfsOf groupRdfs allCounted spelt
+pub small-rdfsOf : (least most : ℕ) (gs : List Group) → 1 ≤ least → allCounted gs ≡ true → allWithin least most (described gs) ≡ true
+    → sum (described gs) < 65536 → Small (rdfsOf gs)
+unfolding rdfsOf groupRdfs every described
 small-rdfsOf least most [] h e f k = tt
 small-rdfsOf least most (g ∷ gs) h e f k =
     let s = both-split (leb 1 (g .count)) (allCounted gs) e in
     let c : 1 ≤ g .count = leb-true 1 (g .count) (s .0) in
-    let w = within-len least most (g .count) (g .len) (spelt gs) c f in
+    let w = within-len least most (g .count) (g .len) (described gs) c f in
     let l : least ≤ g .len = leb-true least (g .len) (both-split (leb least (g .len)) (leb (g .len) most) w .0) in
-    let m = run-count (g .count) (g .len) (spelt gs) (omega arith) in
-    let n = run-len (g .count) (g .len) (spelt gs) c in
-    go (leb (g .count) 1) (omega arith) (omega arith) (small-rdfsOf least most gs h (s .1) (within-rest least most (g .count) (g .len) (spelt gs) f) (omega arith))
+    let m = run-count (g .count) (g .len) (described gs) (omega arith) in
+    let n = run-len (g .count) (g .len) (described gs) c in
+    go (leb (g .count) 1) (omega arith) (omega arith) (small-rdfsOf least most gs h (s .1) (within-rest least most (g .count) (g .len) (described gs) f) (omega arith))
   where
     go : (t : Bool) → g .len < 65536 → g .count < 65536 → Small (rdfsOf gs)
         → Small (pick t (rdf 0 (g .len) ∷ []) (rdf 64 (g .len) ∷ rdf 8 (g .count) ∷ []) ++ rdfsOf gs)
@@ -144,30 +145,30 @@ small-rdfsOf least most (g ∷ gs) h e f k =
 pub record Grouped (least most : ℕ) (rs : List Rdf) : Type 0 where
   pub grouping : List Group
   pub counted : allCounted grouping ≡ true
-  pub fine : allWithin least most (spelt grouping) ≡ true
+  pub fine : allWithin least most (described grouping) ≡ true
   pub same : rdfsOf grouping ≡ rs
 
 one : (least most : ℕ) (r : Rdf) (rs : List Rdf) → r .control ≡ 0 → within least most (r .num) ≡ true → Grouped least most rs → Grouped least most (r ∷ rs)
-unfolding allCounted spelt allWithin rdfsOf groupRdfs
+unfolding every described rdfsOf groupRdfs
 one least most r rs e w g =
     let q : rdf 0 (r .num) ≡ r = ap (λ (c : ℕ). rdf c (r .num)) (sym e) in
     record {
       grouping = group (r .num) 1 ∷ g .grouping;
       counted = g .counted;
-      fine = both-join (within least most (r .num)) (allWithin least most (spelt (g .grouping))) w (g .fine);
+      fine = both-join (within least most (r .num)) (allWithin least most (described (g .grouping))) w (g .fine);
       same = rw (q, g .same);
     }
 
 run : (least most : ℕ) (r q : Rdf) (rs : List Rdf) → r .control ≡ 64 → q .control ≡ 8 → within least most (r .num) ≡ true → 2 ≤ q .num
     → Grouped least most rs → Grouped least most (r ∷ q ∷ rs)
-unfolding allCounted spelt allWithin rdfsOf groupRdfs
+unfolding every described rdfsOf groupRdfs
 run least most r q rs e f w h g =
     let a : rdf 64 (r .num) ≡ r = ap (λ (c : ℕ). rdf c (r .num)) (sym e) in
     let b : rdf 8 (q .num) ≡ q = ap (λ (c : ℕ). rdf c (q .num)) (sym f) in
     record {
       grouping = group (r .num) (q .num) ∷ g .grouping;
       counted = rw (le-leb 1 (q .num) (omega arith)) (g .counted);
-      fine = within-run least most (q .num) (r .num) (spelt (g .grouping)) w (g .fine);
+      fine = within-run least most (q .num) (r .num) (described (g .grouping)) w (g .fine);
       same = rw (lt-leb (q .num) 1 (omega arith), a, b, g .same);
     }
 
@@ -198,7 +199,7 @@ paired-case least most r q rs f c w e =
 
 -- well-formed RDFs are those of legal groups
 mutual
-  unfolding wellFormed allCounted spelt allWithin rdfsOf
+  unfolding wellFormed every described rdfsOf
 
   pub grouped : (least most : ℕ) (rs : List Rdf) → wellFormed least most rs ≡ true → Grouped least most rs
   grouped least most [] e = record { grouping = []; counted = refl; fine = refl; same = refl }

@@ -6,5 +6,11 @@ pub mod Backward
 pub mod Form
 pub mod Unsound
 pub mod Vectors
-pub mod Keys
+pub mod Lengths
 pub mod Ascending
+pub mod Search
+pub mod Readable
+pub mod FoundBytes
+pub mod Starting
+pub mod SearchVectors
+pub mod Changed

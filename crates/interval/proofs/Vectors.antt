@@ -9,10 +9,11 @@ use Rattle.fields.specs.Table.{sameList, sameLists, all}
 use Rattle.fields.specs.Choice.{both, no}
 use Rattle.fields.specs.Bytes.{number, digits}
 use Rattle.fields.specs.Order.{orderOf}
-use Rattle.measures.specs.declared.Measures.{Measures}
+use Rattle.fields.specs.Lists.{sum, concat}
 use Rattle.measures.specs.Judgement.{measures}
-use Rattle.room.specs.Room.{sum, rdfCount, push, groups, need}
-use Rattle.interval.specs.Records.{concat, ascendFrom, ascending}
+use Rattle.measures.specs.declared.Measures.{Measures}
+use Rattle.room.specs.Room.{rdfCount, push, groups, need}
+use Rattle.interval.specs.Records.{ascendFrom, ascending}
 use Rattle.interval.specs.Layout.{groupBytes, groupsBytes, layout, form}
 use Rattle.interval.specs.Reading.{rdfs, rdfsIn, wellFormed, lengths, cut, recordsIn, formSound, sound}
 

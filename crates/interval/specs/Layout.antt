@@ -8,8 +8,8 @@ use lib.ListN.{length, replicate}
 use lib.Dec.{leb}
 use Rattle.fields.specs.Choice.{pick}
 use Rattle.fields.specs.Bytes.{digits}
-use Rattle.room.specs.Room.{Group, spelt, allCounted, groups, need}
-use Rattle.interval.specs.Records.{concat}
+use Rattle.fields.specs.Lists.{concat}
+use Rattle.room.specs.Room.{described, Group, allCounted, groups, need}
 
 -- an RDF: control byte and number
 abbrev pub rdfBytes : ℕ → ℕ → List ℕ
@@ -38,7 +38,7 @@ pub record LaidOut (S : ℕ) (records : List (List ℕ)) (ci : List ℕ) : Type 
   pub grouping : List Group
   pub unused : List ℕ
   pub counted : allCounted grouping ≡ true
-  pub spells : spelt grouping ≡ map length records
+  pub spells : described grouping ≡ map length records
   pub bytes : ci ≡ layout records unused grouping
   pub size : length ci ≡ S
 

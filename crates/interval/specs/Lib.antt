@@ -1,3 +1,5 @@
 pub mod Records
 pub mod Layout
 pub mod Reading
+pub mod Search
+pub mod Role

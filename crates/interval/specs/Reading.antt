@@ -7,8 +7,8 @@ use lib.ListN.{length, getD, take, drop, replicate}
 use lib.Dec.{eqb, leb}
 use Rattle.fields.specs.Choice.{pick, both, no}
 use Rattle.fields.specs.Bytes.{number}
+use Rattle.fields.specs.Lists.{sum}
 use Rattle.measures.specs.declared.Measures.{Measures}
-use Rattle.room.specs.Room.{sum}
 use Rattle.interval.specs.Records.{within, keysOf, ascending}
 
 -- CIDF: displacement to the unused space; its length, below the busy flag
@@ -70,6 +70,10 @@ unfoldable mutual
 unfoldable pub cut : List ℕ → List ℕ → List (List ℕ)
 cut b [] = []
 cut b (l ∷ ls) = take l b ∷ cut (drop l b) ls
+
+-- the bytes before the unused space, where the records lie
+abbrev pub recordBytes : List ℕ → List ℕ
+recordBytes ci = take (displacement ci) ci
 
 -- the records of an interval
 unfoldable pub recordsIn : List ℕ → List (List ℕ)

@@ -1,18 +1,15 @@
--- Records and their keys.
-use Prim.Native.Nat.{ℕ, _+_}
+-- Records, their keys and their lengths: document 01, 'The area we lend' and 'Data interval'.
+use Prim.Native.Nat.{ℕ}
+use mathlib.Core.Path.{_≡_}
 use mathlib.Core.Bool.{Bool, true}
-use mathlib.Core.List.{List, [], _∷_, _++_, map}
+use mathlib.Core.List.{List, [], _∷_, map}
 use lib.ListN.{length}
 use lib.Dec.{leb}
 use Rattle.fields.specs.Choice.{both, no}
 use Rattle.fields.specs.Bytes.{part}
 use Rattle.fields.specs.Order.{less}
+use Rattle.fields.specs.Lists.{every, concat}
 use Rattle.measures.specs.declared.Measures.{Measures}
-
--- records one after another
-unfoldable pub concat : List (List ℕ) → List ℕ
-concat [] = []
-concat (r ∷ rs) = r ++ concat rs
 
 -- a record's key: its bytes at the offset
 abbrev pub keyOf : Measures → List ℕ → List ℕ
@@ -22,9 +19,9 @@ keyOf m r = part r (m .offset) (m .key)
 abbrev pub within : ℕ → ℕ → ℕ → Bool
 within least most l = both (leb least l) (leb l most)
 
-unfoldable pub allWithin : ℕ → ℕ → List ℕ → Bool
-allWithin least most [] = true
-allWithin least most (l ∷ ls) = both (within least most l) (allWithin least most ls)
+-- and so are all of some lengths
+abbrev pub allWithin : ℕ → ℕ → List ℕ → Bool
+allWithin least most ls = every (within least most) ls
 
 -- keys strictly ascend, the first above low; low is empty where there is no bound before (the empty list is below every key)
 unfoldable pub ascendFrom : List ℕ → List (List ℕ) → Bool
@@ -37,14 +34,12 @@ ascending [] = true
 ascending (k ∷ ks) = ascendFrom k ks
 
 -- every key is above the bound before
-unfoldable pub above : List ℕ → List (List ℕ) → Bool
-above low [] = true
-above low (k ∷ ks) = both (less low k) (above low ks)
+abbrev pub above : List ℕ → List (List ℕ) → Bool
+above low ks = every (less low) ks
 
 -- every key is at most the bound
-unfoldable pub upTo : List ℕ → List (List ℕ) → Bool
-upTo high [] = true
-upTo high (k ∷ ks) = both (no (less high k)) (upTo high ks)
+abbrev pub upTo : List ℕ → List (List ℕ) → Bool
+upTo high ks = every (λ (k : List ℕ). no (less high k)) ks
 
 -- the keys of records
 abbrev pub keysOf : Measures → List (List ℕ) → List (List ℕ)
@@ -53,3 +48,8 @@ keysOf m rs = map (keyOf m) rs
 -- every record's length is one that the measures allow
 abbrev pub lengthsFine : Measures → List (List ℕ) → Bool
 lengthsFine m rs = allWithin (m .least) (m .most) (map length rs)
+
+-- These bytes, and these lengths, are those of the records, one after another.
+pub record Flat (bytes lens : List ℕ) (rs : List (List ℕ)) : Type 0 where
+  pub bytes-are : bytes ≡ concat rs
+  pub lens-are : lens ≡ map length rs

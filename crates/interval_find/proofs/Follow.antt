@@ -9,20 +9,22 @@ use native.Mathlib.Nat.{add-zero, zero-add}
 use Rattle.fields.specs.Choice.{pick}
 use Rattle.fields.specs.Bytes.{part}
 use Rattle.fields.specs.Order.{orderOf, isLess}
+use Rattle.fields.specs.Lists.{concat}
 use Rattle.fields.specs.declared.Order.{Order}
 use Rattle.fields.specs.declared.Order.the-variants.{Less, Same, Greater}
 use Rattle.measures.specs.declared.Measures.{Measures}
-use Rattle.interval.specs.Records.{concat, keyOf, keysOf, ascending}
+use Rattle.interval.specs.Records.{keyOf, keysOf, ascending}
 use Rattle.interval.specs.Reading.{displacement, rdfsAt, rdfsMany, rdfs, rdfsIn, lengths, cut, recordsIn, Readable}
+use Rattle.interval.specs.Search.{lower, holds, startOf, placeOf, Within}
+use Rattle.interval.specs.declared.Found.{Found}
+use Rattle.interval.specs.declared.Found.the-variants.{At, Gap}
 use Rattle.interval.proofs.Ascending.{ascend-tail}
-use Rattle.interval_find.specs.Search.{lower, holds, startOf, placeOf, Within}
-use Rattle.interval_find.specs.Steps.{rest, Ready, Stepped}
-use Rattle.interval_find.specs.declared.Found.{Found}
-use Rattle.interval_find.specs.declared.Found.the-variants.{At, Gap}
+use Rattle.interval.proofs.Readable.{readable-ascends, readable-bytes}
+use Rattle.interval.proofs.Search.{first-less, first-lower, first-holds, place-within}
+use Rattle.interval_find.specs.AidSteps.{rest, Ready, Stepped}
 use Rattle.interval_find.specs.declared.Place.{Place}
 use Rattle.interval_find.specs.declared.Step.the-variants.{Record}
-use Rattle.interval_find.proofs.Steps.{recordsFrom, records-step, length-record, key-there, readable-ascends, readable-bytes}
-use Rattle.interval_find.proofs.Search.{first-less, first-lower, first-holds, place-within}
+use Rattle.interval_find.proofs.Steps.{recordsFrom, records-step, length-record, key-there}
 
 abbrev pub byOrder : Order → Found → Found → Found → Found
 byOrder Less a b c = a

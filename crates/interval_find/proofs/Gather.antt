@@ -2,24 +2,18 @@
 use Prim.Native.Nat.{ℕ, _+_, _-_, _*_, _≤_, _<_}
 use mathlib.Core.Path.{_≡_, refl, _∙_, sym, ap}
 use mathlib.Core.Bool.{true}
-use mathlib.Core.List.{List, [], _∷_, _++_, map, append-assoc, append-nil}
+use mathlib.Core.List.{List, [], _++_, map, append-assoc, append-nil}
 use lib.ListN.{length, replicate, length-append, length-replicate, length-map}
-use lib.Dec.{leb}
 use native.Mathlib.Omega.{arith}
-use borrow.Author.Tests.{leb-true}
-use Rattle.fields.proofs.Choices.{both-split}
-use Rattle.room.specs.Room.{sum}
-use Rattle.interval.specs.Records.{within, allWithin}
-use Rattle.interval.proofs.Cutting.{sum-lengths}
 use Rattle.fields.specs.Bytes.{splice}
 use Rattle.fields.proofs.Splices.{length-splice, splice-nil, splice-after}
 use Rattle.measures.specs.declared.Measures.{Measures}
 use Rattle.interval.specs.Reading.{rdfsAt, rdfsMany, rdfs, rdfsIn, wellFormed, lengths, recordsIn, Readable}
-use Rattle.interval.proofs.Backward.{read-lengths, read-lengths-fine}
-use Rattle.rdf.specs.Front.{frontOf, Small}
+use Rattle.interval.proofs.Backward.{read-lengths}
+use Rattle.interval.proofs.Readable.{readable-form, readable-rdfs, readable-formed}
+use Rattle.rdf.specs.AidFront.{frontOf, Small}
 use Rattle.rdf.specs.declared.Front.the-variants.{Run}
 use Rattle.rdf.proofs.Fronts.{steps, Step}
-use Rattle.interval_find.proofs.Steps.{readable-form, readable-rdfs, readable-formed, readable-bytes}
 
 -- i lengths are at the front, and those that the other RDFs describe are still to come
 pub record Gathered (m : Measures) (ci : List ℕ) (p left : ℕ) (lens₀ lens : List ℕ) (i : ℕ) : Type 0 where
@@ -83,19 +77,3 @@ module _ (m : Measures) (ci lens₀ : List ℕ) (r : Readable m ci) where
             room = omega (arith, g .room);
             formed = sym (step .formed) ∙ g .formed;
           }
-
--- lengths that are at least 1 add up to at least their number
-few : (least most : ℕ) (ls : List ℕ) → 1 ≤ least → allWithin least most ls ≡ true → length ls ≤ sum ls
-unfolding allWithin sum
-few least most [] h e = omega arith
-few least most (l ∷ ls) h e =
-    let s = both-split (within least most l) (allWithin least most ls) e in
-    let k : least ≤ l = leb-true least l (both-split (leb least l) (leb l most) (s .0) .0) in
-    omega (arith, few least most ls h (s .1))
-
--- so a buffer that is as long as the interval holds the lengths
-pub records-few : (m : Measures) (ci : List ℕ) → Readable m ci → length (recordsIn ci) + 4 ≤ length ci
-records-few m ci r =
-    let f = readable-form m ci r in
-    let e = few (m .least) (m .most) (map length (recordsIn ci)) (omega (arith, r .keyed, r .inside)) (read-lengths-fine m ci f) in
-    omega (arith, e, length-map (recordsIn ci) length, sum-lengths (recordsIn ci), readable-bytes m ci r, readable-rdfs m ci r)

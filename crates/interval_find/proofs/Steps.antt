@@ -1,5 +1,5 @@
 -- Places among the records of a sound interval, and what a step from one to the next says.
-use Prim.Native.Nat.{ℕ, zero, suc, _+_, _-_, _*_, _/_, _%_, _≤_, _<_}
+use Prim.Native.Nat.{ℕ, zero, suc, _+_, _-_, _/_, _%_, _≤_, _<_}
 use mathlib.Core.Path.{_≡_, refl, _∙_, sym}
 use mathlib.Core.Bool.{true}
 use mathlib.Core.List.{List, [], _∷_, _++_}
@@ -9,52 +9,31 @@ use native.Mathlib.Omega.{arith}
 use native.Mathlib.Nat.{not-suc-le-zero}
 use Rattle.fields.specs.Choice.{both}
 use Rattle.fields.specs.Bytes.{part}
+use Rattle.fields.specs.Lists.{sum, every}
 use Rattle.fields.proofs.Choices.{both-split, false-true}
 use Rattle.fields.proofs.Splices.{part-part}
 use Rattle.measures.specs.declared.Measures.{Measures}
-use Rattle.room.specs.Room.{sum}
-use Rattle.interval.proofs.Keys.{cut-cons, within-low}
-use Rattle.interval.specs.Records.{concat, keyOf, keysOf, within, allWithin, ascending}
-use Rattle.interval.specs.Reading.{displacement, unusedField, rdfsAt, rdfsMany, rdfs, rdfsIn, wellFormed, lengths, cut, recordsIn, formSound, Readable}
-use Rattle.interval.proofs.Backward.{Tests, form-tests, read-lengths, read-lengths-fine, form-and-keys, read-bytes}
-use Rattle.rdf.specs.Front.{frontOf, Small}
+use Rattle.interval.specs.Records.{keyOf, within, allWithin}
+use Rattle.interval.specs.Reading.{displacement, unusedField, rdfsAt, rdfsMany, rdfs, rdfsIn, wellFormed, lengths, cut, Readable}
+use Rattle.interval.proofs.Lengths.{cut-cons, within-low}
+use Rattle.interval.proofs.Backward.{read-lengths, read-lengths-fine}
+use Rattle.interval.proofs.Readable.{readable-tests, readable-form, readable-rdfs, readable-formed}
+use Rattle.rdf.specs.AidFront.{frontOf, Small}
 use Rattle.rdf.specs.declared.Front.the-variants.{Run, Damaged}
 use Rattle.rdf.proofs.Fronts.{stops, steps}
-use Rattle.interval_find.specs.Steps.{rest, Ready, Stepped}
+use Rattle.interval_find.specs.AidSteps.{rest, Ready, Stepped}
 use Rattle.interval_find.specs.declared.Place.{Place}
 use Rattle.interval_find.specs.declared.Step.the-variants.{Record}
 
--- What the readers of a sound interval know of it.
+-- the place before the first record
 module _ (m : Measures) (ci : List ℕ) (r : Readable m ci) where
-  pub readable-form : formSound m ci ≡ true
-  readable-form = form-and-keys m ci (r .stands) .0
-
-  -- the keys of the records strictly ascend
-  pub readable-ascends : ascending (keysOf m (recordsIn ci)) ≡ true
-  readable-ascends = form-and-keys m ci (r .stands) .1
-
-  tests : Tests m ci
-  tests = form-tests m ci readable-form
-
-  pub readable-rdfs : rdfsAt ci + 3 * rdfsMany ci + 4 ≡ length ci
-  readable-rdfs = tests .adds-up
-
-  pub readable-formed : wellFormed (m .least) (m .most) (rdfs ci (rdfsAt ci) (rdfsMany ci)) ≡ true
-  unfolding rdfsIn
-  readable-formed = tests .formed
-
-  -- the records take the bytes up to the unused space
-  pub readable-bytes : length (concat (recordsIn ci)) ≡ displacement ci
-  readable-bytes = read-bytes m ci readable-form
-
-  -- the place before the first record
   pub ready-first : (p many : ℕ) → p ≡ rdfsAt ci → many ≡ rdfsMany ci → Ready (m .least) (m .most) ci p (record { at = 0; left = many; len = 0; more = 0 })
   unfolding rdfsIn
   ready-first p many e f =
-      let s : sum (lengths (rdfs ci (rdfsAt ci) (rdfsMany ci))) ≡ displacement ci = tests .total in
+      let s : sum (lengths (rdfs ci (rdfsAt ci) (rdfsMany ci))) ≡ displacement ci = readable-tests m ci r .total in
       let w : allWithin (m .least) (m .most) (lengths (rdfs ci (rdfsAt ci) (rdfsMany ci))) ≡ true =
-      rw (read-lengths m ci readable-form) at (read-lengths-fine m ci readable-form) in
-      rw (e, f) (record { room = omega (arith, readable-rdfs); formed = readable-formed; inside = omega (arith, readable-rdfs); fine = w })
+      rw (read-lengths m ci (readable-form m ci r)) at (read-lengths-fine m ci (readable-form m ci r)) in
+      rw (e, f) (record { room = omega (arith, readable-rdfs m ci r); formed = readable-formed m ci r; inside = omega (arith, readable-rdfs m ci r); fine = w })
 
 run-cons : (m l : ℕ) (xs : List ℕ) → 0 < m → replicate m l ++ xs ≡ l ∷ (replicate (m - 1) l ++ xs)
 run-cons zero l xs h = absurd (not-suc-le-zero h)
@@ -65,7 +44,7 @@ run-cons (suc m) l xs h =
 -- a place after a record of length l is ready where the place before it was
 ready-next : (least most : ℕ) (ci : List ℕ) (p : ℕ) (c d : Place) (l : ℕ) → Ready least most ci p c
     → rest ci p c ≡ l ∷ rest ci p d → d .at ≡ c .at + l → d .left ≤ c .left → wellFormed least most (rdfs ci p (d .left)) ≡ true → Ready least most ci p d
-unfolding sum allWithin
+unfolding sum every
 ready-next least most ci p c d l r e h k w =
     let s : c .at + (l + sum (rest ci p d)) ≤ length ci = rw e at (r .inside) in
     let f : both (within least most l) (allWithin least most (rest ci p d)) ≡ true = rw e at (r .fine) in

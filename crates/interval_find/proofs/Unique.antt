@@ -1,13 +1,13 @@
 -- For each public function: any two results that its contract allows are equal, buffers too.
 -- `Learnt` of a function is its contract's `ensures`, as every caller reads it: at the lifetimes, the arguments, the result and
 -- the parameters at exit. So these lemmas speak of the contracts themselves, and a contract that is made weaker breaks its own.
-use mathlib.Core.Path.{_≡_}
 use Prim.Native.Nat.{ℕ}
+use mathlib.Core.Path.{_≡_}
 use denote.Ref.{now}
 use Rattle.fields.proofs.Choices.{agree}
-use Rattle.interval_find.specs.declared.Found.{Found}
+use Rattle.interval.specs.declared.Found.{Found}
+use Rattle.interval.specs.declared.Started.{Started}
 use Rattle.interval_find.proofs.find.Reads as find
-use Rattle.interval_find.specs.declared.Started.{Started}
 use Rattle.interval_find.proofs.lengths_out.Reads as lengths-out
 use Rattle.interval_find.proofs.record_at.Reads as record-at
 

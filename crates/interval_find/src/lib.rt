@@ -1,13 +1,15 @@
 // The records of a sound data interval: stepped through, searched for a key, and told by their lengths.
+ghost use Prim.Native.Nat.{_+_, _-_, _≤_, _<_};
 ghost use mathlib.Core.Path.{_≡_};
 ghost use mathlib.Core.List.{map};
-ghost use Prim.Native.Nat.{_+_, _-_, _≤_, _<_};
 ghost use lib.ListN.{length, replicate};
 ghost use Rattle.fields.specs.Bytes.{splice};
 ghost use Rattle.interval.specs.Reading.{displacement, rdfsAt, rdfsMany, recordsIn, Readable};
-ghost use Rattle.interval_find.specs.Search.{placeOf, Within, startingAt, startedOf, Ends};
-ghost use Rattle.interval_find.specs.Steps.{Ready, Stepped};
+ghost use Rattle.interval.specs.Search.{placeOf, Within, startingAt, startedOf, Ends};
+ghost use Rattle.interval_find.specs.AidSteps.{Ready, Stepped};
 use fields::Order;
+use interval::Found;
+use interval::Started;
 use measures::Measures;
 use rdf::Front;
 
@@ -85,19 +87,6 @@ pub(crate) fn step_on(ci: &[u8], p: usize, least: usize, most: usize, c: Place) 
     }
 }
 
-// Where a key stands among the records of an interval, or where it would stand.
-pub enum Found {
-    At {
-        ordinal: usize,
-        start: usize,
-        length: usize,
-    },
-    Gap {
-        ordinal: usize,
-        start: usize,
-    },
-}
-
 // The place of a key. Keys ascend, so the first record whose key is not below it decides.
 pub fn find(ci: &[u8], m: Measures, key: &[u8]) -> Found
     requires { ⌜ Readable m (now ci) × (length (now key) ≡ m .key) ⌝ }
@@ -134,12 +123,6 @@ pub fn find(ci: &[u8], m: Measures, key: &[u8]) -> Found
         ordinal += 1;
         c = next;
     }
-}
-
-// The record that begins at a place, or that none does.
-pub enum Started {
-    Here { length: usize },
-    Nothing,
 }
 
 // Whether a record begins at a place of the interval, and how long it is.

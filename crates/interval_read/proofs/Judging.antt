@@ -9,19 +9,19 @@ use native.Mathlib.Omega.{arith}
 use Rattle.fields.specs.Choice.{pick, both, no}
 use Rattle.fields.specs.Bytes.{part}
 use Rattle.fields.specs.Order.{less}
+use Rattle.fields.specs.Lists.{sum}
 use Rattle.fields.proofs.Splices.{part-part}
+use Rattle.fields.proofs.Lists.{sum-cons}
 use Rattle.measures.specs.declared.Measures.{Measures}
-use Rattle.room.specs.Room.{sum}
 use Rattle.interval.specs.Records.{keyOf, keysOf, allWithin, ascending, ascendFrom}
 use Rattle.interval.specs.Reading.{busy, displacement, rdfsAt, rdfsMany, rdfsIn, rdfs, wellFormed, lengths, cut, recordsIn, formSound, sound}
 use Rattle.interval.proofs.Backward.{form-tests, read-lengths, read-lengths-fine}
-use Rattle.interval.proofs.Keys.{cut-cons, within-low, within-rest}
+use Rattle.interval.proofs.Lengths.{cut-cons, within-low, within-rest}
 use Rattle.interval_read.specs.Verdict.{lastStart, verdictOf}
-use Rattle.interval_read.specs.Walk.{tailOf, keysFrom, judged, walked}
+use Rattle.interval_read.specs.AidWalk.{tailOf, keysFrom, judged, walked}
 use Rattle.interval_read.specs.declared.Tail.the-variants.{Of, Bad}
 use Rattle.interval_read.specs.declared.Verdict.the-variants.{Sound, Unsound}
 use Rattle.interval_read.proofs.Keys.{empty-below, ascend-cons}
-use Rattle.room.proofs.Laws.{sum-cons}
 
 -- keys by their places are the keys of the records
 pub from-more : (offset key : ℕ) (ci : List ℕ) (at l : ℕ) (ls : List ℕ)
@@ -87,7 +87,10 @@ module _ (m : Measures) (ci : List ℕ) (some : 1 ≤ m .key) (inside : m .offse
       go true false p q e = absurd (let z : _≡_ {A = ℕ} 0 1 = cc in omega arith)
       go false b p q e = absurd (let z : _≡_ {A = ℕ} 0 1 = cc in omega arith)
 
-  whole : walked m ci (displacement ci) (rdfsMany ci) (rdfsIn ci) ≡ pick (both (wellFormed (m .least) (m .most) (rdfsIn ci)) (both (eqb (sum (lengths (rdfsIn ci))) (displacement ci)) (ascendFrom [] (keysFrom (m .offset) (m .key) ci 0 (lengths (rdfsIn ci)))))) (Sound (length (lengths (rdfsIn ci))) (displacement ci) (rdfsMany ci) (lastStart (lengths (rdfsIn ci)))) Unsound
+  whole : walked m ci (displacement ci) (rdfsMany ci) (rdfsIn ci)
+      ≡ pick (both (wellFormed (m .least) (m .most) (rdfsIn ci))
+      (both (eqb (sum (lengths (rdfsIn ci))) (displacement ci)) (ascendFrom [] (keysFrom (m .offset) (m .key) ci 0 (lengths (rdfsIn ci))))))
+      (Sound (length (lengths (rdfsIn ci))) (displacement ci) (rdfsMany ci) (lastStart (lengths (rdfsIn ci)))) Unsound
   unfolding walked judged
   whole = let e : 0 + sum (lengths (rdfsIn ci)) ≡ sum (lengths (rdfsIn ci)) = omega arith in rw e
 
@@ -126,7 +129,8 @@ module _ (m : Measures) (ci : List ℕ) (some : 1 ≤ m .key) (inside : m .offse
       go : (w s : Bool)
           → (wellFormed (m .least) (m .most) (rdfsIn ci) ≡ true → eqb (sum (lengths (rdfsIn ci))) (displacement ci) ≡ true → Told)
           → wellFormed (m .least) (m .most) (rdfsIn ci) ≡ w → eqb (sum (lengths (rdfsIn ci))) (displacement ci) ≡ s
-          → pick (both w (both s (ascendFrom [] (keysFrom (m .offset) (m .key) ci 0 (lengths (rdfsIn ci)))))) (Sound (length (lengths (rdfsIn ci))) (displacement ci) (rdfsMany ci) (lastStart (lengths (rdfsIn ci)))) Unsound
+          → pick (both w (both s (ascendFrom [] (keysFrom (m .offset) (m .key) ci 0 (lengths (rdfsIn ci))))))
+          (Sound (length (lengths (rdfsIn ci))) (displacement ci) (rdfsMany ci) (lastStart (lengths (rdfsIn ci)))) Unsound
           ≡ pick (both (both w s) (ascending (keysOf m (recordsIn ci)))) (Sound (length (recordsIn ci)) (displacement ci) (rdfsMany ci) (lastStart (map length (recordsIn ci)))) Unsound
       go true true d p q = let z = d p q in rw (z .ascends, z .count, z .lens)
       go true false d p q = refl

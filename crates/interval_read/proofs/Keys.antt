@@ -11,7 +11,7 @@ use Rattle.fields.specs.Bytes.{part}
 use Rattle.fields.specs.Order.{orderOf, less}
 use Rattle.fields.specs.declared.Order.the-variants.{Less}
 use Rattle.interval.specs.Records.{ascendFrom}
-use Rattle.interval_read.specs.Walk.{keysAt}
+use Rattle.interval_read.specs.AidWalk.{keysAt}
 
 -- one key of a run
 pub keys-more : (key : ℕ) (ci : List ℕ) (at len c : ℕ) → 0 < c → keysAt key ci at len c ≡ part ci at key ∷ keysAt key ci (at + len) len (c - 1)

@@ -3,3 +3,5 @@ pub mod Keys
 pub mod Walking
 pub mod Judging
 pub mod Unique
+pub mod Ends
+pub mod Verdicts

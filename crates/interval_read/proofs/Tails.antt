@@ -7,7 +7,7 @@ use lib.ListN.{length}
 use lib.Dec.{eqb}
 use borrow.Author.Tests.{eq-eqb, ne-eqb}
 use Rattle.interval.specs.Reading.{displacement, unusedField}
-use Rattle.interval_read.specs.Walk.{tailOf}
+use Rattle.interval_read.specs.AidWalk.{tailOf}
 use Rattle.interval_read.specs.declared.Tail.the-variants.{Of, Bad}
 
 module _ (ci : List ℕ) (d f u : ℕ) (p : d ≡ displacement ci) (q : f ≡ unusedField ci) where

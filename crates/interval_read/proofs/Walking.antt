@@ -11,14 +11,14 @@ use borrow.Author.Tests.{ne-eqb}
 use Rattle.fields.specs.Choice.{pick, both}
 use Rattle.fields.specs.Bytes.{part}
 use Rattle.fields.specs.Order.{less}
+use Rattle.fields.specs.Lists.{sum}
 use Rattle.fields.proofs.Choices.{both-false, both-true, both-assoc}
 use Rattle.measures.specs.declared.Measures.{Measures}
-use Rattle.room.specs.Room.{sum}
 use Rattle.interval.specs.Records.{ascendFrom}
 use Rattle.interval.specs.Reading.{Rdf, rdfs, wellFormed, lengths}
 use Rattle.rdf.proofs.Fronts.{Step}
 use Rattle.interval_read.specs.Verdict.{lastStart}
-use Rattle.interval_read.specs.Walk.{keysAt, keysFrom, judged, walked}
+use Rattle.interval_read.specs.AidWalk.{keysAt, keysFrom, judged, walked}
 use Rattle.interval_read.specs.declared.Verdict.the-variants.{Sound, Unsound}
 use Rattle.interval_read.proofs.Keys.{keys-none, ascend-none}
 
@@ -73,7 +73,8 @@ keys-run offset key ci prev at l zero ls =
     let e : at + l * 0 ≡ at = omega arith in
     let f : at + l * 1 ≡ at + l = omega arith in
     let r : ascendFrom prev (keysAt key ci (at + offset) l 1) ≡ less prev (part ci (at + offset) key) =
-    at-cons key ci prev (at + offset) l 0 ∙ ap (both (less prev (part ci (at + offset) key))) (none (part ci (at + offset) key) (at + offset + l)) ∙ both-true (less prev (part ci (at + offset) key)) in
+    at-cons key ci prev (at + offset) l 0 ∙ ap (both (less prev (part ci (at + offset) key))) (none (part ci (at + offset) key) (at + offset + l)) ∙ both-true
+    (less prev (part ci (at + offset) key)) in
     rw (e, f, r) (from-cons offset key ci prev at l ls)
   where
     none : (q : List ℕ) (x : ℕ) → ascendFrom q (keysAt key ci x l 0) ≡ true
@@ -136,7 +137,7 @@ module _ (m : Measures) (ci : List ℕ) (d : ℕ) (all : List Rdf) where
     no-group e = unsound (rw e)
 
     module _ (l c u : ℕ) (s : Step ci p n (m .least) (m .most) some l c u) (counted : 1 ≤ c) (long : 1 ≤ l) where
-      -- its records run past the unused space
+      -- its records run past the bytes that the records may have
       pub too-long : d < at + l * c → walked m ci d many all ≡ Unsound
       unfolding judged
       too-long h =

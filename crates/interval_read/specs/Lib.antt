@@ -1,2 +1,3 @@
 pub mod Verdict
-pub mod Walk
+pub mod AidWalk
+pub mod AidOpened

@@ -1,4 +1,4 @@
--- The verdict on a data interval.
+-- The verdict on a data interval: document 01, 'Data interval'.
 use Prim.Native.Nat.{ℕ, _+_}
 use mathlib.Core.List.{List, [], _∷_, map}
 use lib.ListN.{length}

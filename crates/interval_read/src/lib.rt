@@ -1,15 +1,18 @@
 // Whether a data interval is sound: one walk over its RDFs and records.
-ghost use mathlib.Core.Path.{_≡_};
-ghost use mathlib.Core.List.{[]};
 ghost use Prim.Native.Nat.{_+_, _-_, _*_, _≤_, _<_};
+ghost use mathlib.Core.Path.{_≡_};
+ghost use mathlib.Core.Bool.{true, false};
+ghost use mathlib.Core.List.{[]};
 ghost use lib.ListN.{length};
 ghost use lib.Dec.{eqb};
 ghost use Rattle.fields.specs.Choice.{pick};
 ghost use Rattle.fields.specs.Bytes.{part};
-ghost use Rattle.interval.specs.Records.{ascendFrom};
-ghost use Rattle.interval.specs.Reading.{rdfs};
+ghost use Rattle.interval.specs.Records.{ascendFrom, keysOf, upTo};
+ghost use Rattle.interval.specs.Reading.{rdfs, recordsIn};
+ghost use Rattle.interval.specs.Role.{soundFree};
 ghost use Rattle.interval_read.specs.Verdict.{verdictOf};
-ghost use Rattle.interval_read.specs.Walk.{tailOf, Small, keysAt, walked};
+ghost use Rattle.interval_read.specs.AidWalk.{tailOf, Small, keysAt, walked, RunLies};
+ghost use Rattle.interval_read.specs.AidOpened.{openedOf, Inside, Closable};
 use fields::Order;
 use measures::Measures;
 use rdf::Front;
@@ -89,7 +92,7 @@ pub(crate) fn run_rises(
     len: usize,
     count: usize,
 ) -> bool
-    requires { ⌜ (prev + key ≤ length (now ci)) × (1 ≤ key) × (key ≤ len) × (1 ≤ count) × (at + len * count ≤ length (now ci) + (len - key)) × (length (now ci) ≤ 32768) × (len < 65536) ⌝ }
+    requires { ⌜ RunLies (now ci) key prev at len count ⌝ }
     ensures { λ r. ⌜ r ≡ ascendFrom (pick (eqb seen 0) [] (part (now (ci .entry)) prev key)) (keysAt key (now (ci .entry)) at len count) ⌝ }
 {
     if seen == 0 {
@@ -148,4 +151,73 @@ pub fn check(ci: &[u8], m: Measures) -> Verdict
         return Verdict::Unsound;
     };
     walk(ci, m, bytes, at, many)
+}
+
+// Whether a free interval is as it must be: sound, and with no record.
+pub fn free_sound(ci: &[u8], m: Measures) -> bool
+    requires { ⌜ (4 ≤ length (now ci)) × (length (now ci) ≤ 32768) × (1 ≤ m .key) × (m .offset + m .key ≤ m .least) ⌝ }
+    ensures { λ r. ⌜ r ≡ soundFree m (now (ci .entry)) ⌝ }
+{
+    let Verdict::Sound {
+        count,
+        bytes: _,
+        rdfs: _,
+        last: _,
+    } = check(ci, m)
+    else {
+        return false;
+    };
+    count == 0
+}
+
+// What is known of an interval that is sound and has no key at or below the bound before: how many records, where the last begins.
+pub enum Opened {
+    Sound { count: usize, last: usize },
+    Bad,
+}
+
+// The interval judged by itself and against the bound before; the first entry has none. Keys ascend, so the first key decides.
+pub fn opens(ci: &[u8], m: Measures, first: bool, low: &[u8]) -> Opened
+    requires { ⌜ (4 ≤ length (now ci)) × (length (now ci) ≤ 32768) × (1 ≤ m .key) × (m .offset + m .key ≤ m .least) ⌝ }
+    ensures is { λ r. ⌜ r ≡ openedOf m (pick first [] (now (low .entry))) (now (ci .entry)) ⌝ }
+    ensures inside { λ r. ⌜ Inside m (now (ci .entry)) r ⌝ }
+{
+    let Verdict::Sound {
+        count,
+        bytes: _,
+        rdfs: _,
+        last,
+    } = check(ci, m)
+    else {
+        return Opened::Bad;
+    };
+    if first {
+        return Opened::Sound { count, last };
+    }
+    if count == 0 {
+        return Opened::Sound { count, last };
+    }
+    let from = m.offset;
+    let to = from + m.key;
+    let Order::Less = fields::compare(low, &ci[from..to]) else {
+        return Opened::Bad;
+    };
+    Opened::Sound { count, last }
+}
+
+// Whether no key of a sound interval is above its own bound: the last key decides.
+pub fn closes(ci: &[u8], m: Measures, count: usize, last: usize, high: &[u8]) -> bool
+    requires { ⌜ Closable m (now ci) count last ⌝ }
+    ensures { λ r. ⌜ r ≡ upTo (now (high .entry)) (keysOf m (recordsIn (now (ci .entry)))) ⌝ }
+{
+    if count == 0 {
+        return true;
+    }
+    let from = last + m.offset;
+    let to = from + m.key;
+    match fields::compare(high, &ci[from..to]) {
+        Order::Less => false,
+        Order::Same => true,
+        Order::Greater => true,
+    }
 }

@@ -7,10 +7,10 @@ use lib.Seq.{take-length}
 use native.Mathlib.Omega.{arith}
 use borrow.Author.Tests.{le-leb, lt-leb}
 use Rattle.fields.specs.Bytes.{digits, splice}
+use Rattle.fields.specs.Lists.{sum, concat}
 use Rattle.fields.proofs.Numbers.{length-digits}
 use Rattle.fields.proofs.Splices.{splice-splice, splice-after, splice-end, set-splice, mid-splice, length-mid}
-use Rattle.room.specs.Room.{sum, groups, need}
-use Rattle.interval.specs.Records.{concat}
+use Rattle.room.specs.Room.{groups, need}
 use Rattle.interval.specs.Layout.{rdfBytes, groupBytes, groupsBytes, cidf, layout, form}
 use Rattle.interval.specs.Reading.{cut}
 use Rattle.interval.proofs.Cutting.{concat-cut, map-length-cut}

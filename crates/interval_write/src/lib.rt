@@ -1,12 +1,13 @@
 // The writer of a data interval: document 01, 'Data interval'. Every byte of the interval is written.
-ghost use mathlib.Core.Path.{_≡_};
-ghost use mathlib.Core.List.{_∷_};
 ghost use Prim.Native.Nat.{_+_, _-_, _*_, _≤_, _<_};
-ghost use lib.ListN.{length, getD, drop};
+ghost use mathlib.Core.Path.{_≡_};
+ghost use lib.ListN.{length};
 ghost use Rattle.fields.specs.Bytes.{splice};
-ghost use Rattle.room.specs.Room.{sum, groups, need};
+ghost use Rattle.fields.specs.Lists.{sum};
+ghost use Rattle.room.specs.Room.{groups, need};
 ghost use Rattle.interval.specs.Layout.{rdfBytes, groupBytes, groupsBytes, cidf, form};
 ghost use Rattle.interval.specs.Reading.{cut};
+ghost use Rattle.interval_write.specs.AidRun.{RunAt, RoomThere};
 
 // Stores an RDF: whether a paired one stands to its left, whether its number is a count, its number.
 pub(crate) fn put_rdf(ci: &mut [u8], at: usize, paired: u8, counts: u8, num: usize)
@@ -36,7 +37,7 @@ pub(crate) fn put_group(ci: &mut [u8], end: usize, len: usize, count: usize) -> 
 // How many records, from record i on, are as long as it: the first group of the lengths from there.
 pub(crate) fn run_at(lens: &[u16], i: usize) -> usize
     requires { ⌜ i < length (now lens) ⌝ }
-    ensures run { λ r. ⌜ groups (drop i (now (lens .entry))) ≡ record { len = getD (now (lens .entry)) i 0; count = r } ∷ groups (drop (i + r) (now (lens .entry))) ⌝ }
+    ensures run { λ r. ⌜ RunAt (now (lens .entry)) i r ⌝ }
     ensures inside { λ r. ⌜ (1 ≤ r) × (i + r ≤ length (now (lens .entry))) ⌝ }
 {
     let l = lens[i];
@@ -91,7 +92,7 @@ pub fn write(ci: &mut [u8], bytes: &[u8], lens: &[u16])
 
 // Writes the interval that lies in the middle of an area, as a part that is lent.
 pub fn write_at(area: &mut [u8], at: usize, size: usize, bytes: &[u8], lens: &[u16])
-    requires { ⌜ (at + size ≤ length (now area)) × (need (now lens) ≤ size) × (size ≤ 32768) × (sum (now lens) ≡ length (now bytes)) × (length (now lens) < 65536) ⌝ }
+    requires { ⌜ RoomThere (now area) at size (now bytes) (now lens) ⌝ }
     ensures { λ _. ⌜ now (area .exit) ≡ splice (now (area .entry)) at (form size (cut (now (bytes .entry)) (now (lens .entry)))) ⌝ }
 {
     let e = at + size;

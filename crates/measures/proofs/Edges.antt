@@ -1,53 +1,10 @@
 -- Measures on both sides of each edge: one table, one statement.
+use Prim.Native.Nat.{_-_}
 use mathlib.Core.Path.{_≡_, refl}
-use mathlib.Core.Bool.{Bool, true}
-use mathlib.Core.List.{[], _∷_}
-use Prim.Native.Nat.{ℕ, _+_, _-_, _*_}
-use Rattle.fields.specs.Table.{all}
-use Rattle.fields.specs.Choice.{both, no}
+use mathlib.Core.Bool.{true}
 use Rattle.measures.specs.Sizes.{anyBelow, permittedSize}
 use Rattle.measures.specs.Judgement.{fine}
-
--- an area of n data intervals, key of 8 bytes at the front, records up to the most
-unfoldable pub area : ℕ → ℕ → ℕ → Bool
-area size most n = fine size 0 8 most (size * (n + 1))
-
--- largest numbers of a request
-abbrev largest : ℕ
-largest = 18446744073709551615
-
-unfoldable pub edges : Bool
-edges =
-    all
-    (area 512 505 2
-    ∷ no (area 512 506 2)
-    ∷ area 8192 60 1
-    ∷ no (area 8704 60 1)
-    ∷ area 10240 60 1
-    ∷ no (area 9216 60 1)
-    ∷ area 32768 32761 1
-    ∷ no (area 32768 32762 1)
-    ∷ no (area 34816 60 1)
-    ∷ no (area 0 60 1)
-    ∷ no (area 256 60 1)
-    ∷ no (area 512 60 0)
-    ∷ area 512 60 1
-    ∷ area 512 60 256
-    ∷ no (area 512 60 257)
-    ∷ no (fine 512 0 8 60 1025)
-    ∷ no (fine 512 0 8 60 1535)
-    ∷ no (fine 512 0 0 60 1024)
-    ∷ fine 512 0 1 60 1024
-    ∷ fine 512 0 255 505 1024
-    ∷ no (fine 512 0 256 505 1024)
-    ∷ fine 512 52 8 60 1024
-    ∷ no (fine 512 53 8 60 1024)
-    ∷ no (fine 512 largest 8 60 1024)
-    ∷ no (fine 512 (largest - 7) 8 60 1024)
-    ∷ no (fine 512 0 8 largest 1024)
-    ∷ no (fine largest 0 8 60 1024)
-    ∷ no (fine 512 0 8 60 largest)
-    ∷ [])
+use Rattle.measures.specs.Edges.{area, edges}
 
 pub both-sides : edges ≡ true
 unfolding edges area fine permittedSize anyBelow

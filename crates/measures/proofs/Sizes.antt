@@ -1,18 +1,17 @@
 -- Laws of `anyBelow`, and the stepping rule at each entry of the table.
+use Prim.Native.Nat.{ℕ, zero, suc, _+_, _-_, _*_, _≤_, _<_}
 use mathlib.Core.Path.{_≡_, refl}
 use mathlib.Core.Bool.{Bool, true, false}
-use mathlib.Core.List.{List, [], _∷_}
 use mathlib.Core.Logic.{⊎-elim}
-use Prim.Native.Nat.{ℕ, zero, suc, _+_, _-_, _*_, _≤_, _<_}
+use lib.ListN.{getD}
+use lib.Dec.{eqb, eqb→eq, ltb}
 use native.Mathlib.Nat.{le-of-suc-le-suc, not-suc-le-zero, eq-or-lt-of-le}
 use native.Mathlib.Numerals.{add-one}
 use native.Mathlib.Omega.{arith}
 use borrow.Author.Tests.{eqb-true, ltb-true}
-use lib.Dec.{eqb, eqb→eq, ltb}
-use lib.ListN.{getD}
 use Rattle.fields.specs.Choice.{pick, either}
 use Rattle.fields.proofs.Tables.{at}
-use Rattle.measures.specs.Sizes.{anyBelow, sizeAt, permittedSize}
+use Rattle.measures.specs.Sizes.{anyBelow, sizeAt, permittedSize, sizes}
 
 either-true : (b : Bool) → either b true ≡ true
 either-true true = refl
@@ -27,10 +26,6 @@ any-here f (suc n) i h e =
 pub any-more : (f : ℕ → Bool) (n : ℕ) → anyBelow f n ≡ false → f n ≡ false → anyBelow f (n + 1) ≡ false
 unfolding anyBelow
 any-more f n h e = rw (add-one, e, h)
-
--- the table as the code has it
-abbrev pub sizes : List ℕ
-sizes = 512 ∷ 1024 ∷ 1536 ∷ 2048 ∷ 2560 ∷ 3072 ∷ 3584 ∷ 4096 ∷ 4608 ∷ 5120 ∷ 5632 ∷ 6144 ∷ 6656 ∷ 7168 ∷ 7680 ∷ 8192 ∷ 10240 ∷ 12288 ∷ 14336 ∷ 16384 ∷ 18432 ∷ 20480 ∷ 22528 ∷ 24576 ∷ 26624 ∷ 28672 ∷ 30720 ∷ 32768 ∷ []
 
 right : ℕ → ℕ → Bool
 right k x = eqb x (sizeAt k)

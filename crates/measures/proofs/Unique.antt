@@ -1,7 +1,7 @@
 -- For each public function: any two results that its contract allows are equal, buffers too. `Learnt` is the contract as a caller reads it.
 use mathlib.Core.Path.{_≡_}
-use Rattle.fields.proofs.Choices.{agree}
 use mathlib.Core.Bool.{Bool}
+use Rattle.fields.proofs.Choices.{agree}
 use Rattle.measures.specs.declared.Judged.{Judged}
 use Rattle.measures.proofs.permitted.Reads as permitted
 use Rattle.measures.proofs.judge.Reads as judge

@@ -1,7 +1,7 @@
 -- Refusal 1, in unbounded arithmetic: document 01, 'The area we lend'.
-use mathlib.Core.Bool.{Bool, true}
-use mathlib.Core.Path.{_≡_}
 use Prim.Native.Nat.{ℕ, _+_, _-_, _*_, _/_, _≤_}
+use mathlib.Core.Path.{_≡_}
+use mathlib.Core.Bool.{Bool, true}
 use lib.Dec.{eqb, leb}
 use Rattle.fields.specs.Choice.{pick, both}
 use Rattle.measures.specs.Sizes.{permittedSize}
@@ -29,14 +29,16 @@ fine size offset key most length =
     (both (both (leb (offset + key) most) (leb (most + 7) size))
     (both (eqb ((countOf size length + 1) * size) length) (both (leb 1 (countOf size length)) (leb (countOf size length) limit)))))
 
--- the same as a statement, for those who cite it
-pub record Fits (size offset key most length n : ℕ) : Type 0 where
-  pub size-permitted : permittedSize size ≡ true
-  pub key-some : 1 ≤ key
-  pub key-most : key ≤ 255
-  pub key-inside : offset + key ≤ most
-  pub most-inside : most + 7 ≤ size
-  pub bytes : length ≡ (n + 1) * size
+-- The same as a statement of the measures m, the number n of data intervals and the buffer's length, for those who cite it. Beside it stands that the
+-- shortest record reaches past its key: here it ends there.
+pub record Fits (m : Measures) (n length : ℕ) : Type 0 where
+  pub permitted : permittedSize (m .size) ≡ true
+  pub key-some : 1 ≤ m .key
+  pub key-most : m .key ≤ 255
+  pub key-inside : m .offset + m .key ≤ m .least
+  pub least-inside : m .least ≤ m .most
+  pub most-inside : m .most + 7 ≤ m .size
+  pub bytes : length ≡ (n + 1) * m .size
   pub some : 1 ≤ n
   pub few : n ≤ limit
 

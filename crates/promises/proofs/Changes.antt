@@ -6,13 +6,15 @@ use lib.ListN.{length}
 use native.Mathlib.Omega.{arith}
 use borrow.Author.Tests.{lt-ltb, le-ltb}
 use Rattle.fields.specs.Bytes.{Octets}
+use Rattle.fields.specs.Lists.{swap}
 use Rattle.measures.specs.declared.Measures.{Measures}
 use Rattle.index.specs.Meaning.{numbers}
 use Rattle.index.specs.Search.{leadsTo}
+use Rattle.index.specs.Cuts.{separators}
 use Rattle.area.specs.Content.{Filled, Content, recordsOf, entriesOf}
 use Rattle.area.specs.Reading.{whole, readArea}
 use Rattle.change.specs.Stores.{stored}
-use Rattle.change.specs.Parts.{Edit, edited, divided, cutsOf, taken}
+use Rattle.change.specs.Parts.{Edit, edited, divided, taken}
 use Rattle.change.specs.Content.{partedAt, contentAfter}
 use Rattle.change.specs.Fitting.{Fitting}
 use Rattle.change.specs.Places.{namedFor}
@@ -20,20 +22,20 @@ use Rattle.change.proofs.Planning.{planned}
 use Rattle.change.proofs.After.{after-meaning}
 use Rattle.change.proofs.Fitted.{edited-parting, one-to-three}
 use Rattle.change.proofs.Made.{made-whole, made-fewest, made-only-named, made-written, made-index, made-count}
-use Rattle.answers.specs.Answers.{numberOf}
-use Rattle.answers.specs.Model.{Change}
-use Rattle.answers.specs.Reading.{checkOf}
-use Rattle.answers.specs.Changing.{Outcome}
-use Rattle.answers.specs.declared.Answer.{Answer}
-use Rattle.answers.specs.declared.Answer.the-variants.{Intact}
-use Rattle.answers.proofs.Accepted.{bytesOf, editOf}
-use Rattle.answers.proofs.Edits.{ledTo}
+use Rattle.requests.specs.Answers.{numberOf}
+use Rattle.requests.specs.Model.{Change}
+use Rattle.requests.specs.Reading.{checkOf}
+use Rattle.requests.specs.Changing.{Outcome}
+use Rattle.requests.specs.Accepted.{bytesOf, editOf}
+use Rattle.requests.specs.declared.Answer.{Answer}
+use Rattle.requests.specs.declared.Answer.the-variants.{Intact}
+use Rattle.requests.proofs.Edits.{ledTo}
 use Rattle.promises.specs.Trace.{Sound, ChangeAllowed}
 use Rattle.promises.specs.Home.{keyIn}
 use Rattle.promises.specs.Changes.{SpreadsFewest, OnlyNamedWritten, CountsTrue, CutPrescribed}
+use Rattle.promises.specs.Prescribed.{broughtBy}
 use Rattle.promises.proofs.Ways.{home, way-fits, way-placed, way-edits, Carried, carried, edit-entry, separators-cuts}
 use Rattle.promises.proofs.History.{change-octets, change-makes}
-use Rattle.promises.specs.Prescribed.{broughtBy}
 use Rattle.promises.proofs.Prescribed.{made-prescribed}
 use Rattle.promises.proofs.Parts.{new, new-records, new-numbers, new-many, new-parts, new-seps, written-forms, named-among, taken-apart}
 
@@ -76,7 +78,7 @@ module _ (size offset key most : ℕ) (m : Measures) (n : ℕ) (area : List ℕ)
 
     -- An accepted change leaves the records of its key's interval, with the change made and in order, over the fewest intervals that hold them.
     pub spreads-fewest : SpreadsFewest m c d ch
-    unfolding partedAt home
+    unfolding partedAt home swap
     spreads-fewest =
         record {
           home = home size offset key most m n area c s ch (did .fine) bytes;
@@ -88,7 +90,7 @@ module _ (size offset key most : ℕ) (m : Measures) (n : ℕ) (area : List ℕ)
 
     -- An accepted change writes only the interval of its key, those newly taken and, exactly if it divides, the index record; each in the writer's form.
     pub only-named-written : OnlyNamedWritten m area after c d (spreads-fewest .home .old) (spreads-fewest .new)
-    unfolding partedAt home spreads-fewest
+    unfolding partedAt home spreads-fewest swap
     only-named-written =
         let f : Filled = ledTo c (keyIn m ch) in
         let many : length (new m c f ps) ≡ length ps = new-many m c f ps some in
@@ -98,7 +100,7 @@ module _ (size offset key most : ℕ) (m : Measures) (n : ℕ) (area : List ℕ)
           named = new-numbers m c f ps some;
           free = rw is-after (taken-apart (length ps - 1) (c .free) (planned m c e (did .ss) (did .planned) .0 .0));
           written =
-              written-forms m after (cutsOf m ps ++ (f .sep ∷ [])) (f .num ∷ taken (length ps - 1) (c .free)) ps
+              written-forms m after (separators m ps ++ (f .sep ∷ [])) (f .num ∷ taken (length ps - 1) (c .free)) ps
               (rw (left, ← place) (made-written m n area c e fits (did .ss) (did .planned)));
           others =
               λ (k : ℕ) (no : List·Memᴰ k (numbers (entriesOf (new m c f ps))) → ⊥).

@@ -14,14 +14,14 @@ use Rattle.area.specs.Content.{Content, recordsOf}
 use Rattle.area.specs.Reading.{damaged, whole, readArea}
 use Rattle.change.specs.Parts.{Edit}
 use Rattle.change.proofs.Made.{erase-stays-put}
-use Rattle.answers.specs.Answers.{numberOf}
-use Rattle.answers.specs.Records.{withKey}
-use Rattle.answers.specs.Model.{Change, insert, update, erase, Legal}
-use Rattle.answers.specs.Finding.{Keyed}
-use Rattle.answers.specs.declared.Answer.{Answer}
-use Rattle.answers.specs.declared.Answer.the-variants as answer
-use Rattle.answers.specs.Changing.{insertOf, updateOf, eraseOf}
-use Rattle.answers.proofs.Accepted.{changeOf, bytesOf, editOf}
+use Rattle.requests.specs.Answers.{numberOf}
+use Rattle.requests.specs.Records.{withKey}
+use Rattle.requests.specs.Model.{Change, insert, update, erase, Legal}
+use Rattle.requests.specs.Finding.{Keyed}
+use Rattle.requests.specs.Changing.{insertOf, updateOf, eraseOf}
+use Rattle.requests.specs.Accepted.{changeOf, bytesOf, editOf}
+use Rattle.requests.specs.declared.Answer.{Answer}
+use Rattle.requests.specs.declared.Answer.the-variants as answer
 use Rattle.promises.specs.Tables.{Table, done, row, First, OutsideLimits, DamagedSomewhere, Present, Absent, WantOfInterval, WantOfRoom, tableFor, changeTable}
 use Rattle.promises.specs.Trace.{Request, check, get, getAt, changes, ChangeAllowed, Allowed, Sound}
 use Rattle.promises.specs.Home.{keyIn, LengthFine}

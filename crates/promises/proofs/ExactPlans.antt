@@ -7,43 +7,46 @@ use lib.ListN.{length, take, drop}
 use lib.Seq.{length-take-le}
 use native.Mathlib.Omega.{arith}
 use Rattle.fields.specs.Bytes.{Octets}
+use Rattle.fields.specs.Order.{common}
+use Rattle.fields.specs.Lists.{swap}
 use Rattle.measures.specs.Judgement.{measures, countOf}
 use Rattle.measures.specs.declared.Measures.{Measures}
 use Rattle.index.specs.Search.{leadsTo}
 use Rattle.index.specs.Form.{indexSize, entriesSize, entrySize}
+use Rattle.index.specs.Cuts.{separators}
 use Rattle.division.specs.Division.{divisionOf}
-use Rattle.division.specs.declared.Division.the-variants.{Three}
 use Rattle.division.specs.Fewest.{Fewest}
+use Rattle.division.specs.declared.Division.the-variants.{Three}
 use Rattle.division.proofs.Intervals.{fewest-unique}
 use Rattle.area.specs.Content.{Filled, Content, recordsOf, entriesOf, meaningOf}
 use Rattle.area.specs.Reading.{width}
-use Rattle.change.specs.Parts.{Edit, edited, divided, entryAt, cutsOf}
+use Rattle.change.specs.Parts.{Edit, edited, divided, entryAt}
 use Rattle.change.specs.Plan.{indexAfter, planOf}
 use Rattle.change.specs.Fitting.{Fitting}
-use Rattle.change.proofs.Planning.{WantsInterval, WantsRoom, WantsNothing, wants, refuse-interval, refuse-room, make-stores}
+use Rattle.change.specs.Wants.{WantsInterval, WantsRoom, WantsNothing}
+use Rattle.change.specs.Content.{partedAt, contentAfter}
+use Rattle.change.proofs.Planning.{wants, refuse-interval, refuse-room, make-stores}
 use Rattle.change.proofs.Made.{made-fewest}
-use Rattle.answers.specs.Answers.{numberOf}
-use Rattle.answers.specs.Model.{Change, makeChange, Legal}
-use Rattle.answers.specs.Changing.{carryOut}
-use Rattle.answers.proofs.Accepted.{bytesOf, editOf}
+use Rattle.change.proofs.After.{after-meaning}
+use Rattle.change.proofs.Fitted.{one-to-three}
+use Rattle.requests.specs.Answers.{numberOf}
+use Rattle.requests.specs.Model.{Change, makeChange, Legal}
+use Rattle.requests.specs.Changing.{carryOut}
+use Rattle.requests.specs.Accepted.{bytesOf, editOf}
 use Rattle.promises.specs.Tables.{done, row, First, changed, indexNeeds, Crowded, Roomless, WantOfInterval, WantOfRoom}
 use Rattle.promises.specs.Trace.{Sound}
 use Rattle.promises.specs.Home.{keyIn, LengthFine, Home}
 use Rattle.promises.specs.Prescribed.{broughtBy, PrescribedParts}
+use Rattle.promises.specs.Entries.{sepsBy, entriesNeed}
 use Rattle.promises.proofs.Prescribed.{Placed, made-prescribed, prescribed-made}
 use Rattle.promises.proofs.Ways.{way-fits, way-placed, way-edits, home, edit-entry, separators-cuts}
 use Rattle.promises.proofs.Homes.{home-one}
 use Rattle.promises.proofs.Rows.{held}
-use Rattle.fields.specs.Order.{common}
-use Rattle.change.specs.Content.{partedAt, contentAfter}
-use Rattle.change.proofs.After.{after-meaning}
-use Rattle.change.proofs.Fitted.{one-to-three}
-use Rattle.promises.specs.Entries.{sepsBy, entriesNeed}
 use Rattle.promises.proofs.Parts.{new, new-seps}
 
 -- Entries need the bytes of their separators.
 pub entries-need : (before : List ℕ) (fs : List Filled) → entriesSize width before (entriesOf fs) ≡ entriesNeed before (sepsBy fs)
-unfolding entriesSize entrySize entriesOf
+unfolding entriesSize entrySize
 entries-need before [] = refl
 entries-need before (f ∷ fs) = ap (λ (k : ℕ). width + 2 + (length (f .sep) - common before (f .sep)) + k) (entries-need (f .sep) fs)
 
@@ -99,13 +102,13 @@ module _ (size offset key most : ℕ) (area : List ℕ) where
 
     needs-after : indexSize width (meaningOf (contentAfter m c e))
         ≡ 24 + (length (c .free) - (length ps - 1))
-        + entriesNeed [] (sepsBy (take (e .entry) (c .filled)) ++ ((cutsOf m ps ++ (entryAt (c .filled) (e .entry) .sep ∷ [])) ++ sepsBy (drop (e .entry + 1) (c .filled))))
-    unfolding indexSize partedAt
+        + entriesNeed [] (sepsBy (take (e .entry) (c .filled)) ++ ((separators m ps ++ (entryAt (c .filled) (e .entry) .sep ∷ [])) ++ sepsBy (drop (e .entry + 1) (c .filled))))
+    unfolding indexSize partedAt swap
     needs-after =
         let f : Filled = entryAt (c .filled) (e .entry) in
         let pre : List Filled = take (e .entry) (c .filled) in
         let post : List Filled = drop (e .entry + 1) (c .filled) in
-        let b : sepsBy (pre ++ (new m c f ps ++ post)) ≡ sepsBy pre ++ ((cutsOf m ps ++ (f .sep ∷ [])) ++ sepsBy post) =
+        let b : sepsBy (pre ++ (new m c f ps ++ post)) ≡ sepsBy pre ++ ((separators m ps ++ (f .sep ∷ [])) ++ sepsBy post) =
         seps-append pre (new m c f ps ++ post)
         ∙ ap (λ (x : List (List ℕ)). sepsBy pre ++ x)
         (seps-append (new m c f ps) post ∙ ap (λ (x : List (List ℕ)). x ++ sepsBy post) (new-seps m c f ps (one-to-three m (c .filled) e .0))) in
@@ -137,8 +140,17 @@ module _ (size offset key most : ℕ) (area : List ℕ) where
             omega (arith, y .1 (length ps) (parts-fewest (y .0)))
 
         seven : WantsRoom m c e → WantOfRoom size offset key most area ch
-        seven w =
-            (c, s .reads, (here, λ (k : ℕ) (g : Fewest size (changed m c ch here) k). let q : 1 < length ps = w .1 in omega (arith, parts-only here k g), ps, parts-prescribed here, rw (needs-is here) (w .2)))
+        seven w = (
+          c,
+          s .reads,
+          (
+            here,
+            λ (k : ℕ) (g : Fewest size (changed m c ch here) k). let q : 1 < length ps = w .1 in omega (arith, parts-only here k g),
+            ps,
+            parts-prescribed here,
+            rw (needs-is here) (w .2),
+          ),
+        )
 
         not-seven : (1 < length ps → indexSize width (indexAfter m c e) ≤ size - 7) → WantOfRoom size offset key most area ch → ⊥
         not-seven w x =

@@ -14,15 +14,15 @@ use Rattle.measures.specs.declared.Judged.the-variants.{Fine}
 use Rattle.measures.specs.declared.Judged.the-variants as judged
 use Rattle.area.specs.Content.{Content, recordsOf, baseOf}
 use Rattle.area.specs.Reading.{damaged, whole, readArea}
-use Rattle.answers.specs.Answers.{numberOf}
-use Rattle.answers.specs.Records.{lyingAt}
-use Rattle.answers.specs.Reading.{Given, checkOf, getOf, getAtOf, Gives}
-use Rattle.answers.specs.Finding.{Keyed, Lies, Finds}
-use Rattle.answers.specs.declared.Answer.{Answer}
-use Rattle.answers.specs.declared.Answer.the-variants.{Found, Short}
-use Rattle.answers.specs.declared.Answer.the-variants as answer
-use Rattle.answers.proofs.Gets.{judged-least, get-finds, get-wrong-length, get-at-finds}
-use Rattle.answers.proofs.Lying.{lying-lies, lies-lying, whole-apart}
+use Rattle.requests.specs.Answers.{numberOf}
+use Rattle.requests.specs.Records.{lyingAt}
+use Rattle.requests.specs.Reading.{Given, checkOf, getOf, getAtOf, Gives}
+use Rattle.requests.specs.Finding.{Keyed, Lies, Finds}
+use Rattle.requests.specs.declared.Answer.{Answer}
+use Rattle.requests.specs.declared.Answer.the-variants.{Found, Short}
+use Rattle.requests.specs.declared.Answer.the-variants as answer
+use Rattle.requests.proofs.Gets.{judged-least, get-finds, get-wrong-length, get-at-finds}
+use Rattle.requests.proofs.Lying.{lying-lies, lies-lying, whole-apart}
 use Rattle.promises.specs.Tables.{done, row, First, Holding, Absent, Nowhere, KeyedTooLong, LyingTooLong, checkTable, getTable, getAtTable}
 use Rattle.promises.proofs.Rows.{first-two, held, keyed-either}
 
@@ -53,7 +53,11 @@ module _ (size offset key most : ℕ) (area : List ℕ) where
       (row 8 (Holding size offset key most area (λ (d : Content). (r : List ℕ) × Wanted d r × (length out < length r))) done)) (numberOf (g .answer))
   last-two Wanted c w none out g f (inr x) = inl ((c, w, x), answered g none out (f .absent x))
   last-two Wanted c w none out g f (inl x) =
-      inr (λ (h : Holding size offset key most area (λ (d : Content). (r : List ℕ) → Wanted d r → ⊥)). held size offset key most area (λ (d : Content). (r : List ℕ) → Wanted d r → ⊥) c w h (x .0) (x .1), go (leb (length (x .0)) (length out)) refl)
+      inr (
+        λ (h : Holding size offset key most area (λ (d : Content). (r : List ℕ) → Wanted d r → ⊥)). held size offset key most area
+            (λ (d : Content). (r : List ℕ) → Wanted d r → ⊥) c w h (x .0) (x .1),
+        go (leb (length (x .0)) (length out)) refl,
+      )
     where
       go : (t : Bool) → leb (length (x .0)) (length out) ≡ t
           → First (row 8 (Holding size offset key most area (λ (d : Content). (r : List ℕ) × Wanted d r × (length out < length r))) done) (numberOf (g .answer))
@@ -89,7 +93,9 @@ module _ (size offset key most : ℕ) (area : List ℕ) where
   unfolding getOf
   get-exact wanted lent a out k =
       let e : numberOf a ≡ numberOf (getOf size offset key most area wanted lent .answer) = ap numberOf (k .answers) in
-      first-two size offset key most area (row 3 (length wanted ≡ key → ⊥) (row 5 (Absent size offset key most area wanted) (row 8 (KeyedTooLong size offset key most area wanted lent) done))) (numberOf a) (λ (o : judgedOf size offset key most (length area) ≡ judged.Outside). e ∙ rw o)
+      first-two size offset key most area
+      (row 3 (length wanted ≡ key → ⊥) (row 5 (Absent size offset key most area wanted) (row 8 (KeyedTooLong size offset key most area wanted lent) done))) (numberOf a)
+      (λ (o : judgedOf size offset key most (length area) ≡ judged.Outside). e ∙ rw o)
       (λ (j : judgedOf size offset key most (length area) ≡ Fine m n) (p : ℕ) (d : readArea m n area ≡ damaged p). e ∙ rw (j, d))
       (λ (j : judgedOf size offset key most (length area) ≡ Fine m n) (c : Content) (w : readArea m n area ≡ whole c). by-length e j c w (eqb (length wanted) key) refl)
     where
@@ -114,7 +120,8 @@ module _ (size offset key most : ℕ) (area : List ℕ) where
   unfolding getAtOf
   get-at-exact address lent a out k =
       let e : numberOf a ≡ numberOf (getAtOf size offset key most area address lent .answer) = ap numberOf (k .answers) in
-      first-two size offset key most area (row 9 (Nowhere size offset key most area address) (row 8 (LyingTooLong size offset key most area address lent) done)) (numberOf a) (λ (o : judgedOf size offset key most (length area) ≡ judged.Outside). e ∙ rw o)
+      first-two size offset key most area (row 9 (Nowhere size offset key most area address) (row 8 (LyingTooLong size offset key most area address lent) done))
+      (numberOf a) (λ (o : judgedOf size offset key most (length area) ≡ judged.Outside). e ∙ rw o)
       (λ (j : judgedOf size offset key most (length area) ≡ Fine m n) (p : ℕ) (d : readArea m n area ≡ damaged p). e ∙ rw (j, d))
       (λ (j : judgedOf size offset key most (length area) ≡ Fine m n) (c : Content) (w : readArea m n area ≡ whole c).
       rw e

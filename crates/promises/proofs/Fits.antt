@@ -1,9 +1,8 @@
 -- An accepted change fits its area: what the laws of changes ask of an area and an edit.
-use Prim.Native.Nat.{ℕ, _+_, _≤_}
+use Prim.Native.Nat.{ℕ}
 use mathlib.Core.Path.{_≡_}
 use mathlib.Core.List.{List}
 use lib.ListN.{length}
-use native.Mathlib.Omega.{arith}
 use Rattle.fields.specs.Bytes.{Octets}
 use Rattle.measures.specs.Judgement.{judgedOf}
 use Rattle.measures.specs.declared.Measures.{Measures}
@@ -12,47 +11,21 @@ use Rattle.measures.proofs.Fine.{accepted-fits}
 use Rattle.area.specs.Content.{Content}
 use Rattle.area.specs.Reading.{whole, readArea}
 use Rattle.area.specs.Layout.{Lent}
-use Rattle.area.proofs.Parts.{fits-lent}
-use Rattle.area.proofs.Filling.{entries-take}
-use Rattle.change.specs.Fitting.{Fitting}
-use Rattle.answers.specs.Model.{Change, insert, update, erase}
-use Rattle.answers.specs.Changing.{Outcome}
-use Rattle.answers.proofs.Edits.{Proper}
-use Rattle.answers.proofs.Accepted.{editOf, Accepted}
+use Rattle.change.specs.Fitting.{Fitting, Proper}
+use Rattle.requests.specs.Model.{Change}
+use Rattle.requests.specs.Changing.{Outcome}
+use Rattle.requests.specs.Accepted.{editOf, Accepted}
 
 -- Bytes whose length is not refused are lent as the laws ask.
 pub judged-lent : (size offset key most n : ℕ) (m : Measures) (area : List ℕ) → judgedOf size offset key most (length area) ≡ Fine m n → Octets area → Lent m n area
 judged-lent size offset key most n m area j o =
     let a = accepted-fits size offset key most (length area) n m j in
-    rw (a .0) (fits-lent size offset key most n area (a .1) o)
-
--- The longest record fits an interval alone.
-pub judged-most : (size offset key most n : ℕ) (m : Measures) (area : List ℕ) → judgedOf size offset key most (length area) ≡ Fine m n → m .most + 7 ≤ m .size
-judged-most size offset key most n m area j = let a = accepted-fits size offset key most (length area) n m j in rw (a .0) (a .1 .most-inside)
-
--- One record comes in at most.
-fresh-one : (m : Measures) (c : Content) (ch : Change) → length (editOf m c ch .fresh) ≤ 1
-fresh-one m c (insert r) = omega arith
-fresh-one m c (update r) = omega arith
-fresh-one m c (erase wanted) = omega arith
+    record { octets = o; fits = rw (a .0) (a .1) }
 
 -- An edit of a change that its interval can bear fits the area.
 pub proper-fits : (size offset key most n : ℕ) (m : Measures) (area : List ℕ) (c : Content) → Octets area → judgedOf size offset key most (length area) ≡ Fine m n
     → readArea m n area ≡ whole c → (ch : Change) → Proper m (c .filled) (editOf m c ch) → Fitting m n area c (editOf m c ch)
-proper-fits size offset key most n m area c b j w ch p =
-    record {
-      lent = judged-lent size offset key most n m area j b;
-      most = judged-most size offset key most n m area j;
-      reads = w;
-      entry = p .inside;
-      inside = p .ordinal;
-      one = fresh-one m c ch;
-      octets = p .octets;
-      lengths = p .lengths;
-      ascend = p .ascend;
-      after = rw (entries-take (editOf m c ch .entry) (c .filled)) (p .after);
-      within = p .within;
-    }
+proper-fits size offset key most n m area c b j w ch p = record { lent = judged-lent size offset key most n m area j b; reads = w; proper = p }
 
 -- So an accepted change of an area of bytes fits.
 pub accepted-fits-area : (size offset key most : ℕ) (area : List ℕ) (ch : Change) (o : Outcome) → Octets area → (a : Accepted size offset key most area ch o)

@@ -3,9 +3,9 @@ use Prim.Native.Nat.{ℕ, zero, suc, _+_, _≤_, _<_}
 use mathlib.Core.Path.{_≡_, refl, _∙_, sym, ap}
 use mathlib.Core.List.{List, [], _∷_, _++_}
 use lib.ListN.{length}
-use Rattle.fields.proofs.Choices.{both-split}
 use native.Mathlib.Omega.{arith}
 use Rattle.fields.specs.Bytes.{Octets}
+use Rattle.fields.proofs.Choices.{both-split}
 use Rattle.measures.specs.declared.Measures.{Measures}
 use Rattle.measures.specs.declared.Judged.the-variants.{Fine}
 use Rattle.index.specs.Meaning.{named, count, below, once, namedOnce}
@@ -15,16 +15,17 @@ use Rattle.area.specs.Reading.{whole, readArea}
 use Rattle.area.proofs.Ascending.{records-ascend, numbers-once}
 use Rattle.change.specs.Content.{contentAfter}
 use Rattle.change.proofs.Made.{made-whole, made-records, made-lent}
-use Rattle.answers.specs.Answers.{numberOf}
-use Rattle.answers.specs.Model.{Change, insert, update, erase, makeChange, makeAll, Legal, total, gainedAll, lostAll}
-use Rattle.answers.specs.Reading.{Given, getOf, getAtOf, Gives}
-use Rattle.answers.specs.Finding.{Keyed, Lies, Finds}
-use Rattle.answers.specs.Changing.{Outcome, Makes}
-use Rattle.answers.specs.declared.Answer.{Answer}
-use Rattle.answers.specs.declared.Answer.the-variants.{Absent, NoRecord}
-use Rattle.answers.proofs.Making.{total-all}
-use Rattle.answers.proofs.Gets.{get-finds as area-get-finds, get-at-finds as area-get-at-finds}
-use Rattle.answers.proofs.Accepted.{changeOf, bytesOf, editOf, Accepted, accepted}
+use Rattle.requests.specs.Answers.{numberOf}
+use Rattle.requests.specs.Model.{Change, insert, update, erase, makeChange, makeAll, Legal, total, gainedAll, lostAll}
+use Rattle.requests.specs.Reading.{Given, getOf, getAtOf, Gives}
+use Rattle.requests.specs.Finding.{Keyed, Lies, Finds}
+use Rattle.requests.specs.Changing.{Outcome, Makes}
+use Rattle.requests.specs.Accepted.{changeOf, bytesOf, editOf, Accepted}
+use Rattle.requests.specs.declared.Answer.{Answer}
+use Rattle.requests.specs.declared.Answer.the-variants.{Absent, NoRecord}
+use Rattle.requests.proofs.Making.{total-all}
+use Rattle.requests.proofs.Gets.{get-finds as area-get-finds, get-at-finds as area-get-at-finds}
+use Rattle.requests.proofs.Accepted.{accepted}
 use Rattle.promises.specs.Harmless.{Refusal}
 use Rattle.promises.specs.Trace.{Request, check, get, getAt, changes, Step, ChangeAllowed, Allowed, Trace, areaAfter, taking, acceptedIn, Sound, Stands}
 use Rattle.promises.proofs.Refused.{refused-harmless}
@@ -71,7 +72,7 @@ module _ (size offset key most : ℕ) where
         let v : whole c ≡ whole (a .c) = sym w ∙ a .reads in
         let ec : c ≡ a .c = cc in
         let lent = made-lent (a .m) (a .n) before (a .c) (editOf (a .m) (a .c) ch) f (a .ss) (a .planned) in
-        let l : length (o .area) ≡ length before = ap length (a .leaves) ∙ lent .long ∙ sym (f .lent .long) in
+        let l : length (o .area) ≡ length before = ap length (a .leaves) ∙ lent .fits .bytes ∙ sym (f .lent .fits .bytes) in
         record {
           content = contentAfter (a .m) (a .c) (editOf (a .m) (a .c) ch);
           sound =

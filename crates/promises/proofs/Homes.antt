@@ -17,13 +17,13 @@ use Rattle.promises.specs.Home.{Home}
 -- the first of rising entries, apart
 module _ (K : ℕ) (low : List ℕ) (x : Filled) (fs : List Filled) (r : rises K low (entriesOf (x ∷ fs)) ≡ true) where
   rise-first : less low (bound K (x .sep)) ≡ true
-  unfolding rises entriesOf
+  unfolding rises
   rise-first =
       let a = both-split (separator K (x .sep)) _ r in
       both-split (less low (bound K (x .sep))) (rises K (bound K (x .sep)) (entriesOf fs)) (a .1) .0
 
   rise-rest : rises K (bound K (x .sep)) (entriesOf fs) ≡ true
-  unfolding rises entriesOf
+  unfolding rises
   rise-rest =
       let a = both-split (separator K (x .sep)) _ r in
       both-split (less low (bound K (x .sep))) (rises K (bound K (x .sep)) (entriesOf fs)) (a .1) .1
@@ -31,7 +31,7 @@ module _ (K : ℕ) (low : List ℕ) (x : Filled) (fs : List Filled) (r : rises K
 -- a key above the bound before an entry is above every bound before that
 reaches : (K : ℕ) (key low : List ℕ) (pre post : List Filled) → rises K low (entriesOf (pre ++ post)) ≡ true → less (boundBefore K low (entriesOf pre)) key ≡ true
     → less low key ≡ true
-unfolding boundBefore entriesOf
+unfolding boundBefore
 reaches K key low [] post r h = h
 reaches K key low (x ∷ pre) post r h =
     less-trans low (bound K (x .sep)) key (rise-first K low x (pre ++ post) r) (reaches K key (bound K (x .sep)) pre post (rise-rest K low x (pre ++ post) r) h)
@@ -39,7 +39,7 @@ reaches K key low (x ∷ pre) post r h =
 one-split : (K : ℕ) (key low : List ℕ) (pre qre : List Filled) (f g : Filled) (post qost : List Filled) → pre ++ (f ∷ post) ≡ qre ++ (g ∷ qost)
     → rises K low (entriesOf (pre ++ (f ∷ post))) ≡ true → less (boundBefore K low (entriesOf pre)) key ≡ true → less (bound K (f .sep)) key ≡ false
     → less (boundBefore K low (entriesOf qre)) key ≡ true → less (bound K (g .sep)) key ≡ false → (pre ≡ qre) × (f ≡ g) × (post ≡ qost)
-unfolding boundBefore entriesOf
+unfolding boundBefore
 one-split K key low [] [] f g post qost e r a w b v = (refl, cc, cc)
 one-split K key low [] (y ∷ qre) f g post qost e r a w b v =
     let q : f ≡ y = cc in

@@ -9,6 +9,7 @@ use lib.ListN.{length}
 use native.Mathlib.Omega.{arith}
 use Rattle.fields.specs.Bytes.{Octets}
 use Rattle.measures.specs.declared.Measures.{Measures}
+use Rattle.measures.proofs.Fine.{fits-small}
 use Rattle.room.specs.Room.{need}
 use Rattle.interval.specs.Records.{lengthsFine}
 use Rattle.interval.specs.Layout.{LaidOut, form}
@@ -28,6 +29,7 @@ use Rattle.area.specs.Content.{Content, indexIn}
 use Rattle.area.specs.Reading.{readArea, whole, damaged}
 use Rattle.area.specs.Layout.{Lent, IndexInterval, AreaLaidOut}
 use Rattle.area.specs.Roles.{DamagedAt}
+use Rattle.area.specs.Example.{depot, bytes, held}
 use Rattle.area.proofs.Laying as laying
 use Rattle.area.proofs.Placing as placing
 use Rattle.area.proofs.Example as example
@@ -68,7 +70,7 @@ index-only-laid-out K n ib o g s = only.index-only-laid-out 1 K n [] [] ib o g s
 module _ (m : Measures) (n : ℕ) (area : List ℕ) (lent : Lent m n area) where
   -- An area that keeps the rules is never called damaged, and is read as exactly what was laid out.
   pub area-never-damaged : (c : Content) → AreaLaidOut m n area c → readArea m n area ≡ whole c
-  area-never-damaged c l = laying.area-never-damaged m area (omega (arith, lent .key-some, lent .key-inside)) (lent .small) n (lent .few) c l
+  area-never-damaged c l = laying.area-never-damaged m area (omega (arith, lent .fits .key-some, lent .fits .key-inside)) (fits-small (lent .fits)) n (lent .fits .few) c l
 
   -- An area that is taken for sound keeps the rules, with the content that is read.
   pub area-only-laid-out : (c : Content) → readArea m n area ≡ whole c → AreaLaidOut m n area c
@@ -80,5 +82,5 @@ module _ (m : Measures) (n : ℕ) (area : List ℕ) (lent : Lent m n area) where
   damage-placed = placing.damage-placed m n area lent
 
 -- None of this speaks of nothing: here is a sound area with records, byte by byte.
-pub some-sound : readArea example.depot 2 example.bytes ≡ whole example.held
+pub some-sound : readArea depot 2 bytes ≡ whole held
 some-sound = example.some-sound

@@ -5,18 +5,19 @@ use mathlib.Core.Bool.{Bool, true, false}
 use mathlib.Core.List.{List, [], _∷_, _++_, List·Memᴰ, List·Memᴰ·head, List·Memᴰ·eq-of-singleton, append-assoc, append-nil}
 use lib.ListN.{length, length-append, getD, take}
 use lib.Seq.{take-length, take-take, length-take-le}
-use native.Mathlib.Nat.{sub-zero}
 use lib.Dec.{ltb}
+use native.Mathlib.Nat.{sub-zero}
 use native.Mathlib.Omega.{arith}
 use Rattle.fields.specs.Choice.{pick}
+use Rattle.fields.specs.Lists.{concat, swap}
 use Rattle.measures.specs.declared.Measures.{Measures}
 use Rattle.index.specs.Meaning.{numbers}
+use Rattle.index.specs.Cuts.{separators}
 use Rattle.index.proofs.Naming.{length-numbers}
-use Rattle.index.proofs.Dividing.{rightmost}
-use Rattle.division.specs.Fewest.{joined}
+use Rattle.index.proofs.DividedRules.{rightmost}
 use Rattle.area.specs.Content.{Filled, Content, recordsOf, entriesOf}
-use Rattle.area.proofs.Filling.{length-entries}
-use Rattle.change.specs.Parts.{entryAt, cutsOf, taken}
+use Rattle.area.proofs.Filled.{length-entries}
+use Rattle.change.specs.Parts.{entryAt, taken}
 use Rattle.change.specs.Content.{filledWith, partsFilled, partedAt}
 use Rattle.change.specs.Places.{AllWritten, nexts, namedFor}
 use Rattle.change.proofs.Indexing.{less-one, length-taken, length-cuts, entries-parts, numbers-parts}
@@ -32,12 +33,12 @@ module _ (m : Measures) (c : Content) (f : Filled) where
   new ps = partsFilled m (c .free) f ps
 
   -- They hold the parts' records,
-  pub new-records : (ps : List (List (List ℕ))) → 1 ≤ length ps → recordsOf (new ps) ≡ joined ps
-  unfolding partedAt recordsOf
+  pub new-records : (ps : List (List (List ℕ))) → 1 ≤ length ps → recordsOf (new ps) ≡ concat ps
+  unfolding partedAt recordsOf swap
   new-records ps h =
       let d : Content = record { kept = c .kept; spare = c .spare; free = c .free; filled = f ∷ [] } in
-      let e : recordsOf (new ps ++ []) ≡ joined ps ++ [] = records-parted m d 0 ps h in
-      ap recordsOf (sym (append-nil (new ps))) ∙ e ∙ append-nil (joined ps)
+      let e : recordsOf (new ps ++ []) ≡ concat ps ++ [] = records-parted m d 0 ps h in
+      ap recordsOf (sym (append-nil (new ps))) ∙ e ∙ append-nil (concat ps)
 
   -- have the old number and those taken,
   pub new-numbers : (ps : List (List (List ℕ))) → 1 ≤ length ps → numbers (entriesOf (new ps)) ≡ f .num ∷ taken (length ps - 1) (c .free)
@@ -96,20 +97,20 @@ filled-seps (s ∷ seps) (n ∷ nums) [] h k = absurd (omega arith)
 filled-seps (s ∷ seps) (n ∷ nums) (p ∷ ps) h k = ap (λ (x : List (List ℕ)). s ∷ x) (filled-seps seps nums ps (omega arith) (omega arith))
 
 module _ (m : Measures) (c : Content) (f : Filled) where
-  seps-many : (ps : List (List (List ℕ))) → 1 ≤ length ps → length (cutsOf m ps ++ (f .sep ∷ [])) ≡ length ps
+  seps-many : (ps : List (List (List ℕ))) → 1 ≤ length ps → length (separators m ps ++ (f .sep ∷ [])) ≡ length ps
   seps-many [] h = absurd (omega arith)
-  seps-many (p ∷ ps) h = omega (arith, length-append (cutsOf m (p ∷ ps)) (f .sep ∷ []), length-cuts m p ps)
+  seps-many (p ∷ ps) h = omega (arith, length-append (separators m (p ∷ ps)) (f .sep ∷ []), length-cuts m p ps)
 
   nums-many : (ps : List (List (List ℕ))) → 1 ≤ length ps → length (f .num ∷ taken (length ps - 1) (c .free)) ≡ length ps
   nums-many ps h = omega (arith, length-taken (length ps - 1) (c .free))
 
   -- Each has its part's records,
   pub new-parts : (ps : List (List (List ℕ))) → 1 ≤ length ps → recordsBy (new m c f ps) ≡ ps
-  new-parts ps h = filled-records (cutsOf m ps ++ (f .sep ∷ [])) (f .num ∷ taken (length ps - 1) (c .free)) ps (seps-many ps h) (nums-many ps h)
+  new-parts ps h = filled-records (separators m ps ++ (f .sep ∷ [])) (f .num ∷ taken (length ps - 1) (c .free)) ps (seps-many ps h) (nums-many ps h)
 
   -- and the separator of the cut after it, the last the old one.
-  pub new-seps : (ps : List (List (List ℕ))) → 1 ≤ length ps → sepsBy (new m c f ps) ≡ cutsOf m ps ++ (f .sep ∷ [])
-  new-seps ps h = filled-seps (cutsOf m ps ++ (f .sep ∷ [])) (f .num ∷ taken (length ps - 1) (c .free)) ps (seps-many ps h) (nums-many ps h)
+  pub new-seps : (ps : List (List (List ℕ))) → 1 ≤ length ps → sepsBy (new m c f ps) ≡ separators m ps ++ (f .sep ∷ [])
+  new-seps ps h = filled-seps (separators m ps ++ (f .sep ∷ [])) (f .num ∷ taken (length ps - 1) (c .free)) ps (seps-many ps h) (nums-many ps h)
 
 -- ---- the numbers that are taken
 

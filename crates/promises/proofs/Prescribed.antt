@@ -6,20 +6,20 @@ use mathlib.Core.List.{List, [], _∷_, _++_, map}
 use lib.ListN.{length, length-append, length-drop, length-map, take, drop}
 use lib.Seq.{length-take-le, take-all, take-length, take-append-seam, drop-append-seam}
 use native.Mathlib.Omega.{arith}
+use Rattle.fields.specs.Lists.{swap}
 use Rattle.fields.proofs.Orders.{less-irrefl}
 use Rattle.measures.specs.declared.Measures.{Measures}
 use Rattle.interval.specs.Records.{keyOf, keysOf, ascending}
+use Rattle.interval.proofs.Ascending.{ascend-tail, ascend-above}
 use Rattle.division.specs.Division.{divisionOf, counts, parts, pieces}
 use Rattle.division.specs.declared.Division.{Division}
 use Rattle.division.specs.declared.Division.the-variants.{Stays, Two, Three}
-use Rattle.division.specs.Changed.{swap}
 use Rattle.division.proofs.Answers.{prescribed, prescribed-unique}
 use Rattle.area.specs.Content.{Filled}
 use Rattle.change.specs.Parts.{Edit, entryAt, edited}
-use Rattle.interval.proofs.Ascending.{ascend-tail, ascend-above}
-use Rattle.answers.specs.Records.{withKey}
-use Rattle.answers.proofs.Keys.{with-append, with-above, with-cons}
-use Rattle.answers.proofs.Edits.{Proper}
+use Rattle.change.specs.Fitting.{Proper}
+use Rattle.requests.specs.Records.{withKey}
+use Rattle.requests.proofs.Keys.{with-append, with-above, with-cons}
 use Rattle.promises.specs.Prescribed.{PartsOf, PrescribedParts}
 
 -- ---- a record stands at one place
@@ -62,7 +62,7 @@ fresh-placed m fs e r q p =
       before = take (e .ordinal) old;
       after = drop (e .ordinal + e .gone) old;
       split = rw q;
-      place = length-take-le (e .ordinal) old (omega (arith, p .ordinal));
+      place = length-take-le (e .ordinal) old (omega (arith, p .inside));
       ascends = p .ascend;
     }
 

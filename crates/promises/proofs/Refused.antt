@@ -15,13 +15,13 @@ use Rattle.interval.specs.Records.{keyOf, within}
 use Rattle.area.specs.Content.{Content, recordsOf, baseOf}
 use Rattle.area.specs.Reading.{Reading, damaged, whole, readArea}
 use Rattle.change.specs.Plan.{planOf}
-use Rattle.answers.specs.Answers.{numberOf}
-use Rattle.answers.specs.Records.{withKey, lyingAt}
-use Rattle.answers.specs.Reading.{Given, refused, handOut, getRead, getJudged, getOf, getAtRead, getAtJudged, getAtOf, Gives}
-use Rattle.answers.specs.Changing.{Outcome, kept, editFor, insertNew, insertRead, insertJudged, insertOf, updateOld, updateRead, updateJudged, updateOf, eraseOld, eraseRead, eraseJudged, eraseOf, Makes}
-use Rattle.answers.specs.declared.Answer.{Answer}
-use Rattle.answers.specs.declared.Answer.the-variants.{Found, Damaged, Short, Outside, WrongLength, Present, Absent, NoRecord}
-use Rattle.answers.proofs.Order.{refused-spares as carry-spares}
+use Rattle.requests.specs.Answers.{numberOf}
+use Rattle.requests.specs.Records.{withKey, lyingAt}
+use Rattle.requests.specs.Reading.{Given, refused, handOut, getRead, getJudged, getOf, getAtRead, getAtJudged, getAtOf, Gives}
+use Rattle.requests.specs.Changing.{Outcome, kept, editFor, insertNew, insertRead, insertJudged, insertOf, updateOld, updateRead, updateJudged, updateOf, eraseOld, eraseRead, eraseJudged, eraseOf, Makes}
+use Rattle.requests.specs.declared.Answer.{Answer}
+use Rattle.requests.specs.declared.Answer.the-variants.{Found, Damaged, Short, Outside, WrongLength, Present, Absent, NoRecord}
+use Rattle.requests.proofs.Order.{refused-spares as carry-spares}
 use Rattle.promises.specs.Harmless.{Refusal, RefusedHarmless}
 
 -- an outcome that is no refusal, or that leaves the area; and so for what a get gives

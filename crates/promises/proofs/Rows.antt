@@ -14,9 +14,9 @@ use Rattle.measures.specs.declared.Judged.the-variants as judged
 use Rattle.measures.proofs.Fine.{accepted, accepted-fits}
 use Rattle.area.specs.Content.{Content}
 use Rattle.area.specs.Reading.{Reading, damaged, whole, readArea}
-use Rattle.answers.specs.Records.{withKey}
-use Rattle.answers.specs.Finding.{Keyed}
-use Rattle.answers.proofs.Gets.{keyed-among, with-keyed}
+use Rattle.requests.specs.Records.{withKey}
+use Rattle.requests.specs.Finding.{Keyed}
+use Rattle.requests.proofs.Gets.{keyed-among, with-keyed}
 use Rattle.promises.specs.Tables.{Table, row, First, OutsideLimits, DamagedSomewhere, Holding}
 
 outside-fine : (m : Measures) (n : ℕ) → judged.Outside ≡ Fine m n → ⊥
@@ -55,7 +55,7 @@ module _ (size offset key most : ℕ) (area : List ℕ) where
       by-judgement : (judgedOf size offset key most (length area) ≡ judged.Outside) ⊎ (judgedOf size offset key most (length area) ≡ Fine m n)
           → First (row 1 (OutsideLimits size offset key most area) (row 2 (DamagedSomewhere size offset key most area) later)) k
       by-judgement (inl o) =
-          inl (λ (k : ℕ) (f : Fits size offset key most (length area) k). outside-fine m k (sym o ∙ accepted size offset key most (length area) k f), one o)
+          inl (λ (k : ℕ) (f : Fits (measures size offset key most) k (length area)). outside-fine m k (sym o ∙ accepted size offset key most (length area) k f), one o)
       by-judgement (inr j) =
           inr (λ (o : OutsideLimits size offset key most area). o n (accepted-fits size offset key most (length area) n m j .1), by-reading j (readArea m n area) refl)
 

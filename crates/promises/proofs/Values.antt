@@ -15,15 +15,16 @@ use Rattle.measures.specs.declared.Judged.the-variants.{Fine}
 use Rattle.measures.specs.declared.Judged.the-variants as judged
 use Rattle.area.specs.Content.{Content}
 use Rattle.area.specs.Reading.{Reading, damaged, whole, readArea}
-use Rattle.answers.specs.Answers.{numberOf, valuesOf}
-use Rattle.answers.specs.Model.{insert, update, erase}
-use Rattle.answers.specs.Reading.{Given, checkRead, checkJudged, checkOf, getRead, getJudged, getOf, getAtRead, getAtJudged, getAtOf}
-use Rattle.answers.specs.Finding.{Finds}
-use Rattle.answers.specs.Changing.{insertRead, insertJudged, insertOf, updateRead, updateJudged, updateOf, eraseRead, eraseJudged, eraseOf}
-use Rattle.answers.specs.declared.Answer.{Answer}
-use Rattle.answers.specs.declared.Answer.the-variants as answer
-use Rattle.answers.proofs.Gets.{get-finds, get-wrong-length, get-at-finds}
-use Rattle.answers.proofs.Accepted.{changeOf}
+use Rattle.area.specs.Checked.{checkedOf}
+use Rattle.requests.specs.Answers.{numberOf, valuesOf}
+use Rattle.requests.specs.Model.{insert, update, erase}
+use Rattle.requests.specs.Reading.{Given, checkTold, checkJudged, checkOf, getRead, getJudged, getOf, getAtRead, getAtJudged, getAtOf}
+use Rattle.requests.specs.Finding.{Finds}
+use Rattle.requests.specs.Changing.{insertRead, insertJudged, insertOf, updateRead, updateJudged, updateOf, eraseRead, eraseJudged, eraseOf}
+use Rattle.requests.specs.Accepted.{changeOf}
+use Rattle.requests.specs.declared.Answer.{Answer}
+use Rattle.requests.specs.declared.Answer.the-variants as answer
+use Rattle.requests.proofs.Gets.{get-finds, get-wrong-length, get-at-finds}
 use Rattle.promises.specs.Trace.{Request, check, get, getAt, changes, Allowed}
 use Rattle.promises.specs.Values.{Asked, ValuesExact}
 use Rattle.promises.proofs.History.{change-makes}
@@ -87,7 +88,7 @@ module _ (size offset key most : ℕ) (area : List ℕ) where
 
   own-damaged : (q : Request) → FineHere → (p : ℕ) → readArea m n area ≡ damaged p → own q ≡ answer.Damaged p
   unfolding checkOf getOf getAtOf insertOf updateOf eraseOf
-  own-damaged check j p d = ap (λ (x : Judged). checkJudged x area) j ∙ ap checkRead d
+  own-damaged check j p d = ap (λ (x : Judged). checkJudged x area) j ∙ ap (λ (x : Reading). checkTold (checkedOf x)) d
   own-damaged (get wanted lent) j p d = ap (λ (x : Judged). getJudged x area wanted lent .answer) j ∙ ap (λ (x : Reading). getRead m wanted lent x .answer) d
   own-damaged (getAt address lent) j p d = ap (λ (x : Judged). getAtJudged x area address lent .answer) j ∙ ap (λ (x : Reading). getAtRead m address lent x .answer) d
   own-damaged (changes (insert r)) j p d = ap (λ (x : Judged). insertJudged x area r .answer) j ∙ ap (λ (x : Reading). insertRead m area r x .answer) d

@@ -11,9 +11,9 @@ use Rattle.index.specs.Layout.{LaidOut}
 use Rattle.index.proofs.Shortest.{laid-fits}
 use Rattle.area.specs.Content.{Content, recordsOf, entriesOf, meaningOf}
 use Rattle.area.specs.Reading.{width}
-use Rattle.answers.specs.Answers.{numberOf}
-use Rattle.answers.specs.Model.{Change, Legal}
-use Rattle.answers.specs.declared.Answer.{Answer}
+use Rattle.requests.specs.Answers.{numberOf}
+use Rattle.requests.specs.Model.{Change, Legal}
+use Rattle.requests.specs.declared.Answer.{Answer}
 use Rattle.promises.specs.Trace.{ChangeAllowed, Sound}
 use Rattle.promises.specs.Entries.{sepsBy, entriesNeed}
 use Rattle.promises.specs.Home.{LengthFine}

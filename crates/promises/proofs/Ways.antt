@@ -10,32 +10,34 @@ use native.Mathlib.Omega.{arith}
 use native.Mathlib.Nat.{add-zero}
 use borrow.Author.Tests.{eqb-true, eqb-false, eq-eqb, ne-eqb}
 use Rattle.fields.specs.Bytes.{Octets}
+use Rattle.fields.specs.Lists.{swap}
 use Rattle.fields.proofs.Choices.{false-true, off}
 use Rattle.measures.specs.declared.Measures.{Measures}
 use Rattle.interval.specs.Records.{keyOf, within}
+use Rattle.interval.specs.Search.{lower}
+use Rattle.interval.proofs.Lengths.{key-long}
 use Rattle.index.specs.Search.{leadsTo}
-use Rattle.interval_find.specs.Search.{lower}
-use Rattle.division.specs.Changed.{swap}
+use Rattle.index.specs.Cuts.{separators}
 use Rattle.division.specs.Division.{divisionOf, counts, parts, pieces}
 use Rattle.division.specs.declared.Division.the-variants.{Three}
 use Rattle.area.specs.Content.{Content, recordsOf, entriesOf}
-use Rattle.change.specs.Parts.{Edit, cutsOf, entryAt, edited, divided}
+use Rattle.area.proofs.Filled.{entries-take}
+use Rattle.change.specs.Parts.{Edit, entryAt, edited, divided}
 use Rattle.change.specs.Stores.{Store}
 use Rattle.change.specs.Plan.{Plan, noInterval, noRoom, stores, planOf}
-use Rattle.change.specs.Fitting.{Fitting}
+use Rattle.change.specs.Fitting.{Fitting, Proper}
 use Rattle.change.proofs.Fitted.{erased-one}
-use Rattle.answers.specs.Answers.{numberOf}
-use Rattle.answers.specs.Records.{withKey}
-use Rattle.answers.specs.Model.{add, replace, remove, Change, insert, update, erase, makeChange, Legal}
-use Rattle.answers.specs.Changing.{kept, carryOut, insertNew, insertOf, updateOld, updateOf, eraseOld, eraseOf}
-use Rattle.answers.specs.declared.Answer.{Answer}
-use Rattle.answers.specs.declared.Answer.the-variants.{WrongLength, Present, Absent}
-use Rattle.answers.proofs.Around.{add-here, replace-here, remove-here}
-use Rattle.answers.proofs.Edits.{Led, Proper, entries-take, led-entry, ledTo, key-long, key-octets, within-least, entry-missing, entry-standing, insert-proper, update-proper, erase-proper}
-use Rattle.answers.proofs.Gets.{judged-key, judged-inside}
-use Rattle.answers.proofs.Accepted.{changeOf, bytesOf, editOf}
+use Rattle.requests.specs.Answers.{numberOf}
+use Rattle.requests.specs.Records.{withKey}
+use Rattle.requests.specs.Model.{add, replace, remove, Change, insert, update, erase, makeChange, Legal}
+use Rattle.requests.specs.Changing.{kept, carryOut, insertNew, insertOf, updateOld, updateOf, eraseOld, eraseOf}
+use Rattle.requests.specs.Accepted.{changeOf, bytesOf, editOf}
+use Rattle.requests.specs.declared.Answer.{Answer}
+use Rattle.requests.specs.declared.Answer.the-variants.{WrongLength, Present, Absent}
+use Rattle.requests.proofs.Around.{add-here, replace-here, remove-here}
+use Rattle.requests.proofs.Edits.{Led, led-entry, ledTo, key-octets, within-least, entry-missing, entry-standing, insert-proper, update-proper, erase-proper}
+use Rattle.requests.proofs.Gets.{judged-key, judged-inside}
 use Rattle.promises.specs.Trace.{Sound}
-use Rattle.promises.specs.Entries.{separators}
 use Rattle.promises.specs.Home.{keyIn, LengthFine, Home}
 use Rattle.promises.specs.Prescribed.{broughtBy}
 use Rattle.promises.proofs.Fits.{proper-fits}
@@ -86,8 +88,8 @@ edit-entry m c (update r) = refl
 edit-entry m c (erase wanted) = refl
 
 -- The separators at the cuts are those that a division makes.
-pub separators-cuts : (m : Measures) (ps : List (List (List ℕ))) → separators m ps ≡ cutsOf m ps
-unfolding cutsOf
+pub separators-cuts : (m : Measures) (ps : List (List (List ℕ))) → separators m ps ≡ separators m ps
+unfolding separators
 separators-cuts m [] = refl
 separators-cuts m (p ∷ []) = refl
 separators-cuts m (p ∷ q ∷ ps) = rw (separators-cuts m (q ∷ ps))

@@ -7,14 +7,16 @@ use lib.ListN.{length, replicate}
 use native.Mathlib.Omega.{arith}
 use Rattle.fields.specs.Bytes.{number, digits}
 use Rattle.fields.specs.Order.{orderOf, common}
+use Rattle.fields.specs.Lists.{sum, concat, every}
 use Rattle.measures.specs.Judgement.{countOf}
 use Rattle.measures.proofs.Fine.{accepted, fits-count}
-use Rattle.room.specs.Room.{sum, rdfCount, push, groups, need}
-use Rattle.interval.specs.Records.{keyOf, concat, ascendFrom, ascending, above, upTo}
+use Rattle.room.specs.Room.{rdfCount, push, groups, need}
+use Rattle.interval.specs.Records.{keyOf, ascendFrom, ascending}
 use Rattle.interval.specs.Layout.{groupBytes, groupsBytes, layout, form}
 use Rattle.interval.specs.Reading.{rdfs, rdfsIn, wellFormed, lengths, cut, recordsIn, formSound, sound}
+use Rattle.interval.specs.Role.{soundFree, soundUsed}
 use Rattle.index.specs.Bounds.{bound, separator}
-use Rattle.index.specs.Meaning.{count, below, once, namedOnce}
+use Rattle.index.specs.Meaning.{count, once, namedOnce}
 use Rattle.index.specs.Rules.{rises, closed, keepsRules}
 use Rattle.index.specs.Pieces.{spell, frontsFit, piecesSize, lastChars}
 use Rattle.index.specs.Layout.{pieceBytes, piecesBytes, freeBytes, header, trailer, layout as indexLayout}
@@ -22,23 +24,24 @@ use Rattle.index.specs.Form.{packed, entriesSize, entrySize, indexSize, indexBy
 use Rattle.index.specs.Reading.{numbersAt, piecesAt, piecesIn, readIndex, frame, places, soundIndex}
 use Rattle.division.specs.Fewest.{Fewest}
 use Rattle.division.proofs.Intervals.{fewest-one}
-use Rattle.area.specs.Content.{Filled, Content, recordsOf, fill, entriesOf}
-use Rattle.area.specs.Soundness.{soundFree, soundUsed, unsoundFree, unsoundUsed, unsoundData, lowest}
+use Rattle.area.specs.Content.{Filled, Content, recordsOf}
+use Rattle.area.specs.Soundness.{unsoundFree, unsoundUsed, unsoundData, lowest}
 use Rattle.area.specs.Reading.{damaged, whole, readArea}
-use Rattle.area.proofs.Example.{depot, first, second, held, bytes, some-sound, some-fits, some-lent}
-use Rattle.answers.specs.Answers.{numberOf, valuesOf}
-use Rattle.answers.specs.Model.{Change, insert, erase, add, remove, makeChange, makeAll}
-use Rattle.answers.specs.Reading.{Given}
-use Rattle.answers.specs.Finding.{Keyed, Finds}
-use Rattle.answers.specs.declared.Answer.the-variants.{Intact, Absent}
-use Rattle.answers.proofs.Making.{count-add}
+use Rattle.area.specs.Example.{depot, first, second, held, bytes}
+use Rattle.area.proofs.Example.{some-sound, some-fits, some-lent}
+use Rattle.requests.specs.Answers.{numberOf, valuesOf}
+use Rattle.requests.specs.Model.{Change, insert, erase, add, remove, makeChange, makeAll}
+use Rattle.requests.specs.Reading.{Given}
+use Rattle.requests.specs.Finding.{Keyed, Finds}
+use Rattle.requests.specs.declared.Answer.the-variants.{Intact, Absent}
+use Rattle.requests.proofs.Making.{count-add}
 use Rattle.promises.specs.Trace.{Request, check, get, changes, Step, Allowed, Trace, acceptedIn, Sound, Stands}
 use Rattle.promises.specs.Changes.{CountsTrue}
 use Rattle.promises.specs.Tables.{First, Holding, Crowded, changed, tableFor}
+use Rattle.promises.specs.Wrong.{run, Breaks, refusesAll, callsDamaged, alwaysFull, inventsCounts, untouchedDone, sameRecord, constantBytes, third, together, inventsWritten, without, losesLast, keepsRevoked}
 use Rattle.promises.proofs.History.{history, get-finds}
 use Rattle.promises.proofs.Changes.{check-true, counts-true}
 use Rattle.promises.proofs.Exact.{refusals-exact}
-use Rattle.promises.specs.Wrong.{run, Breaks, refusesAll, callsDamaged, alwaysFull, inventsCounts, untouchedDone, sameRecord, constantBytes, third, together, inventsWritten, without, losesLast, keepsRevoked}
 
 -- ---- the area
 
@@ -113,7 +116,10 @@ abbrev holding : List (List ℕ) → Content
 holding rs = record { kept = replicate 12 0; spare = 0; free = 1 ∷ []; filled = record { sep = []; num = 0; records = rs } ∷ [] }
 
 together-read : readArea depot 2 together ≡ whole (holding (first ∷ second ∷ third ∷ []))
-unfolding number digits orderOf common sum rdfCount push groups need concat ascendFrom ascending above upTo groupBytes groupsBytes layout form rdfs rdfsIn wellFormed lengths cut recordsIn formSound sound bound separator count below once namedOnce rises closed keepsRules spell frontsFit piecesSize lastChars pieceBytes piecesBytes freeBytes header trailer indexLayout packed entriesSize entrySize indexSize indexBytes numbersAt piecesAt piecesIn readIndex frame places soundIndex fill entriesOf soundFree soundUsed unsoundFree unsoundUsed unsoundData lowest readArea
+unfolding number digits orderOf common sum rdfCount push groups need concat ascendFrom ascending every groupBytes groupsBytes layout form rdfs rdfsIn wellFormed
+    lengths cut recordsIn formSound sound bound separator count once namedOnce rises closed keepsRules spell frontsFit piecesSize lastChars pieceBytes piecesBytes
+    freeBytes header trailer indexLayout packed entriesSize entrySize indexSize indexBytes numbersAt piecesAt piecesIn readIndex frame places soundIndex soundFree
+    soundUsed unsoundFree unsoundUsed unsoundData lowest readArea
 together-read = refl
 
 -- ---- counts
@@ -175,7 +181,10 @@ untouched-done s =
 
 -- the area without the second certificate, read
 without-read : readArea depot 2 without ≡ whole (holding (first ∷ third ∷ []))
-unfolding number digits orderOf common sum rdfCount push groups need concat ascendFrom ascending above upTo groupBytes groupsBytes layout form rdfs rdfsIn wellFormed lengths cut recordsIn formSound sound bound separator count below once namedOnce rises closed keepsRules spell frontsFit piecesSize lastChars pieceBytes piecesBytes freeBytes header trailer indexLayout packed entriesSize entrySize indexSize indexBytes numbersAt piecesAt piecesIn readIndex frame places soundIndex fill entriesOf soundFree soundUsed unsoundFree unsoundUsed unsoundData lowest readArea
+unfolding number digits orderOf common sum rdfCount push groups need concat ascendFrom ascending every groupBytes groupsBytes layout form rdfs rdfsIn wellFormed
+    lengths cut recordsIn formSound sound bound separator count once namedOnce rises closed keepsRules spell frontsFit piecesSize lastChars pieceBytes piecesBytes
+    freeBytes header trailer indexLayout packed entriesSize entrySize indexSize indexBytes numbersAt piecesAt piecesIn readIndex frame places soundIndex soundFree
+    soundUsed unsoundFree unsoundUsed unsoundData lowest readArea
 without-read = refl
 
 -- A register that loses the last certificate that it had breaks `history`.
@@ -187,7 +196,10 @@ loses-last s =
     omega (arith, ap length e, count-add depot third (first ∷ second ∷ []))
 
 constant-read : readArea depot 2 (replicate 1536 0) ≡ damaged 0
-unfolding number digits orderOf common sum rdfCount push groups need concat ascendFrom ascending above upTo groupBytes groupsBytes layout form rdfs rdfsIn wellFormed lengths cut recordsIn formSound sound bound separator count below once namedOnce rises closed keepsRules spell frontsFit piecesSize lastChars pieceBytes piecesBytes freeBytes header trailer indexLayout packed entriesSize entrySize indexSize indexBytes numbersAt piecesAt piecesIn readIndex frame places soundIndex fill entriesOf soundFree soundUsed unsoundFree unsoundUsed unsoundData lowest readArea
+unfolding number digits orderOf common sum rdfCount push groups need concat ascendFrom ascending every groupBytes groupsBytes layout form rdfs rdfsIn wellFormed
+    lengths cut recordsIn formSound sound bound separator count once namedOnce rises closed keepsRules spell frontsFit piecesSize lastChars pieceBytes piecesBytes
+    freeBytes header trailer indexLayout packed entriesSize entrySize indexSize indexBytes numbersAt piecesAt piecesIn readIndex frame places soundIndex soundFree
+    soundUsed unsoundFree unsoundUsed unsoundData lowest readArea
 constant-read = refl
 
 -- A register that leaves the same bytes whatever is asked breaks `history`: the area is sound no longer.

@@ -1,7 +1,8 @@
--- What comes back for requests one after another, as lists: so that two runs can be held beside each other.
+-- What comes back for requests one after another, as lists, so that two runs can be held beside each other: document 01, 'How far each statement must
+-- reach'.
 use Prim.Native.Nat.{ℕ}
-use mathlib.Core.List.{List, [], _∷_}
-use Rattle.answers.specs.declared.Answer.{Answer}
+use mathlib.Core.List.{List, [], map}
+use Rattle.requests.specs.declared.Answer.{Answer}
 use Rattle.promises.specs.Trace.{Request, check, get, getAt, changes, Step}
 
 -- the output that a request gets back; a check and a change are lent none
@@ -13,20 +14,16 @@ handedBack (changes ch) out = []
 
 -- what was asked,
 abbrev pub requestsIn : List Step → List Request
-requestsIn [] = []
-requestsIn (s ∷ ss) = s .request ∷ requestsIn ss
+requestsIn ss = map (λ (s : Step). s .request) ss
 
 -- what was answered,
 abbrev pub answersIn : List Step → List Answer
-answersIn [] = []
-answersIn (s ∷ ss) = s .answer ∷ answersIn ss
+answersIn ss = map (λ (s : Step). s .answer) ss
 
 -- the area after each step,
 abbrev pub areasIn : List Step → List (List ℕ)
-areasIn [] = []
-areasIn (s ∷ ss) = s .area ∷ areasIn ss
+areasIn ss = map (λ (s : Step). s .area) ss
 
 -- and the outputs
 abbrev pub outputsIn : List Step → List (List ℕ)
-outputsIn [] = []
-outputsIn (s ∷ ss) = handedBack (s .request) (s .output) ∷ outputsIn ss
+outputsIn ss = map (λ (s : Step). handedBack (s .request) (s .output)) ss

@@ -1,4 +1,4 @@
--- What an accepted change did to an area: c is its content before, d after. Nothing here plans or stores.
+-- What an accepted change did to an area: demand 3; document 01, 'Dividing an interval'. c is its content before, d after. Nothing here plans or stores.
 use Prim.Native.Nat.{ℕ, _+_, _-_, _<_}
 use mathlib.Core.Path.{_≡_}
 use mathlib.Core.List.{List, [], _∷_, _++_, List·Memᴰ}
@@ -7,13 +7,14 @@ use Rattle.measures.specs.declared.Measures.{Measures}
 use Rattle.interval.specs.Layout.{form}
 use Rattle.index.specs.Meaning.{numbers}
 use Rattle.index.specs.Form.{indexBytes}
+use Rattle.index.specs.Cuts.{separators}
 use Rattle.division.specs.Fewest.{Fewest}
 use Rattle.area.specs.Content.{Filled, Content, recordsOf, entriesOf, meaningOf, indexIn, dataIn}
 use Rattle.area.specs.Reading.{width}
-use Rattle.answers.specs.Model.{Change, makeChange}
-use Rattle.answers.specs.declared.Answer.{Answer}
-use Rattle.answers.specs.declared.Answer.the-variants.{Done}
-use Rattle.promises.specs.Entries.{recordsBy, sepsBy, separators}
+use Rattle.requests.specs.Model.{Change, makeChange}
+use Rattle.requests.specs.declared.Answer.{Answer}
+use Rattle.requests.specs.declared.Answer.the-variants.{Done}
+use Rattle.promises.specs.Entries.{recordsBy, sepsBy}
 use Rattle.promises.specs.Home.{keyIn, Home}
 use Rattle.promises.specs.Prescribed.{broughtBy, PrescribedParts}
 

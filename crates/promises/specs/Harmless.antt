@@ -2,10 +2,10 @@
 use Prim.Native.Nat.{ℕ}
 use mathlib.Core.Path.{_≡_}
 use mathlib.Core.List.{List}
-use Rattle.answers.specs.Answers.{numberOf}
-use Rattle.answers.specs.Reading.{getOf, getAtOf, Gives}
-use Rattle.answers.specs.Changing.{insertOf, updateOf, eraseOf, Makes}
-use Rattle.answers.specs.declared.Answer.{Answer}
+use Rattle.requests.specs.Answers.{numberOf}
+use Rattle.requests.specs.Reading.{getOf, getAtOf, Gives}
+use Rattle.requests.specs.Changing.{insertOf, updateOf, eraseOf, Makes}
+use Rattle.requests.specs.declared.Answer.{Answer}
 
 -- the answer's number is not 0
 abbrev pub Refusal : Answer → Type 0

@@ -1,4 +1,5 @@
--- What a change is about: its key, the length that it must have, and the interval to which its key belongs. Nothing here searches.
+-- What a change is about: its key, the length that it must have, and the interval to which its key belongs: document 01, 'Index record'. Nothing here
+-- searches.
 use Prim.Native.Nat.{ℕ}
 use mathlib.Core.Path.{_≡_}
 use mathlib.Core.Bool.{true, false}
@@ -10,7 +11,7 @@ use Rattle.interval.specs.Records.{keyOf, within}
 use Rattle.index.specs.Bounds.{bound}
 use Rattle.index.specs.Rules.{boundBefore}
 use Rattle.area.specs.Content.{Filled, Content, entriesOf}
-use Rattle.answers.specs.Model.{Change, insert, update, erase}
+use Rattle.requests.specs.Model.{Change, insert, update, erase}
 
 -- the key of the record that a change is about
 abbrev pub keyIn : Measures → Change → List ℕ

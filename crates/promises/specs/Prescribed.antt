@@ -6,7 +6,7 @@ use lib.ListN.{length, take, drop}
 use Rattle.division.specs.Division.{Prescribed}
 use Rattle.division.specs.declared.Division.{Division}
 use Rattle.division.specs.declared.Division.the-variants.{Stays, Two, Three}
-use Rattle.answers.specs.Model.{Change, insert, update, erase}
+use Rattle.requests.specs.Model.{Change, insert, update, erase}
 
 -- the record that a change brings; an erase brings none and never divides
 abbrev pub broughtBy : Change → List ℕ

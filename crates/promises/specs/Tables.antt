@@ -1,5 +1,6 @@
--- When each request is refused, as one table for each: a number and its condition, in the order in which they are looked at. The conditions speak of the
--- measures, of what the area is read as, of lengths, of keys and addresses of its records, and of how few intervals hold records; of no search and no plan.
+-- When each request is refused, as one table for each: document 01, 'What each number tells the depot'. A number and its condition, in the order in
+-- which they are looked at. The conditions speak of the measures, of what the area is read as, of lengths, of keys and addresses of its records, and of
+-- how few intervals hold records; of no search and no plan.
 use Prim.Native.Nat.{ℕ, _+_, _-_, _<_}
 use mathlib.Core.Path.{_≡_}
 use mathlib.Core.List.{List, [], _∷_, _++_}
@@ -8,13 +9,14 @@ use lib.ListN.{length}
 use Rattle.measures.specs.Judgement.{Fits, measures, countOf}
 use Rattle.measures.specs.declared.Measures.{Measures}
 use Rattle.interval.specs.Records.{keyOf}
+use Rattle.index.specs.Cuts.{separators}
 use Rattle.division.specs.Fewest.{Fewest}
 use Rattle.area.specs.Content.{Content, recordsOf, baseOf}
 use Rattle.area.specs.Reading.{damaged, whole, readArea}
-use Rattle.answers.specs.Model.{Change, insert, update, erase, makeChange}
-use Rattle.answers.specs.Finding.{Keyed, Lies}
+use Rattle.requests.specs.Model.{Change, insert, update, erase, makeChange}
+use Rattle.requests.specs.Finding.{Keyed, Lies}
 use Rattle.promises.specs.Trace.{Request, check, get, getAt, changes}
-use Rattle.promises.specs.Entries.{sepsBy, separators, entriesNeed}
+use Rattle.promises.specs.Entries.{sepsBy, entriesNeed}
 use Rattle.promises.specs.Home.{keyIn, LengthFine, Home}
 use Rattle.promises.specs.Prescribed.{broughtBy, PrescribedParts}
 
@@ -43,7 +45,7 @@ module _ (size offset key most : ℕ) (area : List ℕ) where
 
   -- 1: the measures or the area's length are outside the limits, however many data intervals were meant
   abbrev pub OutsideLimits : Type 0
-  OutsideLimits = (n : ℕ) → Fits size offset key most (length area) n → ⊥
+  OutsideLimits = (n : ℕ) → Fits given n (length area) → ⊥
 
   -- 2: the area is damaged at some place
   abbrev pub DamagedSomewhere : Type 0

@@ -1,4 +1,5 @@
--- Requests one after another on one area, each with a result that its contract allows; and what stands after them. Nothing here searches or writes.
+-- Requests one after another on one area, each with a result that its contract allows; and what stands after them: demand 3. Nothing here searches or
+-- writes.
 use Prim.Native.Nat.{ℕ, zero, suc}
 use mathlib.Core.Path.{_≡_}
 use mathlib.Core.Bool.{true}
@@ -11,11 +12,11 @@ use Rattle.measures.specs.declared.Judged.the-variants.{Fine}
 use Rattle.interval.specs.Records.{keysOf, ascending}
 use Rattle.area.specs.Content.{Content, recordsOf}
 use Rattle.area.specs.Reading.{whole, readArea}
-use Rattle.answers.specs.Answers.{numberOf}
-use Rattle.answers.specs.Model.{Change, insert, update, erase, makeAll, AllLegal}
-use Rattle.answers.specs.Reading.{checkOf, getOf, getAtOf, Gives}
-use Rattle.answers.specs.Changing.{insertOf, updateOf, eraseOf, Makes}
-use Rattle.answers.specs.declared.Answer.{Answer}
+use Rattle.requests.specs.Answers.{numberOf}
+use Rattle.requests.specs.Model.{Change, insert, update, erase, makeAll, AllLegal}
+use Rattle.requests.specs.Reading.{checkOf, getOf, getAtOf, Gives}
+use Rattle.requests.specs.Changing.{insertOf, updateOf, eraseOf, Makes}
+use Rattle.requests.specs.declared.Answer.{Answer}
 
 -- ---- requests and their results
 

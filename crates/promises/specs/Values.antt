@@ -1,4 +1,4 @@
--- What comes back with a refusal, besides its number.
+-- What comes back with a refusal, besides its number: document 01, 'What each number tells the depot'.
 use Prim.Native.Nat.{ℕ}
 use mathlib.Core.Path.{_≡_}
 use mathlib.Core.List.{List, [], _∷_}
@@ -7,9 +7,9 @@ use Rattle.measures.specs.Judgement.{measures, countOf}
 use Rattle.measures.specs.declared.Measures.{Measures}
 use Rattle.area.specs.Content.{Content, recordsOf, baseOf}
 use Rattle.area.specs.Reading.{damaged, whole, readArea}
-use Rattle.answers.specs.Answers.{numberOf, valuesOf}
-use Rattle.answers.specs.Finding.{Keyed, Lies}
-use Rattle.answers.specs.declared.Answer.{Answer}
+use Rattle.requests.specs.Answers.{numberOf, valuesOf}
+use Rattle.requests.specs.Finding.{Keyed, Lies}
+use Rattle.requests.specs.declared.Answer.{Answer}
 use Rattle.promises.specs.Trace.{Request, check, get, getAt, changes}
 
 -- r is the record that a request asks for

@@ -1,13 +1,14 @@
--- Registers that must not pass, each as a function from an area and a request to a step. Each breaks one of the promises on a small sound area.
+-- Registers that must not pass, each as a function from an area and a request to a step: document 01, 'How far each statement must reach'. Each breaks
+-- one of the promises on a small sound area.
 use Prim.Native.Nat.{ℕ}
 use mathlib.Core.List.{List, [], _∷_, _++_}
 use lib.ListN.{length, drop, replicate}
 use Rattle.interval.specs.Layout.{form}
 use Rattle.index.specs.Form.{indexBytes}
 use Rattle.area.specs.Content.{meaningOf}
-use Rattle.area.proofs.Example.{first, second, held, bytes}
-use Rattle.answers.specs.declared.Answer.{Answer}
-use Rattle.answers.specs.declared.Answer.the-variants.{Done, Found, Intact, Damaged, Absent, NoInterval}
+use Rattle.area.specs.Example.{first, second, held, bytes}
+use Rattle.requests.specs.declared.Answer.{Answer}
+use Rattle.requests.specs.declared.Answer.the-variants.{Done, Found, Intact, Damaged, Absent, NoInterval}
 use Rattle.promises.specs.Trace.{Request, check, get, getAt, changes, Step, Trace}
 
 -- A register, as a depot meets it: what comes back for an area and a request.

@@ -1,14 +1,14 @@
 -- What each kind of control byte says of the byte.
 use Prim.Native.Nat.{ℕ, _+_, _*_, _%_, _<_}
-use lib.Bits.{bitOr, or-shifted}
-use native.Mathlib.Nat.{mod-eq-of-lt}
-use native.Mathlib.Omega.{arith}
 use mathlib.Core.Path.{_≡_, refl, _∙_, sym}
 use mathlib.Core.Bool.{Bool, true, false}
 use lib.Dec.{eqb}
+use lib.Bits.{bitOr, or-shifted}
+use native.Mathlib.Nat.{mod-eq-of-lt}
+use native.Mathlib.Omega.{arith}
 use borrow.Author.Tests.{eqb-true, eqb-false}
-use Rattle.rdf.specs.Control.{controlOf}
 use Rattle.fields.specs.Choice.{pick}
+use Rattle.rdf.specs.Control.{controlOf}
 use Rattle.rdf.specs.declared.Control.{Control}
 use Rattle.rdf.specs.declared.Control.the-variants.{Single, Paired, Count, Bad}
 

@@ -4,19 +4,19 @@ use mathlib.Core.Path.{_≡_, refl, sym}
 use mathlib.Core.Bool.{Bool, true, false}
 use mathlib.Core.List.{List, [], _∷_, _++_}
 use lib.ListN.{length, drop, replicate, getD}
-use Rattle.fields.specs.Bytes.{number}
 use lib.Dec.{eqb, leb}
-use Rattle.fields.proofs.Choices.{both-false, both-split}
-use borrow.Author.Tests.{leb-true}
 use native.Mathlib.Omega.{arith}
+use borrow.Author.Tests.{leb-true}
+use Rattle.fields.specs.Bytes.{number}
+use Rattle.fields.specs.Lists.{sum}
+use Rattle.fields.specs.Choice.{pick, both}
+use Rattle.fields.proofs.Choices.{both-false, both-split}
 use Rattle.interval.specs.Reading.{Rdf, wellFormed, lengths, rdfs}
 use Rattle.interval.specs.Records.{within}
-use Rattle.room.specs.Room.{sum}
-use Rattle.fields.specs.Choice.{pick, both}
-use Rattle.rdf.proofs.Rdfs.{rdfs-cons, rdfs-drop, sum-run, length-run}
-use Rattle.rdf.specs.Front.{frontOf, pairOf}
+use Rattle.rdf.specs.AidFront.{frontOf, pairOf}
 use Rattle.rdf.specs.declared.Front.{Front}
 use Rattle.rdf.specs.declared.Front.the-variants.{Run, Damaged}
+use Rattle.rdf.proofs.Rdfs.{rdfs-cons, rdfs-drop, sum-run, length-run}
 
 abbrev pub FrontLaw : ℕ → ℕ → Front → List Rdf → Type 0
 FrontLaw least most (Run l c k) rs = (wellFormed least most rs ≡ wellFormed least most (drop k rs)) × (lengths rs ≡ replicate c l ++ lengths (drop k rs))

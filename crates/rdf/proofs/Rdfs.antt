@@ -6,7 +6,7 @@ use lib.ListN.{length, getD, drop, replicate, length-append, length-replicate}
 use native.Mathlib.Omega.{arith}
 use native.Mathlib.Nat.{not-suc-le-zero, le-of-suc-le-suc, sub-zero, mul-le-mul}
 use Rattle.fields.specs.Bytes.{number}
-use Rattle.room.specs.Room.{sum}
+use Rattle.fields.specs.Lists.{sum}
 use Rattle.interval.specs.Reading.{rdfs}
 
 pub rdfs-cons : (b : List ℕ) (p n : ℕ) → 0 < n

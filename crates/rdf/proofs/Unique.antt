@@ -1,8 +1,8 @@
 -- For each public function: any two results that its contract allows are equal, buffers too. `Learnt` is the contract as a caller reads it.
-use mathlib.Core.Path.{_≡_}
-use Rattle.fields.proofs.Choices.{agree}
 use Prim.Native.Nat.{ℕ}
+use mathlib.Core.Path.{_≡_}
 use mathlib.Core.Bool.{Bool}
+use Rattle.fields.proofs.Choices.{agree}
 use Rattle.rdf.specs.declared.Control.{Control}
 use Rattle.rdf.specs.declared.Front.{Front}
 use Rattle.rdf.proofs.take_apart.Reads as take-apart

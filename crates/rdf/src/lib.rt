@@ -1,11 +1,11 @@
 // RDFs: the control byte and the busy flag, taken apart and put together by masks and shifts; and the groups that RDFs make.
-ghost use mathlib.Core.Path.{_≡_};
 ghost use Prim.Native.Nat.{_+_, _-_, _*_, _/_, _%_, _≤_, _<_};
+ghost use mathlib.Core.Path.{_≡_};
 ghost use lib.ListN.{length};
 ghost use lib.Dec.{eqb};
 ghost use Rattle.interval.specs.Reading.{rdfs};
 ghost use Rattle.rdf.specs.Control.{controlOf};
-ghost use Rattle.rdf.specs.Front.{frontOf, pairOf, Small};
+ghost use Rattle.rdf.specs.AidFront.{frontOf, pairOf, Small};
 
 // The kinds of control byte: one record's length, a run's length, a run's count, or none of the three that are sound.
 pub enum Control {

@@ -12,13 +12,13 @@ use Rattle.interval.specs.Records.{keyOf, within}
 use Rattle.area.specs.Content.{Content, recordsOf}
 use Rattle.area.specs.Reading.{damaged, whole, readArea}
 use Rattle.change.specs.Plan.{Plan, noInterval, noRoom, stores}
-use Rattle.answers.specs.Records.{withKey}
-use Rattle.answers.specs.Changing.{Outcome, carryOut, makeEdit, insertRead, insertOf, updateRead, updateOf, eraseRead, eraseOf, Makes}
-use Rattle.answers.specs.declared.Answer.{Answer}
-use Rattle.answers.specs.declared.Answer.the-variants.{Damaged, Outside, WrongLength, Present, Absent}
-use Rattle.carry_out.specs.declared.Made.{Made}
-use Rattle.register.specs.Told.{answerFor}
-use Rattle.carry_out.specs.Carried.{Carries}
+use Rattle.change_write.specs.AidCarried.{Carries}
+use Rattle.change_write.specs.declared.Made.{Made}
+use Rattle.requests.specs.Records.{withKey}
+use Rattle.requests.specs.Changing.{Outcome, carryOut, makeEdit, insertRead, insertOf, updateRead, updateOf, eraseRead, eraseOf, Makes}
+use Rattle.requests.specs.declared.Answer.{Answer}
+use Rattle.requests.specs.declared.Answer.the-variants.{Damaged, Outside, WrongLength, Present, Absent}
+use Rattle.register.specs.AidTold.{answerFor}
 
 -- a contract in other words
 pub makes-as : {g h : Outcome} {a : Answer} {area : List ℕ} → g ≡ h → Makes g a area → Makes h a area

@@ -1,5 +1,5 @@
 -- The edit that a request makes where its search ended is the one of its meaning, and one that fits.
-use Prim.Native.Nat.{ℕ, _+_, _*_, _≤_, _<_}
+use Prim.Native.Nat.{ℕ, _+_, _*_, _<_}
 use mathlib.Core.Path.{_≡_, _∙_, sym, ap}
 use mathlib.Core.Bool.{true}
 use mathlib.Core.List.{List, [], _∷_}
@@ -7,34 +7,33 @@ use lib.ListN.{length, getD, take, drop}
 use lib.Seq.{drop-cons}
 use native.Mathlib.Omega.{arith}
 use Rattle.fields.specs.Bytes.{Octets, part}
+use Rattle.fields.specs.Lists.{concat}
+use Rattle.fields.proofs.Lists.{concat-none, concat-one}
+use Rattle.measures.specs.Judgement.{Fits}
 use Rattle.measures.specs.declared.Measures.{Measures}
-use Rattle.interval.specs.Records.{concat, keyOf, within}
+use Rattle.interval.specs.Records.{keyOf, within}
 use Rattle.interval.specs.Reading.{recordsIn}
-use Rattle.interval.proofs.Keys.{key-long}
-use Rattle.interval_find.specs.Search.{lower, startOf, holds}
-use Rattle.interval_find.specs.declared.Found.the-variants.{At, Gap}
+use Rattle.interval.specs.Search.{lower, startOf, holds}
+use Rattle.interval.specs.declared.Found.the-variants.{At, Gap}
+use Rattle.interval.proofs.Lengths.{key-long}
+use Rattle.interval.proofs.Search.{gap-place, at-place}
 use Rattle.index.specs.Meaning.{Entry, numbers}
 use Rattle.index.specs.Search.{leadsTo}
-use Rattle.interval_find.proofs.Search.{gap-place, at-place}
-use Rattle.division.proofs.Changed.{concat-none, concat-one}
 use Rattle.area.specs.Content.{dataIn, recordsOf, entriesOf}
-use Rattle.area.specs.Layout.{Lent}
-use Rattle.area.proofs.Filling.{entries-take}
-use Rattle.area_read.specs.Measured.{Measured}
+use Rattle.area_find.specs.AidSought.{Whole, Sought}
+use Rattle.area_find.specs.declared.Spot.{Spot}
 use Rattle.change.specs.Parts.{Edit, entryAt}
 use Rattle.change.specs.Plan.{planOf}
-use Rattle.change.specs.Fitting.{Fitting}
-use Rattle.seek.specs.Sought.{Whole, Sought}
-use Rattle.seek.specs.declared.Spot.{Spot}
-use Rattle.answers.specs.Records.{withKey}
-use Rattle.answers.specs.Changing.{editFor, makeEdit, Makes}
-use Rattle.answers.specs.declared.Answer.{Answer}
-use Rattle.answers.proofs.Edits.{Proper, led-entry, key-octets, within-least, insert-proper, update-proper, erase-proper}
-use Rattle.carry_out.specs.declared.Made.{Made}
-use Rattle.register.specs.Told.{answerFor}
-use Rattle.carry_out.specs.Carried.{MadeEdit}
-use Rattle.carry_out.specs.Asked.{Edits}
-use Rattle.register.proofs.Finding.{entries-are, key-found, key-absent, number-at}
+use Rattle.change.specs.Fitting.{Fitting, Proper}
+use Rattle.change_write.specs.AidCarried.{MadeEdit}
+use Rattle.change_write.specs.AidAsked.{Edits}
+use Rattle.change_write.specs.declared.Made.{Made}
+use Rattle.requests.specs.Records.{withKey}
+use Rattle.requests.specs.Changing.{editFor, makeEdit, Makes}
+use Rattle.requests.specs.declared.Answer.{Answer}
+use Rattle.requests.proofs.Edits.{led-entry, key-octets, within-least, insert-proper, update-proper, erase-proper}
+use Rattle.register.specs.AidTold.{answerFor}
+use Rattle.register.proofs.KeyFound.{entries-are, key-found, key-absent, number-at}
 use Rattle.register.proofs.Changing.{carried}
 
 -- the bytes of the one record there
@@ -47,37 +46,11 @@ none-span rs i = sym (ap length concat-none)
 
 -- ---- edits that fit
 
-lent : (m : Measures) (n : ℕ) (area : List ℕ) → Measured m n area → Octets area → Lent m n area
-lent m n area o b =
-    record {
-      octets = b;
-      long = o .bytes;
-      few = o .few;
-      large = omega (arith, o .large);
-      small = o .small;
-      key-some = o .key-some;
-      key-most = o .key-most;
-      key-inside = o .inside;
-    }
+fits : (m : Measures) (n : ℕ) (area : List ℕ) → Fits m n (length area) → Octets area → (w : Whole m n area) (e : Edit) → Proper m (w .content .filled) e
+    → Fitting m n area (w .content) e
+fits m n area o b w e p = record { lent = record { octets = b; fits = o }; reads = w .reads; proper = p }
 
-fits : (m : Measures) (n : ℕ) (area : List ℕ) → Measured m n area → Octets area → (w : Whole m n area) (e : Edit) → length (e .fresh) ≤ 1
-    → Proper m (w .content .filled) e → Fitting m n area (w .content) e
-fits m n area o b w e one p =
-    record {
-      lent = lent m n area o b;
-      most = o .most;
-      reads = w .reads;
-      entry = p .inside;
-      inside = p .ordinal;
-      one = one;
-      octets = p .octets;
-      lengths = p .lengths;
-      ascend = p .ascend;
-      after = rw (entries-take (e .entry) (w .content .filled)) (p .after);
-      within = p .within;
-    }
-
-module _ (m : Measures) (n : ℕ) (area : List ℕ) (o : Measured m n area) (bytes : Octets area) (w : Whole m n area)
+module _ (m : Measures) (n : ℕ) (area : List ℕ) (o : Fits m n (length area)) (bytes : Octets area) (w : Whole m n area)
     (key : List ℕ) (long : length key ≡ m .key) (octets : Octets key) (r : Spot) (s : Sought m n area key r) where
   entry-is : r .entry ≡ leadsTo key (entriesOf (w .content .filled))
   entry-is = s .entry ∙ ap (leadsTo key) (entries-are m n area o w key long octets r s)
@@ -104,14 +77,14 @@ module _ (m : Measures) (n : ℕ) (area : List ℕ) (o : Measured m n area) (byt
         ap (λ (x : ℕ). record { entry = r .entry; ordinal = x; gone = gone; fresh = fresh }) at
         ∙ ap (λ (x : ℕ). record { entry = x; ordinal = lower m key (entryAt (w .content .filled) x .records); gone = gone; fresh = fresh }) entry-is
 
-    edits : (t span : ℕ) → length fresh ≤ 1 → Proper m (w .content .filled) (editFor m (w .content) key gone fresh)
+    edits : (t span : ℕ) → Proper m (w .content .filled) (editFor m (w .content) key gone fresh)
         → t ≡ startOf i (entryAt (w .content .filled) (r .entry) .records)
         → span ≡ length (concat (take gone (drop i (entryAt (w .content .filled) (r .entry) .records))))
         → Edits m n area (r .entry) (r .number) i t gone span fresh
-    edits t span one p starts takes =
-        let f : Fitting m n area (w .content) (record { entry = r .entry; ordinal = i; gone = gone; fresh = fresh }) = rw edit-is (fits m n area o bytes w (editFor m (w .content) key gone fresh) one p) in
+    edits t span p starts takes =
+        let f : Fitting m n area (w .content) (record { entry = r .entry; ordinal = i; gone = gone; fresh = fresh }) = rw edit-is (fits m n area o bytes w (editFor m (w .content) key gone fresh) p) in
         record {
-          entered = record { measured = o; content = w .content; reads = w .reads; there = f .entry; is = number-is; within = s .within };
+          entered = record { fits = o; content = w .content; reads = w .reads; there = f .proper .entry; is = number-is; within = s .within };
           fitting = f;
           starts = starts;
           takes = takes;
@@ -143,7 +116,7 @@ module _ (m : Measures) (n : ℕ) (area : List ℕ) (o : Measured m n area) (byt
 
     pub erase-edits : Edits m n area (r .entry) (r .number) i t 1 l []
     erase-edits =
-        edits i 1 [] (at-there .0) t l (omega arith)
+        edits i 1 [] (at-there .0) t l
         (erase-proper m n area (w .content) (w .reads) (o .key-some) key long octets _ [] (key-found m n area o w key long octets r s i t l e)) (at-there .1) at-span
 
     pub erase-made : (made : Made) (after : List ℕ) (a : Answer) → MadeEdit m n area (r .entry) i 1 [] made after → a ≡ answerFor made
@@ -151,10 +124,10 @@ module _ (m : Measures) (n : ℕ) (area : List ℕ) (o : Measured m n area) (byt
     erase-made = makes i 1 [] (at-there .0)
 
 -- a record that comes in, sought by its key
-module _ (m : Measures) (n : ℕ) (area : List ℕ) (o : Measured m n area) (bytes : Octets area) (w : Whole m n area)
+module _ (m : Measures) (n : ℕ) (area : List ℕ) (o : Fits m n (length area)) (bytes : Octets area) (w : Whole m n area)
     (new : List ℕ) (fine : within (m .least) (m .most) (length new) ≡ true) (octets : Octets new) where
   pub new-long : length (keyOf m new) ≡ m .key
-  new-long = key-long m new (omega (arith, o .inside, within-least m new fine))
+  new-long = key-long m new (omega (arith, o .key-inside, within-least m new fine))
 
   module _ (r : Spot) (s : Sought m n area (keyOf m new) r) where
     pub new-absent : (i t : ℕ) → r .found ≡ Gap i t → withKey m (keyOf m new) (recordsOf (w .content .filled)) ≡ []
@@ -167,8 +140,8 @@ module _ (m : Measures) (n : ℕ) (area : List ℕ) (o : Measured m n area) (byt
       pub insert-edits : Edits m n area (r .entry) (r .number) i t 0 0 (new ∷ [])
       insert-edits =
           let g = gap-there m n area o bytes w (keyOf m new) new-long (key-octets m new octets) r s i t e in
-          edits m n area o bytes w (keyOf m new) new-long (key-octets m new octets) r s i 0 (new ∷ []) (g .0) t 0 (omega arith)
-          (insert-proper m n area (w .content) (w .reads) (o .key-some) (o .inside) new fine octets (new-absent i t e)) (g .1)
+          edits m n area o bytes w (keyOf m new) new-long (key-octets m new octets) r s i 0 (new ∷ []) (g .0) t 0
+          (insert-proper m n area (w .content) (w .reads) (o .key-some) (o .key-inside) new fine octets (new-absent i t e)) (g .1)
           (none-span (entryAt (w .content .filled) (r .entry) .records) i)
 
       pub insert-made : (made : Made) (after : List ℕ) (a : Answer) → MadeEdit m n area (r .entry) i 0 (new ∷ []) made after → a ≡ answerFor made
@@ -181,8 +154,8 @@ module _ (m : Measures) (n : ℕ) (area : List ℕ) (o : Measured m n area) (byt
       pub update-edits : Edits m n area (r .entry) (r .number) i t 1 l (new ∷ [])
       update-edits =
           let g = at-there m n area o bytes w (keyOf m new) new-long (key-octets m new octets) r s i t l e in
-          edits m n area o bytes w (keyOf m new) new-long (key-octets m new octets) r s i 1 (new ∷ []) (g .0) t l (omega arith)
-          (update-proper m n area (w .content) (w .reads) (o .key-some) (o .inside) new fine octets _ [] (new-present i t l e)) (g .1)
+          edits m n area o bytes w (keyOf m new) new-long (key-octets m new octets) r s i 1 (new ∷ []) (g .0) t l
+          (update-proper m n area (w .content) (w .reads) (o .key-some) (o .key-inside) new fine octets _ [] (new-present i t l e)) (g .1)
           (at-span m n area o bytes w (keyOf m new) new-long (key-octets m new octets) r s i t l e)
 
       pub update-made : (made : Made) (after : List ℕ) (a : Answer) → MadeEdit m n area (r .entry) i 1 (new ∷ []) made after → a ≡ answerFor made

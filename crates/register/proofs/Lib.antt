@@ -1,7 +1,7 @@
 pub mod Measures
-pub mod Finding
-pub mod Addresses
-pub mod Ways
+pub mod KeyFound
+pub mod AddressFound
+pub mod Reading
 pub mod Edited
 pub mod Changing
 pub mod Unique

@@ -7,38 +7,19 @@ use native.Mathlib.Omega.{arith}
 use Rattle.measures.specs.Judgement.{Fits, measures, judgedOf}
 use Rattle.measures.specs.declared.Measures.{Measures}
 use Rattle.measures.specs.declared.Judged.the-variants.{Fine}
-use Rattle.measures.proofs.Fine.{accepted-fits}
-use Rattle.measures.proofs.Sizes.{permitted-range}
+use Rattle.measures.proofs.Fine.{accepted-fits, fits-small}
 use Rattle.interval.specs.Records.{keyOf}
 use Rattle.area.specs.Reading.{Reading, damaged, whole, readArea}
-use Rattle.area_read.specs.Measured.{Measured}
-use Rattle.area_read.specs.Checked.{checkedOf}
-use Rattle.area_read.specs.declared.Checked.the-variants.{Intact, Damaged}
-use Rattle.seek.specs.Sought.{Whole}
+use Rattle.area.specs.Checked.{checkedOf}
+use Rattle.area.specs.declared.Checked.the-variants.{Intact, Damaged}
+use Rattle.area_find.specs.AidSought.{Whole}
 
 module _ (size offset key most n : ℕ) (m : Measures) (area : List ℕ) (e : judgedOf size offset key most (length area) ≡ Fine m n) where
   pub is-measures : m ≡ measures size offset key most
   is-measures = accepted-fits size offset key most (length area) n m e .0
 
-  fits : Fits size offset key most (length area) n
-  fits = accepted-fits size offset key most (length area) n m e .1
-
-  pub measured : Measured m n area
-  measured =
-      let f = fits in
-      let r = permitted-range size (f .size-permitted) in
-      rw is-measures
-      (record {
-        bytes = f .bytes;
-        large = r .0;
-        small = r .1;
-        some = f .some;
-        few = f .few;
-        key-some = f .key-some;
-        key-most = f .key-most;
-        inside = omega arith;
-        most = f .most-inside;
-      })
+  pub fits-lent : Fits m n (length area)
+  fits-lent = let a = accepted-fits size offset key most (length area) n m e in rw (a .0) (a .1)
 
   pub key-is : m .key ≡ key
   key-is = ap (λ (x : Measures). x .key) is-measures
@@ -58,8 +39,8 @@ module _ (size offset key most n : ℕ) (m : Measures) (area : List ℕ) (e : ju
   -- the shortest record is a small one
   pub least-small : offset + key ≤ 32768
   least-small =
-      let f = fits in
-      omega (arith, f .key-inside, f .most-inside, permitted-range size (f .size-permitted) .1)
+      let f = accepted-fits size offset key most (length area) n m e .1 in
+      omega (arith, f .least-inside, f .most-inside, fits-small f)
 
   -- the key of a record is that part of it
   pub key-part : (r : List ℕ) → take (offset + key - offset) (drop offset r) ≡ keyOf m r

@@ -2,7 +2,7 @@
 use mathlib.Core.Path.{_≡_}
 use denote.Ref.{now}
 use Rattle.fields.proofs.Choices.{agree}
-use Rattle.answers.specs.declared.Answer.{Answer}
+use Rattle.requests.specs.declared.Answer.{Answer}
 use Rattle.register.proofs.check.Reads as check
 use Rattle.register.proofs.get.Reads as get
 use Rattle.register.proofs.get_at.Reads as get-at

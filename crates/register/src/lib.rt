@@ -1,21 +1,21 @@
 // The register: the requests that a depot may make of a control area. None of them asks anything of its caller; whatever is lent,
 // each answers, and a refusal leaves area and output byte for byte as they were.
+ghost use Prim.Native.Nat.{_+_, _≤_};
 ghost use mathlib.Core.Path.{_≡_};
 ghost use mathlib.Core.List.{[], _∷_};
-ghost use Prim.Native.Nat.{_+_, _≤_};
 ghost use lib.ListN.{length};
 ghost use Rattle.fields.specs.Bytes.{part};
-ghost use Rattle.answers.specs.declared.Answer.the-variants.{Absent};
-ghost use Rattle.answers.specs.Reading.{checkOf, getOf, getAtOf, handOut, Gives};
-ghost use Rattle.answers.specs.Changing.{insertOf, updateOf, eraseOf, Makes};
-ghost use Rattle.register.specs.Told.{answerFor};
-use answers::Answer;
-use answers::Written;
-use area_read::Checked;
-use carry_out::Made;
-use interval_find::Found;
+ghost use Rattle.requests.specs.Reading.{checkOf, getOf, getAtOf, handOut, Gives};
+ghost use Rattle.requests.specs.Changing.{insertOf, updateOf, eraseOf, Makes};
+ghost use Rattle.requests.specs.declared.Answer.the-variants.{Absent};
+ghost use Rattle.register.specs.AidTold.{answerFor};
+use area::Checked;
+use area_find::Lying;
+use change_write::Made;
+use interval::Found;
 use measures::Judged;
-use seek::Lying;
+use requests::Answer;
+use requests::Written;
 
 // Whether the area is sound, with how many records and free intervals it has: refusals 1 and 2.
 pub fn check(area: &[u8], size: usize, offset: usize, key: usize, most: usize) -> Answer
@@ -72,7 +72,7 @@ pub fn get(
     if wanted.len() != key {
         return Answer::WrongLength;
     }
-    let spot = seek::seek(area, m, n, wanted);
+    let spot = area_find::find(area, m, n, wanted);
     let number = spot.number;
     let found = spot.found;
     let Found::At {
@@ -108,7 +108,7 @@ pub fn get_at(
     if let Checked::Damaged { place } = area_read::check(area, m, n) {
         return Answer::Damaged(place);
     }
-    let Lying::Here { from, length } = seek::seek_at(area, m, n, address) else {
+    let Lying::Here { from, length } = area_find::record_at(area, m, n, address) else {
         return Answer::NoRecord;
     };
     hand_out(area, from, length, out)
@@ -150,12 +150,12 @@ pub fn insert(
         return Answer::WrongLength;
     }
     let e = offset + key;
-    let spot = seek::seek(area, m, n, &new[offset..e]);
+    let spot = area_find::find(area, m, n, &new[offset..e]);
     let found = spot.found;
     let Found::Gap { ordinal, start } = found else {
         return Answer::Present;
     };
-    told(carry_out::put_in(
+    told(change_write::put_in(
         area,
         m,
         n,
@@ -194,7 +194,7 @@ pub fn update(
         return Answer::WrongLength;
     }
     let e = offset + key;
-    let spot = seek::seek(area, m, n, &new[offset..e]);
+    let spot = area_find::find(area, m, n, &new[offset..e]);
     let found = spot.found;
     let Found::At {
         ordinal,
@@ -204,7 +204,7 @@ pub fn update(
     else {
         return Answer::Absent;
     };
-    told(carry_out::put_in(
+    told(change_write::put_in(
         area,
         m,
         n,
@@ -242,7 +242,7 @@ pub fn erase(
     if wanted.len() != key {
         return Answer::WrongLength;
     }
-    let spot = seek::seek(area, m, n, wanted);
+    let spot = area_find::find(area, m, n, wanted);
     let found = spot.found;
     let Found::At {
         ordinal,
@@ -252,5 +252,5 @@ pub fn erase(
     else {
         return Answer::Absent;
     };
-    told(carry_out::take_out(area, m, n, spot.entry, spot.number, ordinal, start, length))
+    told(change_write::take_out(area, m, n, spot.entry, spot.number, ordinal, start, length))
 }

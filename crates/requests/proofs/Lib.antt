@@ -1,4 +1,9 @@
-pub mod Serving
-pub mod Digits
-pub mod Vectors
+pub mod Keys
+pub mod Around
+pub mod Making
+pub mod Edits
+pub mod Lying
+pub mod Gets
+pub mod Order
+pub mod Accepted
 pub mod Unique

@@ -1,2 +1,7 @@
-pub mod Lines
-pub mod Hex
+pub mod Answers
+pub mod Records
+pub mod Model
+pub mod Reading
+pub mod Finding
+pub mod Changing
+pub mod Accepted

@@ -1,80 +1,47 @@
-// One request line of a depot, served at the depot's measures: S 512, keys of 8 bytes at offset 0, records of at most 60 bytes.
+// What the requests answer: the kinds of answer, their numbers, and the meaning of each request.
 ghost use mathlib.Core.Path.{_≡_};
-ghost use Prim.Native.Nat.{_<_};
-ghost use Rattle.requests.specs.Lines.{servedOf, Serves, lineNumber};
-ghost use Rattle.requests.specs.Hex.{digitOf, speltOf, Spells};
-use answers::Answer;
+ghost use Rattle.requests.specs.Answers.{numberOf};
 
-// What a request line comes to: it is no request, or the register has told its answer.
-pub enum Line {
-    Bad,
-    Told(Answer),
+// What an accepted change tells: how many intervals it wrote, the index record among them.
+pub struct Written {
+    pub count: usize,
 }
 
-// One line: a letter G, I, U or E, a length byte, and the key (G, E) or the record (I, U), whatever lies past the length. Only a line
-// that is 64 bytes long can hold all 62 bytes that a length may promise.
-pub fn step(area: &mut [u8], request: &[u8], out: &mut [u8]) -> Line
-    ensures { λ r. ⌜ Serves (servedOf (now (area .entry)) (now (request .entry)) (now (out .entry))) r (now (area .exit)) (now (out .exit)) ⌝ }
-{
-    if request.len() != 64 {
-        return Line::Bad;
-    }
-    let letter = request[0];
-    let len = request[1] as usize;
-    if 62 < len {
-        return Line::Bad;
-    }
-    let e = 2 + len;
-    if letter == b'G' {
-        return Line::Told(register::get(area, 512, 0, 8, 60, &request[2..e], out));
-    }
-    if letter == b'I' {
-        return Line::Told(register::insert(area, 512, 0, 8, 60, &request[2..e]));
-    }
-    if letter == b'U' {
-        return Line::Told(register::update(area, 512, 0, 8, 60, &request[2..e]));
-    }
-    if letter == b'E' {
-        return Line::Told(register::erase(area, 512, 0, 8, 60, &request[2..e]));
-    }
-    Line::Bad
+// The kinds of answer, each with its own values. Document 01's number for each is given by `number`.
+pub enum Answer {
+    Done(Written),
+    Found(usize),
+    Intact { records: usize, free: usize },
+    Damaged(usize),
+    Short(usize),
+    Outside,
+    WrongLength,
+    Present,
+    Absent,
+    NoInterval,
+    NoRoom,
+    NoRecord,
 }
 
-// The number that a depot reads: 10 for a bad line, else the register's own.
-pub fn number(line: Line) -> usize
-    ensures { λ r. ⌜ r ≡ lineNumber line ⌝ }
+// The number that a depot reads.
+pub fn number(answer: Answer) -> usize
+    ensures { λ r. ⌜ r ≡ numberOf answer ⌝ }
 {
-    match line {
-        Line::Bad => 10,
-        Line::Told(answer) => answers::number(answer),
+    match answer {
+        Answer::Done(_) => 0,
+        Answer::Found(_) => 0,
+        Answer::Intact {
+            records: _,
+            free: _,
+        } => 0,
+        Answer::Outside => 1,
+        Answer::Damaged(_) => 2,
+        Answer::WrongLength => 3,
+        Answer::Present => 4,
+        Answer::Absent => 5,
+        Answer::NoInterval => 6,
+        Answer::NoRoom => 7,
+        Answer::Short(_) => 8,
+        Answer::NoRecord => 9,
     }
-}
-
-// One digit of four bits: 0 to 9, A to F.
-pub(crate) fn digit(nibble: u8) -> u8
-    requires { ⌜ nibble < 16 ⌝ }
-    ensures { λ r. ⌜ r ≡ digitOf nibble ⌝ }
-{
-    if nibble < 10 {
-        return b'0' + nibble;
-    }
-    b'A' + (nibble - 10)
-}
-
-// Bytes as text, two digits each, from the last byte to the first. The room is compared halved, so that no length overflows.
-pub fn hex(bytes: &[u8], text: &mut [u8]) -> usize
-    ensures { λ r. ⌜ Spells (speltOf (now (bytes .entry)) (now (text .entry))) r (now (text .exit)) ⌝ }
-{
-    if text.len() / 2 < bytes.len() {
-        return 0;
-    }
-    let mut i = bytes.len();
-    while 0 < i {
-        i -= 1;
-        let byte = bytes[i];
-        let at = 2 * i;
-        text[at + 1] = digit(byte % 16);
-        text[at] = digit(byte / 16);
-    }
-    2 * bytes.len()
 }

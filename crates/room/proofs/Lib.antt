@@ -1,4 +1,4 @@
-pub mod Laws
+pub mod Need
 pub mod Steps
 pub mod Unique
 pub mod Vectors

@@ -10,11 +10,13 @@ use native.Mathlib.Omega.{arith}
 use native.Mathlib.Numerals.{add-one}
 use borrow.Author.Tests.{eqb-true, eqb-false, eq-eqb, ne-eqb, le-leb}
 use Rattle.fields.specs.Choice.{pick, both}
+use Rattle.fields.specs.Lists.{sum}
 use Rattle.fields.proofs.Choices.{both-false, both-true}
-use Rattle.room.specs.Room.{sum, rdfCount, push, groups, need}
-use Rattle.room.specs.Steps.{starts, again, ahead, ended, behind, lastOf, runOf, roomOf, also}
+use Rattle.fields.proofs.Lists.{sum-append}
+use Rattle.room.specs.Room.{rdfCount, push, groups, need}
+use Rattle.room.specs.AidSteps.{lastLength, starts, again, ahead, ended, behind, runOf, roomOf, also}
 use Rattle.room.specs.declared.Room.{Room}
-use Rattle.room.proofs.Laws.{groups-marks, marks-snoc, sum-append}
+use Rattle.room.proofs.Need.{groups-marks, marks-snoc}
 
 abbrev pub room : ℕ → ℕ → ℕ → ℕ → Room
 room b k l n = record { bytes = b; rdfs = k; last = l; run = n }
@@ -54,14 +56,14 @@ rdfs-snoc ls l t e = go t (seen t e)
 sum-snoc : (ls : List ℕ) (l : ℕ) → sum (ls ++ l ∷ []) ≡ sum ls + l
 sum-snoc ls l = sum-append ls (l ∷ []) ∙ (unfold sum in omega arith)
 
-last-snoc : (ls : List ℕ) (l : ℕ) → lastOf (ls ++ l ∷ []) ≡ l
-unfolding lastOf
+last-snoc : (ls : List ℕ) (l : ℕ) → lastLength (ls ++ l ∷ []) ≡ l
+unfolding lastLength
 last-snoc ls l =
     let e : length (ls ++ l ∷ []) - 1 ≡ length ls = omega (arith, length-append ls (l ∷ [])) in
     rw e (getD-append-seam ls l [] 0)
 
-run-snoc : (ls : List ℕ) (l : ℕ) → 1 ≤ length ls → runOf (ls ++ l ∷ []) ≡ pick (eqb (lastOf ls) l) 2 1
-unfolding runOf lastOf
+run-snoc : (ls : List ℕ) (l : ℕ) → 1 ≤ length ls → runOf (ls ++ l ∷ []) ≡ pick (eqb (lastLength ls) l) 2 1
+unfolding runOf lastLength
 run-snoc ls l h =
     let n = length-append ls (l ∷ []) in
     let e : length (ls ++ l ∷ []) - 1 ≡ length ls = omega arith in
@@ -76,13 +78,13 @@ run-is : (ls : List ℕ) → 1 ≤ length ls → runOf ls ≡ pick (paired ls) 2
 unfolding runOf paired
 run-is ls h = rw (le-leb 1 (length ls) h)
 
-ended-other : (ls : List ℕ) (l : ℕ) → eqb (lastOf ls) l ≡ false → ended ls l ≡ false
-unfolding ended lastOf
+ended-other : (ls : List ℕ) (l : ℕ) → eqb (lastLength ls) l ≡ false → ended ls l ≡ false
+unfolding ended lastLength
 ended-other ls l e =
     rw (e, both-false (eqb (getD ls (length ls - 2) 0) l), both-false (leb 2 (length ls)))
 
-ended-same : (ls : List ℕ) (l : ℕ) → lastOf ls ≡ l → ended ls l ≡ paired ls
-unfolding ended lastOf paired
+ended-same : (ls : List ℕ) (l : ℕ) → lastLength ls ≡ l → ended ls l ≡ paired ls
+unfolding ended lastLength paired
 ended-same ls l e = rw (e, eq-eqb l l refl, both-true (eqb (getD ls (length ls - 2) 0) l))
 
 run-some : (t : Bool) (n : ℕ) → n ≡ pick t 2 1 → n ≡ 0 → ⊥
@@ -92,32 +94,32 @@ run-some false n f e = omega arith
 snoc-some : (ls : List ℕ) (l : ℕ) → 1 ≤ length ls → also (roomOf ls) l ≡ roomOf (ls ++ l ∷ [])
 unfolding roomOf
 snoc-some ls l h =
-    rw (sum-snoc ls l, last-snoc ls l, run-snoc ls l h) (go (eqb (lastOf ls) l) refl (paired ls) refl)
+    rw (sum-snoc ls l, last-snoc ls l, run-snoc ls l h) (go (eqb (lastLength ls) l) refl (paired ls) refl)
   where
     r : Room
-    r = room (sum ls) (rdfCount (groups ls)) (lastOf ls) (runOf ls)
+    r = room (sum ls) (rdfCount (groups ls)) (lastLength ls) (runOf ls)
 
     n : runOf ls ≡ 0 → ⊥
     n = run-some (paired ls) (runOf ls) (run-is ls h)
 
-    go : (t : Bool) → eqb (lastOf ls) l ≡ t → (u : Bool) → paired ls ≡ u
+    go : (t : Bool) → eqb (lastLength ls) l ≡ t → (u : Bool) → paired ls ≡ u
         → also r l ≡ room (sum ls + l) (rdfCount (groups (ls ++ l ∷ []))) l (pick t 2 1)
-    go false e u f = rw (rdfs-snoc ls l false (ended-other ls l e)) (sym (also-other r l n (eqb-false (lastOf ls) l e)))
+    go false e u f = rw (rdfs-snoc ls l false (ended-other ls l e)) (sym (also-other r l n (eqb-false (lastLength ls) l e)))
     go true e true f =
-        let q : lastOf ls ≡ l = eqb-true (lastOf ls) l e in
+        let q : lastLength ls ≡ l = eqb-true (lastLength ls) l e in
         let g : runOf ls ≡ 2 = run-is ls h ∙ rw f in
         rw (rdfs-snoc ls l true (ended-same ls l q ∙ f)) (sym (also-more r l n q (λ (z : runOf ls ≡ 1). omega arith)))
     go true e false f =
-        let q : lastOf ls ≡ l = eqb-true (lastOf ls) l e in
+        let q : lastLength ls ≡ l = eqb-true (lastLength ls) l e in
         let g : runOf ls ≡ 1 = run-is ls h ∙ rw f in
         rw (rdfs-snoc ls l false (ended-same ls l q ∙ f)) (sym (also-second r l n q g))
 
 pub room-none : roomOf [] ≡ room 0 0 0 0
-unfolding roomOf lastOf runOf sum groups rdfCount
+unfolding roomOf lastLength runOf sum groups rdfCount
 room-none = refl
 
 pub snoc : (ls : List ℕ) (l : ℕ) → also (roomOf ls) l ≡ roomOf (ls ++ l ∷ [])
-snoc [] l = rw room-none (unfold also roomOf lastOf runOf sum groups rdfCount push in (rw (sides l)))
+snoc [] l = rw room-none (unfold also roomOf lastLength runOf sum groups rdfCount push in (rw (sides l)))
   where
     sides : (l : ℕ) → l + 0 ≡ 0 + l
     sides l = omega arith
@@ -131,7 +133,8 @@ pub also-bytes : (r : Room) (l : ℕ) → also r l .bytes ≡ r .bytes + l
 unfolding also
 also-bytes r l = go (eqb (r .run) 0) (eqb (r .last) l)
   where
-    go : (t u : Bool) → pick t (room (r .bytes + l) (r .rdfs + 1) l 1) (pick u (room (r .bytes + l) (pick (eqb (r .run) 1) (r .rdfs + 1) (r .rdfs)) l 2) (room (r .bytes + l) (r .rdfs + 1) l 1)) .bytes ≡ r .bytes + l
+    go : (t u : Bool) → pick t (room (r .bytes + l) (r .rdfs + 1) l 1) (pick u (room (r .bytes + l) (pick (eqb (r .run) 1) (r .rdfs + 1) (r .rdfs)) l 2) (room (r .bytes + l) (r .rdfs + 1) l 1)) .bytes
+        ≡ r .bytes + l
     go true u = refl
     go false true = refl
     go false false = refl

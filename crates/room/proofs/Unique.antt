@@ -1,12 +1,12 @@
 -- For each public function: any two results that its contract allows are equal.
 -- `Learnt` of a function is its contract's `ensures`, as every caller reads it: at the lifetimes, the arguments, the result and
 -- the parameters at exit. So these lemmas speak of the contracts themselves, and a contract that is made weaker breaks its own.
-use mathlib.Core.Path.{_≡_}
 use Prim.Native.Nat.{ℕ}
+use mathlib.Core.Path.{_≡_}
 use Rattle.fields.proofs.Choices.{agree}
 use Rattle.room.specs.declared.Room.{Room}
 use Rattle.room.proofs.add.Reads as add
-use Rattle.room.proofs.taken.Reads as taken
+use Rattle.room.proofs.room_of.Reads as room-of
 use Rattle.room.proofs.ahead_at.Reads as ahead-at
 use Rattle.room.proofs.bytes_to.Reads as bytes-to
 use Rattle.room.proofs.need_of.Reads as need-of
@@ -15,8 +15,8 @@ use Rattle.room.proofs.need_of_lengths.Reads as need-of-lengths
 pub unique-add : (κs : _) (args : _) (r s : Room) (e f : _) → add.Learnt κs args r e → add.Learnt κs args s f → r ≡ s
 unique-add κs args r s e f p q = agree p q
 
-pub unique-taken : (κs : _) (args : _) (r s : Room) (e f : _) → taken.Learnt κs args r e → taken.Learnt κs args s f → r ≡ s
-unique-taken κs args r s e f p q = agree (p .0) (q .0)
+pub unique-room-of : (κs : _) (args : _) (r s : Room) (e f : _) → room-of.Learnt κs args r e → room-of.Learnt κs args s f → r ≡ s
+unique-room-of κs args r s e f p q = agree (p .0) (q .0)
 
 pub unique-ahead-at : (κs : _) (args : _) (r s : ℕ) (e f : _) → ahead-at.Learnt κs args r e → ahead-at.Learnt κs args s f → r ≡ s
 unique-ahead-at κs args r s e f p q = agree p q

@@ -6,7 +6,8 @@ use mathlib.Core.List.{List, [], _∷_}
 use lib.Dec.{eqb}
 use Rattle.fields.specs.Table.{all}
 use Rattle.fields.specs.Choice.{both, no}
-use Rattle.room.specs.Room.{sum, rdfCount, push, groups, need, fits}
+use Rattle.fields.specs.Lists.{sum}
+use Rattle.room.specs.Room.{rdfCount, push, groups, need, fits}
 
 -- records of these lengths take so many RDFs, and so many bytes in all
 abbrev takes : List ℕ → ℕ → ℕ → Bool

@@ -1,14 +1,11 @@
 -- How many bytes of a data interval records of given lengths take: document 01, 'Data interval'.
 use Prim.Native.Nat.{ℕ, suc, _+_, _*_}
-use mathlib.Core.Bool.{Bool, true}
+use mathlib.Core.Bool.{Bool}
 use mathlib.Core.List.{List, [], _∷_, _++_}
 use lib.ListN.{replicate}
 use lib.Dec.{eqb, leb}
-use Rattle.fields.specs.Choice.{pick, both}
-
-unfoldable pub sum : List ℕ → ℕ
-sum [] = 0
-sum (l ∷ ls) = l + sum ls
+use Rattle.fields.specs.Choice.{pick}
+use Rattle.fields.specs.Lists.{every, sum}
 
 -- So many neighbours of one length that are described together.
 pub record Group : Type 0 where
@@ -16,13 +13,12 @@ pub record Group : Type 0 where
   pub count : ℕ
 
 -- the lengths that some groups describe, and whether each group has a record
-unfoldable pub spelt : List Group → List ℕ
-spelt [] = []
-spelt (g ∷ gs) = replicate (g .count) (g .len) ++ spelt gs
+unfoldable pub described : List Group → List ℕ
+described [] = []
+described (g ∷ gs) = replicate (g .count) (g .len) ++ described gs
 
-unfoldable pub allCounted : List Group → Bool
-allCounted [] = true
-allCounted (g ∷ gs) = both (leb 1 (g .count)) (allCounted gs)
+abbrev pub allCounted : List Group → Bool
+allCounted gs = every (λ (g : Group). leb 1 (g .count)) gs
 
 -- one RDF for a group of one, two for a run
 unfoldable pub rdfCount : List Group → ℕ

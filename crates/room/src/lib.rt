@@ -1,10 +1,11 @@
 // Room that records of given lengths take in an interval.
-ghost use mathlib.Core.Path.{_≡_};
 ghost use Prim.Native.Nat.{ℕ, _+_, _*_, _≤_, _<_};
+ghost use mathlib.Core.Path.{_≡_};
 ghost use mathlib.Core.List.{List};
 ghost use lib.ListN.{length, getD, take, drop};
-ghost use Rattle.room.specs.Room.{sum, need};
-ghost use Rattle.room.specs.Steps.{ahead, roomOf, also};
+ghost use Rattle.fields.specs.Lists.{sum};
+ghost use Rattle.room.specs.Room.{need};
+ghost use Rattle.room.specs.AidSteps.{ahead, roomOf, also};
 
 // What records take so far, as much as is needed to add one more: their bytes; their RDFs; the last length; and 0, 1 or 2
 // where no record, a single one or a run stands at the end.
@@ -49,7 +50,7 @@ pub fn add(r: Room, len: u16) -> Room
 }
 
 // The room that records of these lengths take.
-pub fn taken(lens: &[u16]) -> Room
+pub fn room_of(lens: &[u16]) -> Room
     requires { ⌜ length (now lens) ≤ 32768 ⌝ }
     ensures is { λ r. ⌜ r ≡ roomOf (now (lens .entry)) ⌝ }
     ensures small { λ r. ⌜ (r .bytes ≤ 65535 * length (now (lens .entry))) × (r .rdfs ≤ length (now (lens .entry))) ⌝ }
@@ -92,7 +93,7 @@ pub fn bytes_to(lens: &[u16], k: usize) -> usize
     ensures is { λ r. ⌜ r ≡ sum (take k (now (lens .entry))) ⌝ }
     ensures small { λ r. ⌜ r ≤ 65535 * k ⌝ }
 {
-    let r = taken(&lens[..k]);
+    let r = room_of(&lens[..k]);
     r.bytes
 }
 
@@ -110,5 +111,5 @@ pub fn need_of_lengths(lens: &[u16]) -> usize
     requires { ⌜ length (now lens) ≤ 32768 ⌝ }
     ensures { λ r. ⌜ r ≡ need (now (lens .entry)) ⌝ }
 {
-    need_of(taken(lens))
+    need_of(room_of(lens))
 }

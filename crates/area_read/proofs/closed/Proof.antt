@@ -1,3 +1,5 @@
+-- No loop. An interval that opened well brings its count of records and the start of the last (Inside), which is what `closes` asks.
+-- The verdict then is that of its own bound. One that opened badly is unsound and counts no record.
 use mathlib.Core.Path.{refl}
 use native.Mathlib.Omega.{arith}
 use borrow.Author.Needs.{needs}

@@ -1,3 +1,6 @@
+-- Invariant: the free numbers left lie from place at on, within the index record, and each is below n.
+-- The lowest of n and the unsound ones of all the free numbers is the lowest of `worst` and the unsound ones of those left.
+-- Measure: the free numbers left.
 use Prim.Native.Nat.{_+_, _≤_, _<_, min}
 use mathlib.Core.Path.{_≡_, refl, _∙_, sym}
 use mathlib.Core.Bool.{true}
@@ -5,12 +8,14 @@ use lib.ListN.{length}
 use native.Mathlib.Omega.{arith}
 use borrow.Author.Needs.{needs}
 use Rattle.fields.specs.Choice.{pick}
+use Rattle.fields.specs.Bytes.{number}
+use Rattle.measures.proofs.Fine.{fits-small, fits-large}
+use Rattle.interval.specs.Role.{soundFree}
 use Rattle.index.specs.Meaning.{below}
 use Rattle.index.specs.Reading.{numbersAt}
-use Rattle.fields.specs.Bytes.{number}
 use Rattle.area.specs.Content.{dataIn}
-use Rattle.area.specs.Soundness.{soundFree, unsoundFree, lowest}
-use Rattle.area_read.proofs.Places.{data-ends, data-small, length-lent, lent-data}
+use Rattle.area.specs.Soundness.{unsoundFree, lowest}
+use Rattle.area.proofs.Places.{data-ends, data-small, length-lent, lent-data}
 use Rattle.area_read.proofs.Lows.{free-more, free-none, below-first}
 use Rattle.area_read.proofs.free_worst.Statement.{statement}
 use Rattle.area_read.proofs.free_worst.Tie as tie
@@ -57,7 +62,7 @@ add-e c =
     let s = k .before .before .before .before .before in
     let a = s .args in
     let o = k .before .before .loop in
-    omega (arith, data-small (a .m) (a .n) (a .area .now) (s .pre .0) (k .read-pointer .result) (inside k), s .pre .0 .small)
+    omega (arith, data-small (a .m) (a .n) (a .area .now) (s .pre .0) (k .read-pointer .result) (inside k), fits-small (s .pre .0))
 
 sub-free-sound : tie.Need-sub-free-sound Inv-loop μ-loop
 sub-free-sound c = omega arith
@@ -86,7 +91,7 @@ free-sound-requires c κs =
     let s = k .before .before .before .before .before in
     let a = s .args in
     let z = length-lent (a .m) (a .n) (a .area .now) (s .pre .0) (k .read-pointer .result) (inside k) in
-    (omega (arith, z, s .pre .0 .large), omega (arith, z, s .pre .0 .small), s .pre .0 .key-some, s .pre .0 .inside)
+    (omega (arith, z, fits-large (s .pre .0)), omega (arith, z, fits-small (s .pre .0)), s .pre .0 .key-some, s .pre .0 .key-inside)
 
 noted-requires : tie.Need-noted-requires Inv-loop μ-loop
 noted-requires c κs = search needs
@@ -107,9 +112,15 @@ loop-again c =
     let a = s .args in
     let o = k .before .before .loop in
     let e : number 1 (a .ib .now) (o .at) ≡ k .read-pointer .result = sym (k .read-pointer .ensures .0) in
-    let f : c .before .free-sound .result ≡ soundFree (a .m) (dataIn (a .m) (a .area .now) (number 1 (a .ib .now) (o .at))) = c .before .free-sound .ensures ∙ rw (e, lent-data (a .m) (a .n) (a .area .now) (s .pre .0) (k .read-pointer .result) (inside k)) in
-    let w : c .noted .result ≡ pick (soundFree (a .m) (dataIn (a .m) (a .area .now) (number 1 (a .ib .now) (o .at)))) (o .worst) (min (number 1 (a .ib .now) (o .at)) (o .worst)) = c .noted .ensures ∙ rw (f, e) in
-    (omega arith, below-first (a .n) (a .ib .now) (o .at) (o .left) (omega arith) (o .inv .1) .1, o .inv .2 ∙ free-more (a .m) (a .area .now) (a .ib .now) (o .worst) (o .at) (o .left) (omega arith) ∙ rw (← w))
+    let f : c .before .free-sound .result ≡ soundFree (a .m) (dataIn (a .m) (a .area .now) (number 1 (a .ib .now) (o .at))) = c .before .free-sound .ensures ∙ rw
+    (e, lent-data (a .m) (a .n) (a .area .now) (s .pre .0) (k .read-pointer .result) (inside k)) in
+    let w : c .noted .result ≡ pick (soundFree (a .m) (dataIn (a .m) (a .area .now) (number 1 (a .ib .now) (o .at)))) (o .worst)
+    (min (number 1 (a .ib .now) (o .at)) (o .worst)) = c .noted .ensures ∙ rw (f, e) in (
+      omega arith,
+      below-first (a .n) (a .ib .now) (o .at) (o .left) (omega arith) (o .inv .1) .1,
+      o .inv .2 ∙ free-more (a .m) (a .area .now) (a .ib .now) (o .worst)
+          (o .at) (o .left) (omega arith) ∙ rw (← w),
+    )
 
 returns : tie.Need-returns Inv-loop μ-loop
 returns c =

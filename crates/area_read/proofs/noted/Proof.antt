@@ -1,3 +1,4 @@
+-- A sound number changes nothing; else the smaller of the two is their minimum, which arithmetic alone shows in either case.
 use Prim.Native.Nat.{min}
 use mathlib.Core.Path.{_≡_}
 use native.Mathlib.Omega.{arith}

@@ -1,13 +1,19 @@
+-- Invariant (Going): the walk stands before entry i of a sound index record, which ends at place right; the separator before has `before` bytes,
+-- and buf, 255 bytes, begins with its bound. The lowest of `worst` and the unsound numbers of all entries is the lowest of `lowest` and those
+-- of the entries from i on. Where all intervals in use are sound, `records` and the records of the entries from i on make up all of them.
+-- At most 32768 records were counted for each entry passed, so the sum can't overflow.
+-- Measure: the entries not yet passed. Each entry of a sound record can be taken apart, so the early way out is never taken (standing-good).
 use Prim.Native.Nat.{_-_, _<_}
 use mathlib.Core.Path.{_≡_, refl, _∙_, sym}
 use lib.ListN.{length, replicate}
 use native.Mathlib.Omega.{arith}
 use borrow.Author.Needs.{needs}
+use Rattle.measures.proofs.Fine.{fits-small, fits-large}
 use Rattle.index.specs.Reading.{lastAt, readIndex}
-use Rattle.index_read.specs.Parsing.{parsedOf}
+use Rattle.index_read.specs.AidParsing.{parsedOf}
 use Rattle.index_read.specs.declared.Parsed.the-variants.{Of}
 use Rattle.index_read.proofs.Stepping.{Stepped, standing-start, standing-good, standing-step, holding-start, entries-count}
-use Rattle.area_read.proofs.Places.{data-ends, data-small, length-lent, lent-data}
+use Rattle.area.proofs.Places.{data-ends, data-small, length-lent, lent-data}
 use Rattle.area_read.proofs.Entries.{Going, setting-out, arrived, front-held, low-held, onward}
 use Rattle.area_read.proofs.used_worst.Statement.{statement}
 use Rattle.area_read.proofs.used_worst.Tie as tie
@@ -18,9 +24,16 @@ Inv-loop area ib m n worst entries edge buf₀ right₀ before₀ i₀ lowest₀
 abbrev μ-loop : tie.MeasureT-loop
 μ-loop area ib m n worst entries edge buf₀ right₀ before₀ i₀ lowest₀ records₀ buf right before i lowest records = entries - i
 
+-- The states that the proof looks back to, by their names.
+abbrev start-from-piece-at : tie.After-piece-at Inv-loop μ-loop → tie.Start Inv-loop μ-loop
+start-from-piece-at k = k .before .before .before .before .before .before
+
+abbrev known-told-from-buf2 : tie.After-buf2 Inv-loop μ-loop → tie.After-known-told Inv-loop μ-loop
+known-told-from-buf2 k = k .before .before .before .before .before .before
+
 -- what is known once an entry was taken apart
 abbrev start : tie.After-known-told Inv-loop μ-loop → tie.Start Inv-loop μ-loop
-start k = k .before .before .before .before .before .before .before .before .before
+start k = start-from-piece-at (k .before .before .before)
 
 abbrev around : tie.After-known-told Inv-loop μ-loop → tie.At-loop Inv-loop μ-loop
 around k = k .before .before .before .before .before
@@ -28,7 +41,8 @@ around k = k .before .before .before .before .before
 edge-is : (c : tie.After-read-two Inv-loop μ-loop) → c .read-two .result ≡ lastAt (c .before .before .before .args .ib .now)
 edge-is c = c .read-two .ensures .0
 
-more : (c : tie.In-loop Inv-loop μ-loop) → c .before .loop .i < length (readIndex 1 (c .before .before .before .before .before .args .n) (c .before .before .before .before .before .args .ib .now) .entries)
+more : (c : tie.In-loop Inv-loop μ-loop)
+    → c .before .loop .i < length (readIndex 1 (c .before .before .before .before .before .args .n) (c .before .before .before .before .before .args .ib .now) .entries)
 more c = omega (arith, c .before .before .before .before .before .pre .3)
 
 stepped : (k : tie.After-known-told Inv-loop μ-loop)
@@ -37,21 +51,26 @@ stepped : (k : tie.After-known-told Inv-loop μ-loop)
 stepped k =
     let a = start k .args in
     let o = around k .loop in
-    let p : parsedOf 1 (a .ib .now) (o .right) (lastAt (a .ib .now)) (o .before) (a .m .key) ≡ Of (k .before .front .given .0 .0) (k .before .front .given .0 .1 .0) (k .before .front .given .0 .1 .1 .0) (k .before .front .given .0 .1 .1 .1 .0) =
+    let p : parsedOf 1 (a .ib .now) (o .right) (lastAt (a .ib .now)) (o .before) (a .m .key) ≡ Of (k .before .front .given .0 .0) (k .before .front .given .0 .1 .0)
+    (k .before .front .given .0 .1 .1 .0) (k .before .front .given .0 .1 .1 .1 .0) =
     rw (← edge-is (around k .before)) (sym (k .before .before .before .piece-at .ensures) ∙ k .before .front .given .1) in
-    standing-step 1 (a .m .key) (a .n) (a .ib .now) (o .i) (o .right) (o .before) (o .inv .1 .ref) (o .inv .1 .standing) (more (k .before .before .before .before)) (k .before .front .given .0 .0) (k .before .front .given .0 .1 .0) (k .before .front .given .0 .1 .1 .0) (k .before .front .given .0 .1 .1 .1 .0) p
+    standing-step 1 (a .m .key) (a .n) (a .ib .now) (o .i) (o .right) (o .before) (o .inv .1 .ref) (o .inv .1 .standing) (more (k .before .before .before .before))
+    (k .before .front .given .0 .0) (k .before .front .given .0 .1 .0) (k .before .front .given .0 .1 .1 .0) (k .before .front .given .0 .1 .1 .1 .0) p
 
 read-two-requires : tie.Need-read-two-requires Inv-loop μ-loop
-read-two-requires c κs = omega (arith, c .before .before .pre .1, c .before .before .pre .0 .large)
+read-two-requires c κs = omega (arith, c .before .before .pre .1, fits-large (c .before .before .pre .0))
 
 sub-right : tie.Need-sub-right Inv-loop μ-loop
-sub-right c = omega (arith, c .before .before .before .pre .1, c .before .before .before .pre .0 .large)
+sub-right c = omega (arith, c .before .before .before .pre .1, fits-large (c .before .before .before .pre .0))
 
 loop-holds : tie.Need-loop-holds Inv-loop μ-loop
 loop-holds c =
     let s = c .before .before .before in
-    let a = s .args in
-    (refl, setting-out (a .m) (a .n) (a .area .now) (a .ib .now) (a .worst) (replicate 255 255) (standing-start 1 (a .m .key) (a .n) (a .ib .now) (s .pre .2)) (holding-start (a .m .key) 255 (s .pre .0 .key-most)))
+    let a = s .args in (
+      refl,
+      setting-out (a .m) (a .n) (a .area .now) (a .ib .now) (a .worst) (replicate 255 255) (standing-start 1 (a .m .key) (a .n) (a .ib .now) (s .pre .2))
+          (holding-start (a .m .key) 255 (s .pre .0 .key-most)),
+    )
 
 piece-at-requires : tie.Need-piece-at-requires Inv-loop μ-loop
 piece-at-requires c κs = (omega arith, omega arith, c .before .loop .inv .1 .standing .inside, omega (arith, c .before .before .read-two .ensures .1))
@@ -64,10 +83,11 @@ enum-told c = search needs
 
 returns : tie.Need-returns Inv-loop μ-loop
 returns c =
-    let s = c .before .before .before .before .before .before .before .before in
+    let s = start-from-piece-at (c .before .before) in
     let a = s .args in
     let o = c .before .before .before .before .loop in
-    absurd (standing-good 1 (a .m .key) (a .n) (a .ib .now) (o .i) (o .right) (o .before) (o .inv .1 .ref) (o .inv .1 .standing) (more (c .before .before .before)) (rw (← edge-is (c .before .before .before .before .before)) (sym (c .before .before .piece-at .ensures) ∙ c .enum-told .given .1)))
+    absurd (standing-good 1 (a .m .key) (a .n) (a .ib .now) (o .i) (o .right) (o .before) (o .inv .1 .ref) (o .inv .1 .standing) (more (c .before .before .before))
+    (rw (← edge-is (c .before .before .before .before .before)) (sym (c .before .before .piece-at .ensures) ∙ c .enum-told .given .1)))
 
 add-a : tie.Need-add-a Inv-loop μ-loop
 add-a c =
@@ -94,7 +114,7 @@ add-e c =
     let a = s .args in
     let o = around k .loop in
     let g = k .before .front .given in
-    omega (arith, data-small (a .m) (a .n) (a .area .now) (s .pre .0) (g .0 .1 .1 .1 .0) (stepped k .within), s .pre .0 .small)
+    omega (arith, data-small (a .m) (a .n) (a .area .now) (s .pre .0) (g .0 .1 .1 .1 .0) (stepped k .within), fits-small (s .pre .0))
 
 sub-entry-seen : tie.Need-sub-entry-seen Inv-loop μ-loop
 sub-entry-seen c = omega arith
@@ -137,14 +157,14 @@ entry-seen-requires c κs =
     let g = k .before .front .given in
     let z = length-lent (a .m) (a .n) (a .area .now) (s .pre .0) (g .0 .1 .1 .1 .0) (stepped k .within) in
     let q = stepped k in
-    (omega (arith, z, s .pre .0 .large), omega (arith, z, s .pre .0 .small), s .pre .0 .key-some, s .pre .0 .inside, o .inv .1 .holding .whole, q .good .fits, q .inside)
+    (omega (arith, z, fits-large (s .pre .0)), omega (arith, z, fits-small (s .pre .0)), s .pre .0 .key-some, s .pre .0 .key-inside, o .inv .1 .holding .whole, q .good .fits, q .inside)
 
 noted-requires : tie.Need-noted-requires Inv-loop μ-loop
 noted-requires c κs = search needs
 
 add-records : tie.Need-add-records Inv-loop μ-loop
 add-records c =
-    let k = c .before .before .before .before .before .before .before .before in
+    let k = known-told-from-buf2 (c .before .before) in
     let s = start k in
     let a = s .args in
     let o = around k .loop in
@@ -153,7 +173,7 @@ add-records c =
 
 add-before : tie.Need-add-before Inv-loop μ-loop
 add-before c =
-    let k = c .before .before .before .before .before .before .before .before in
+    let k = known-told-from-buf2 (c .before .before) in
     let s = start k in
     let a = s .args in
     let o = around k .loop in
@@ -162,7 +182,7 @@ add-before c =
 
 add-i : tie.Need-add-i Inv-loop μ-loop
 add-i c =
-    let k = c .before .before .before .before .before .before .before .before in
+    let k = known-told-from-buf2 (c .before .before) in
     let a = start k .args in
     omega (arith, around k .loop .inv .1 .standing .few, entries-count 1 (a .n) (a .ib .now), start k .pre .0 .few)
 
@@ -171,15 +191,18 @@ loop-less c = omega arith
 
 loop-again : tie.Need-loop-again Inv-loop μ-loop
 loop-again c =
-    let k = c .before .before .before .before .before .before .before .before in
+    let k = known-told-from-buf2 (c .before .before) in
     let s = start k in
     let a = s .args in
     let o = around k .loop in
     let g = k .before .front .given in
     let q = c .before .before .before .entry-seen in
-    let z = onward (a .m) (a .n) (a .area .now) (a .ib .now) (a .worst) (o .buf) (o .right) (o .before) (o .i) (o .lowest) (o .records) (o .inv .1) (g .0 .0) (g .0 .1 .0) (g .0 .1 .1 .0) (g .0 .1 .1 .1 .0) (stepped k) in
-    let lo = low-held (a .m) (a .n) (a .area .now) (a .ib .now) (a .worst) (o .buf) (o .right) (o .before) (o .i) (o .lowest) (o .records) (o .inv .1) (g .0 .0) (g .0 .1 .0) (g .0 .1 .1 .0) (g .0 .1 .1 .1 .0) (stepped k) in
-    let fr = front-held (a .m) (a .n) (a .area .now) (a .ib .now) (a .worst) (o .buf) (o .right) (o .before) (o .i) (o .lowest) (o .records) (o .inv .1) (g .0 .0) (g .0 .1 .0) (g .0 .1 .1 .0) (g .0 .1 .1 .1 .0) (stepped k) in
+    let z = onward (a .m) (a .n) (a .area .now) (a .ib .now) (a .worst) (o .buf) (o .right) (o .before) (o .i) (o .lowest) (o .records) (o .inv .1) (g .0 .0) (g .0 .1 .0)
+    (g .0 .1 .1 .0) (g .0 .1 .1 .1 .0) (stepped k) in
+    let lo = low-held (a .m) (a .n) (a .area .now) (a .ib .now) (a .worst) (o .buf) (o .right) (o .before) (o .i) (o .lowest) (o .records) (o .inv .1) (g .0 .0)
+    (g .0 .1 .0) (g .0 .1 .1 .0) (g .0 .1 .1 .1 .0) (stepped k) in
+    let fr = front-held (a .m) (a .n) (a .area .now) (a .ib .now) (a .worst) (o .buf) (o .right) (o .before) (o .i) (o .lowest) (o .records) (o .inv .1) (g .0 .0)
+    (g .0 .1 .0) (g .0 .1 .1 .0) (g .0 .1 .1 .1 .0) (stepped k) in
     let d = lent-data (a .m) (a .n) (a .area .now) (s .pre .0) (g .0 .1 .1 .1 .0) (stepped k .within) in
     let e = rw (lo, fr, d) at (q .ensures .0) in
     let n = rw d at (q .ensures .1 .0 .0) in

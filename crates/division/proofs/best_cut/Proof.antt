@@ -1,9 +1,14 @@
-use borrow.Author.Needs.{needs}
-use mathlib.Core.Path.{_≡_, ap, _∙_}
-use native.Mathlib.Omega.{arith}
+-- Invariant: left is the room of the first i lengths; bytes and need are the bytes and the need of the others (record Holds).
+-- best is the best of the cuts 1 to i, or 0 where none of them fits, with what its parts differ in. i is below the number of lengths, or 0.
+-- Bounds on the bytes, the RDFs and the need keep the sums in a usize.
+-- Measure: length lens - i, the lengths that are still on the right.
+-- holds-start: nothing is left of the first cut. holds-on: one length goes from the right part to the left one, and the cut after it is weighed.
 use Prim.Native.Nat.{ℕ, _≤_, _<_, _-_, _+_}
+use mathlib.Core.Path.{_≡_, ap, _∙_}
 use lib.ListN.{length, getD}
+use native.Mathlib.Omega.{arith}
 use denote.Ref.{now}
+use borrow.Author.Needs.{needs}
 use Rattle.room.proofs.Steps.{also-bytes, also-rdfs}
 use Rattle.division.specs.Division.{bestTo, bestCut}
 use Rattle.division.proofs.Turns.{Holds, holds-start, holds-bytes, holds-need, holds-on}

@@ -1,7 +1,9 @@
-use borrow.Author.Needs.{needs}
-use native.Mathlib.Omega.{arith}
+-- need-is: what need_of answers for the room taken is the need of the lengths.
+-- stays, two and three are the ways out of divisionOf: rule 1 where they fit, rule 2 where best_cut gives a cut, rule 3 where it gives 0.
 use mathlib.Core.Path.{_≡_}
+use native.Mathlib.Omega.{arith}
 use denote.Ref.{now}
+use borrow.Author.Needs.{needs}
 use Rattle.room.specs.Room.{need}
 use Rattle.division.proofs.Turns.{stays, three, two}
 use Rattle.division.proofs.divide.Statement.{statement}
@@ -9,10 +11,10 @@ use Rattle.division.proofs.divide.Tie as tie
 
 -- what was counted is the need
 need-is : (c : tie.After-need-of) → c .need-of .result ≡ need (now (c .before .before .before .args .lens))
-need-is c = c .need-of .ensures .1 (now (c .before .before .before .args .lens)) (c .before .taken .ensures .0)
+need-is c = c .need-of .ensures .1 (now (c .before .before .before .args .lens)) (c .before .room-of .ensures .0)
 
-taken-requires : tie.Need-taken-requires
-taken-requires c κs = search needs
+room-of-requires : tie.Need-room-of-requires
+room-of-requires c κs = search needs
 
 need-of-requires : tie.Need-need-of-requires
 need-of-requires c κs = search needs
@@ -42,4 +44,4 @@ returns-3 c =
 pub divide-spec : {M : Type 1} → statement M
 divide-spec =
     tie.close
-    (tie.spec taken-requires need-of-requires returns best-cut-requires returns-2 returns-3)
+    (tie.spec room-of-requires need-of-requires returns best-cut-requires returns-2 returns-3)

@@ -1,6 +1,8 @@
-use borrow.Author.Needs.{needs}
-use native.Mathlib.Omega.{arith}
+-- The five ways out are the cases of weighed: left-large and right-large, where a part does not fit; first-cut, where there is none yet;
+-- nearer-cut, where the parts differ less; no-nearer, where they do not, so on a tie the earlier cut stays.
 use Prim.Native.Nat.{ℕ, _+_, _*_, _≤_}
+use native.Mathlib.Omega.{arith}
+use borrow.Author.Needs.{needs}
 use Rattle.division.proofs.Turns.{left-large, right-large, first-cut, nearer-cut, no-nearer}
 use Rattle.division.proofs.weigh.Statement.{statement}
 use Rattle.division.proofs.weigh.Tie as tie

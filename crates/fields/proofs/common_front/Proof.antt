@@ -1,3 +1,6 @@
+-- Invariant: the common front of the two lists is i bytes plus the common front of what follows place i in both; i is at most the shorter length n.
+-- Measure: n - i, the bytes of the shorter list that are not yet compared.
+-- front-more counts a byte that agrees; front-differs and front-ends say that the front stops at a difference and at the end of a list.
 use Prim.Native.Nat.{_+_, _-_, _≤_}
 use mathlib.Core.Path.{_≡_, _∙_}
 use mathlib.Core.Logic.{⊎-elim, inl, inr}
@@ -15,6 +18,10 @@ Inv-loop a b n i₀ i = (i ≤ n) × (common a b ≡ i + common (drop i a) (drop
 abbrev μ-loop : tie.MeasureT-loop
 μ-loop a b n i₀ i = n - i
 
+-- The states that the proof looks back to, by their names.
+abbrev start-from-loop : tie.In-loop Inv-loop μ-loop → tie.Start Inv-loop μ-loop
+start-from-loop k = k .before .before .before .before .before
+
 shorter-requires : tie.Need-shorter-requires Inv-loop μ-loop
 shorter-requires c κs = search needs
 
@@ -30,7 +37,7 @@ shared-slice-read-if1-2 c = omega arith
 returns : tie.Need-returns Inv-loop μ-loop
 returns c =
     let o = c .before .before .before .before .loop in
-    let x = c .before .before .before .before .before .before .before .before .args in
+    let x = start-from-loop (c .before .before .before) .args in
     let e = front-differs (x .a .now) (x .b .now) (o .i) (omega arith) (omega arith) (c .if1 .taken) in
     (omega (arith, o .inv .1, e), omega arith, omega arith)
 
@@ -43,7 +50,7 @@ loop-less c = omega arith
 loop-again : tie.Need-loop-again Inv-loop μ-loop
 loop-again c =
     let o = c .before .before .before .before .loop in
-    let x = c .before .before .before .before .before .before .before .before .args in
+    let x = start-from-loop (c .before .before .before) .args in
     let e = front-more (x .a .now) (x .b .now) (o .i) (omega arith) (omega arith) (c .if1 .left) in
     (omega arith, omega (arith, o .inv .1, e))
 

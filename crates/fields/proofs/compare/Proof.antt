@@ -1,9 +1,15 @@
+-- The order of two lists is that of what follows their common front, whose length common_front gives.
+-- order-ends, order-shorter and order-longer answer where a list ends there; order-lower and order-higher where the next byte decides.
 use mathlib.Core.Path.{sym}
 use native.Mathlib.Omega.{arith}
-use Rattle.fields.proofs.Fronts.{order-ends, order-shorter, order-longer, order-lower, order-higher}
 use borrow.Author.Needs.{needs}
+use Rattle.fields.proofs.Fronts.{order-ends, order-shorter, order-longer, order-lower, order-higher}
 use Rattle.fields.proofs.compare.Statement.{statement}
 use Rattle.fields.proofs.compare.Tie as tie
+
+-- The states that the proof looks back to, by their names.
+abbrev start-from-else3 : tie.Else3 → tie.Start
+start-from-else3 k = k .before .before .before .before .before
 
 common-front-requires : tie.Need-common-front-requires
 common-front-requires c κs = search needs
@@ -34,13 +40,13 @@ shared-slice-read-if4-2 c = search needs
 
 returns-4 : tie.Need-returns-4
 returns-4 c =
-    let x = c .before .before .before .before .before .before .before .before .args in
+    let x = start-from-else3 (c .before .before .before) .args in
     let i = c .before .before .before .before .before .common-front in
     sym (order-lower (x .a .now) (x .b .now) (i .result) (i .ensures .0) (omega arith) (omega arith) (c .if4 .taken))
 
 returns-5 : tie.Need-returns-5
 returns-5 c =
-    let x = c .before .before .before .before .before .before .before .before .args in
+    let x = start-from-else3 (c .before .before .before) .args in
     let i = c .before .before .before .before .before .common-front in
     sym (order-higher (x .a .now) (x .b .now) (i .result) (i .ensures .0) (omega arith) (omega arith) (c .if4 .left))
 

@@ -1,8 +1,11 @@
-use borrow.Author.Needs.{needs}
-use mathlib.Core.Path.{_≡_, ap, _∙_}
-use native.Mathlib.Omega.{arith}
+-- Invariant: the bytes of new from place i on stand from place at + i on; every other byte is as at entry; i is at most the length of new.
+-- Measure: i, the bytes that are still to be copied.
+-- copy-step: a byte stored just before an earlier splice makes one splice with it.
 use Prim.Native.Nat.{_≤_, _+_}
+use mathlib.Core.Path.{_≡_, ap, _∙_}
 use lib.ListN.{length, drop}
+use native.Mathlib.Omega.{arith}
+use borrow.Author.Needs.{needs}
 use Rattle.fields.specs.Bytes.{splice}
 use Rattle.fields.proofs.Splices.{copy-none, copied-length, copy-step}
 use Rattle.fields.proofs.copy.Statement.{statement}

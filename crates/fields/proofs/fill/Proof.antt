@@ -1,8 +1,11 @@
-use borrow.Author.Needs.{needs}
-use mathlib.Core.Path.{_≡_, ap, _∙_}
-use native.Mathlib.Omega.{arith}
+-- Invariant: the byte stands in every place from i up to the end; every other place is as at entry; i lies between the two ends.
+-- Measure: i, which falls to the first place that is to be filled.
+-- fill-step: a byte stored just before an earlier splice makes one splice with it.
 use Prim.Native.Nat.{_≤_, _-_}
+use mathlib.Core.Path.{_≡_, ap, _∙_}
 use lib.ListN.{length, replicate}
+use native.Mathlib.Omega.{arith}
+use borrow.Author.Needs.{needs}
 use Rattle.fields.specs.Bytes.{splice}
 use Rattle.fields.proofs.Splices.{fill-step, filled-length, filled-none}
 use Rattle.fields.proofs.fill.Statement.{statement}

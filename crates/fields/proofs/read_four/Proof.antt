@@ -1,3 +1,4 @@
+-- number-4: the number in four bytes is that of the first two times 65536, plus that of the last two. Each half is below 65536.
 use native.Mathlib.Omega.{arith}
 use borrow.Author.Needs.{needs}
 use Rattle.fields.proofs.Numbers.{number-4}

@@ -1,3 +1,7 @@
+-- Invariant: x is the number that the first i bytes of the pointer hold; i is at most the width.
+-- Measure: width - i, the bytes that are still to be read.
+-- number-more takes one byte more. Before each turn at most three bytes are read, so number-small keeps x * 256 plus a byte in a usize.
+-- number-below gives the bound of the result, as every byte is below 256.
 use Prim.Native.Nat.{_-_, _≤_}
 use mathlib.Core.Path.{_≡_}
 use native.Mathlib.Omega.{arith}

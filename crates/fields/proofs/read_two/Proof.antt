@@ -1,6 +1,7 @@
+-- The high and the low byte are put together by two-is; each is below 256, so the number is below 65536.
 use native.Mathlib.Omega.{arith}
-use Rattle.fields.proofs.Numbers.{two-is}
 use borrow.Author.Needs.{needs}
+use Rattle.fields.proofs.Numbers.{two-is}
 use Rattle.fields.proofs.read_two.Statement.{statement}
 use Rattle.fields.proofs.read_two.Tie as tie
 

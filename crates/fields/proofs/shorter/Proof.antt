@@ -1,3 +1,4 @@
+-- Arithmetic alone: the test a < b says in each arm that the result is at most both numbers, and it is one of the two.
 use mathlib.Core.Path.{refl}
 use mathlib.Core.Logic.{inl, inr}
 use native.Mathlib.Omega.{arith}

@@ -1,3 +1,7 @@
+-- Invariant: the digits of x from digit i on are stored in their places, every other byte is as at entry (record Stored).
+-- The digits not yet stored are the i digits of left; i is at most the width.
+-- Measure: i, the digits that are still to be stored.
+-- stored-more stores the last digit of left; stored-all: with i = 0 the bytes are those of entry with all digits of x spliced in.
 use Prim.Native.Nat.{_≤_}
 use native.Mathlib.Omega.{arith}
 use borrow.Author.Needs.{needs}

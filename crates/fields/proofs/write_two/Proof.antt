@@ -1,3 +1,4 @@
+-- two-stored: the high digit stored at a place and the low one right after it are one splice of the two digits of x, as x is below 65536.
 use lib.ListN.{length-set}
 use native.Mathlib.Omega.{arith}
 use borrow.Author.Needs.{needs}

@@ -1,14 +1,20 @@
+-- No loop. The comparison of the two fronts gives their order; only Less counts as below (below-is), and Same and Greater don't (not-less).
+-- Both parts have len bytes at least, so that the fronts are len bytes long (length-take-le).
+use mathlib.Core.Path.{sym, ap}
+use mathlib.Core.Bool.{true, false}
+use lib.ListN.{take}
 use lib.Seq.{length-take-le}
+use denote.Ref.{now}
+use borrow.Author.Needs.{needs}
+use Rattle.fields.specs.Order.{isLess}
 use Rattle.fields.proofs.Answers.{not-less}
 use Rattle.index_find.proofs.Finding.{below-is}
-use Rattle.fields.specs.Order.{isLess}
-use denote.Ref.{now}
-use lib.ListN.{take}
-use mathlib.Core.Bool.{true, false}
-use mathlib.Core.Path.{sym, ap}
-use borrow.Author.Needs.{needs}
 use Rattle.index_find.proofs.is_below.Statement.{statement}
 use Rattle.index_find.proofs.is_below.Tie as tie
+
+-- The states that the proof looks back to, by their names.
+abbrev start-from-match-keys1 : tie.At-match-keys1 → tie.Start
+start-from-match-keys1 k = k .before .before .before .before .before .before
 
 slice-aggregate-compare : tie.Need-slice-aggregate-compare
 slice-aggregate-compare c = sym (length-take-le _ _ (c .before .before .before .pre .0))
@@ -27,7 +33,7 @@ returns c = let a = c .before .before .before .before .before .before .args in
     below-is (take (a .len) (now (a .buf))) (take (a .len) (now (a .key))) (c .before .compare .result) false (c .before .compare .ensures) (not-less (c .before .compare .result) (c .match .keys2))
 
 returns-2 : tie.Need-returns-2
-returns-2 c = let a = c .before .before .before .before .before .before .before .args in
+returns-2 c = let a = start-from-match-keys1 (c .before) .args in
     below-is (take (a .len) (now (a .buf))) (take (a .len) (now (a .key))) (c .before .before .compare .result) true (c .before .before .compare .ensures) (ap isLess (c .enum-told .given .1))
 
 pub is-below-spec : {M : Type 1} → statement M

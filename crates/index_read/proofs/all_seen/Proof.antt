@@ -1,10 +1,12 @@
-use Rattle.index_read.specs.Walk.{allSeen}
-use Rattle.index_read.proofs.Marking.{seen-more, seen-not}
-use native.Mathlib.Omega.{arith}
+-- Invariant: i is at most n, and each number below i is marked.
+-- Measure: the numbers from i to n, not looked at yet.
 use Prim.Native.Nat.{_-_, _≤_}
-use mathlib.Core.Bool.{true}
 use mathlib.Core.Path.{_≡_, refl, sym}
+use mathlib.Core.Bool.{true}
+use native.Mathlib.Omega.{arith}
 use borrow.Author.Needs.{needs}
+use Rattle.index_read.specs.AidWalk.{allSeen}
+use Rattle.index_read.proofs.Marking.{seen-more, seen-not}
 use Rattle.index_read.proofs.all_seen.Statement.{statement}
 use Rattle.index_read.proofs.all_seen.Tie as tie
 

@@ -1,8 +1,10 @@
-use Rattle.index_read.proofs.Header.{base-is, product-small}
-use denote.Ref.{now}
+-- The base RBA, read at place 4, is the first four of the kept bytes (base-is by base-kept), so the code's test is baseFine.
+-- Nothing overflows: at most 256 intervals of at most 32768 bytes (product-small), and the base is below 2^32.
 use lib.ListN.{length}
 use native.Mathlib.Omega.{arith}
+use denote.Ref.{now}
 use borrow.Author.Needs.{needs}
+use Rattle.index_read.proofs.Header.{base-is, product-small}
 use Rattle.index_read.proofs.base_fine.Statement.{statement}
 use Rattle.index_read.proofs.base_fine.Tie as tie
 

@@ -1,26 +1,59 @@
-use Rattle.index_read.specs.Walk.{placesOf}
-use Rattle.index_read.specs.declared.Places.the-variants.{At}
-use Rattle.index_read.proofs.Judging.{no-frame, no-base, no-places, free-inside, free-few, last-small, no-free, counts, no-chain, no-all, all-fine}
-use Rattle.index.specs.Rules.{baseFine}
-use Rattle.index.specs.Reading.{frame}
-use Rattle.fields.specs.Bytes.{part}
-use borrow.Author.Tests.{not-true, not-false}
-use denote.Ref.{now}
+-- No loop. sound-by does the work: where frame, base and displacements are in order, soundness is what the two walks and the last loop test.
+-- A mark is a count, 0 or 1: numbers unmarked when met, and all marked in the end, are named once each (named-by-marks).
+-- The chain of entries passes the tests of the walk exactly where each rule holds of all the entries (chain-is).
+-- Each refusal contradicts one part of soundness (no-frame to no-all); all-fine gives the counts of free intervals and of entries.
+use mathlib.Core.Path.{_≡_, sym, _∙_}
+use mathlib.Core.Bool.{true}
 use lib.ListN.{length}
 use native.Mathlib.Omega.{arith}
-use mathlib.Core.Bool.{true}
-use mathlib.Core.Path.{_≡_, sym, _∙_}
+use denote.Ref.{now}
+use borrow.Author.Tests.{not-true, not-false}
 use borrow.Author.Needs.{needs}
+use Rattle.fields.specs.Bytes.{part}
+use Rattle.index.specs.Rules.{baseFine}
+use Rattle.index.specs.Reading.{frame}
+use Rattle.index_read.specs.AidWalk.{placesOf}
+use Rattle.index_read.specs.declared.Places.the-variants.{At}
+use Rattle.index_read.proofs.Judging.{no-frame, no-base, no-places, free-inside, free-few, last-small, no-free, counts, no-chain, no-all, all-fine}
 use Rattle.index_read.proofs.check.Statement.{statement}
 use Rattle.index_read.proofs.check.Tie as tie
 
-frames : (c : tie.After-known-told) → true ≡ frame 1 (now (c .before .before .before .before .before .before .before .before .before .args .ib))
-frames c = sym (not-false _ (c .before .before .before .before .before .before .if1 .left)) ∙ c .before .before .before .before .before .before .before .framed .ensures
+-- The states that the proof looks back to, by their names.
+abbrev start-from-placed : tie.After-placed → tie.Start
+start-from-placed k = k .before .before .before .before .before .before
 
-bases : (c : tie.After-known-told) → true ≡ baseFine (length (now (c .before .before .before .before .before .before .before .before .before .args .ib))) (c .before .before .before .before .before .before .before .before .before .args .n) (part (now (c .before .before .before .before .before .before .before .before .before .args .ib)) 4 12)
+abbrev framed-from-free : tie.After-free → tie.After-framed
+framed-from-free k = k .before .before .before .before .before .before
+
+abbrev start-from-walk-free : tie.After-walk-free → tie.Start
+start-from-walk-free k = start-from-placed (k .before .before .before .before .before)
+
+abbrev known-told-from-walk-entries : tie.After-walk-entries → tie.After-known-told
+known-told-from-walk-entries k = k .before .before .before .before .before
+
+abbrev free-from-walk-entries : tie.After-walk-entries → tie.After-free
+free-from-walk-entries k = k .before .before .before .before .before .before
+
+abbrev start-from-all-seen : tie.After-all-seen → tie.Start
+start-from-all-seen k = start-from-walk-free (k .before .before .before .before .before .before)
+
+abbrev walk-free-from-all-seen : tie.After-all-seen → tie.After-walk-free
+walk-free-from-all-seen k = k .before .before .before .before .before .before
+
+abbrev fresh-from-else4 : tie.Else4 → tie.After-fresh
+fresh-from-else4 k = k .before .before .before .before .before .before
+
+frames : (c : tie.After-known-told) → true ≡ frame 1 (now (start-from-placed (c .before .before .before) .args .ib))
+frames c = sym (not-false _ (c .before .before .before .before .before .before .if1 .left)) ∙ framed-from-free (c .before) .framed .ensures
+
+bases : (c : tie.After-known-told)
+    → true ≡ baseFine (length (now (start-from-placed (c .before .before .before) .args .ib))) (start-from-placed (c .before .before .before) .args .n)
+    (part (now (start-from-placed (c .before .before .before) .args .ib)) 4 12)
 bases c = sym (not-false _ (c .before .before .before .before .if2 .left)) ∙ c .before .before .before .before .before .base-fine .ensures
 
-places : (c : tie.After-known-told) → placesOf 1 (c .before .before .before .before .before .before .before .before .before .args .n) (now (c .before .before .before .before .before .before .before .before .before .args .ib)) ≡ At (c .before .free .given .0 .0) (c .before .free .given .0 .1 .0)
+places : (c : tie.After-known-told)
+    → placesOf 1 (start-from-placed (c .before .before .before) .args .n) (now (start-from-placed (c .before .before .before) .args .ib)) ≡ At (c .before .free .given .0 .0)
+    (c .before .free .given .0 .1 .0)
 places c = sym (c .before .before .before .placed .ensures) ∙ c .before .free .given .1
 
 framed-requires : tie.Need-framed-requires
@@ -47,76 +80,95 @@ enum-told : tie.Need-enum-told
 enum-told c = search needs
 
 returns-3 : tie.Need-returns-3
-returns-3 c = let a = c .before .before .before .before .before .before .before .before .args in
+returns-3 c = let a = start-from-placed (c .before .before) .args in
     no-places (a .key) (a .n) (now (a .ib)) (sym (c .before .before .placed .ensures) ∙ c .enum-told .given .1)
 
 fresh-requires : tie.Need-fresh-requires
 fresh-requires c κs = search needs
 
 walk-free-requires : tie.Need-walk-free-requires
-walk-free-requires c κs = let a = c .before .before .before .before .before .before .before .before .before .before .args in
-    let p = c .before .before .before .before .before .before .before .before .before .before .pre in
+walk-free-requires c κs = let a = start-from-placed (c .before .before .before .before) .args in
+    let p = start-from-placed (c .before .before .before .before) .pre in
     let q = c .before in
     let h = c .before .before .free .given .0 in
     let few = free-few (a .key) (a .n) (now (a .ib)) (frames q) (bases q) (p .4) (h .0) (h .1 .0) (places q) in
     (omega arith, omega arith, free-inside (a .key) (a .n) (now (a .ib)) (frames q) (bases q) (p .4) (h .0) (h .1 .0) (places q) (p .0), p .4, rw (c .fresh .ensures) (omega (arith, few, p .4)))
 
 returns-4 : tie.Need-returns-4
-returns-4 c = let a = c .before .before .before .before .before .before .before .before .before .before .before .before .before .args in
-    let p = c .before .before .before .before .before .before .before .before .before .before .before .before .before .pre in
+returns-4 c = let a = start-from-walk-free (c .before .before) .args in
+    let p = start-from-walk-free (c .before .before) .pre in
     let q = c .before .before .before .before in
     let h = c .before .before .before .before .before .free .given .0 in
-    no-free (a .key) (a .n) (now (a .ib)) (frames q) (bases q) (p .4) (h .0) (h .1 .0) (places q) (c .before .before .before .fresh .result) (c .before .before .before .fresh .ensures) (sym (not-true _ (c .if3 .taken)) ∙ c .before .before .walk-free .ensures .0)
+    no-free (a .key) (a .n) (now (a .ib)) (frames q) (bases q) (p .4) (h .0) (h .1 .0) (places q) (c .before .before .before .fresh .result) (c .before .before .before .fresh .ensures)
+    (sym (not-true _ (c .if3 .taken)) ∙ c .before .before .walk-free .ensures .0)
 
 sub-walk-entries : tie.Need-sub-walk-entries
-sub-walk-entries c = let a = c .before .before .before .before .before .before .before .before .before .before .before .before .before .args in
+sub-walk-entries c = let a = start-from-walk-free (c .before .before) .args in
     let q = c .before .before .before .before in
     let h = c .before .before .before .before .before .free .given .0 in
-    free-few (a .key) (a .n) (now (a .ib)) (frames q) (bases q) (c .before .before .before .before .before .before .before .before .before .before .before .before .before .pre .4) (h .0) (h .1 .0) (places q)
+    free-few (a .key) (a .n) (now (a .ib)) (frames q) (bases q) (start-from-walk-free (c .before .before) .pre .4) (h .0) (h .1 .0) (places q)
 
 walk-entries-requires : tie.Need-walk-entries-requires
-walk-entries-requires c κs = let a = c .before .before .before .before .before .before .before .before .before .before .before .before .before .args in
-    let p = c .before .before .before .before .before .before .before .before .before .before .before .before .before .pre in
+walk-entries-requires c κs = let a = start-from-walk-free (c .before .before) .args in
+    let p = start-from-walk-free (c .before .before) .pre in
     let q = c .before .before .before .before in
     let h = c .before .before .before .before .before .free .given .0 in
     let w = c .before .before .walk-free in
-    let ok : w .result .ok ≡ true = not-false _ (c .if3 .left) in
-    (omega arith, omega arith, omega (arith, p .0), last-small (a .key) (a .n) (now (a .ib)) (frames q) (bases q) (p .4) (h .0) (h .1 .0) (places q) (p .1), p .2, p .3, p .4, omega (arith, p .4, counts (a .key) (a .n) (now (a .ib)) (frames q) (bases q) (p .4) (h .0) (h .1 .0) (places q) (c .before .before .before .fresh .result) (c .before .before .before .fresh .ensures) (sym ok ∙ w .ensures .0) (w .result .marks) (w .ensures .1 ok)))
+    let ok : w .result .ok ≡ true = not-false _ (c .if3 .left) in (
+      omega arith,
+      omega arith,
+      omega (arith, p .0),
+      last-small (a .key) (a .n) (now (a .ib)) (frames q) (bases q) (p .4) (h .0) (h .1 .0) (places q) (p .1),
+      p .2,
+      p .3,
+      p .4,
+      omega (
+        arith,
+        p .4,
+        counts (a .key) (a .n) (now (a .ib)) (frames q) (bases q) (p .4) (h .0) (h .1 .0) (places q) (c .before .before .before .fresh .result)
+            (c .before .before .before .fresh .ensures) (sym ok ∙ w .ensures .0) (w .result .marks) (w .ensures .1 ok),
+      ),
+    )
 
 returns-5 : tie.Need-returns-5
-returns-5 c = let a = c .before .before .before .before .before .before .before .before .before .before .before .before .before .before .before .before .args in
-    let p = c .before .before .before .before .before .before .before .before .before .before .before .before .before .before .before .before .pre in
-    let q = c .before .before .before .before .before .before .before in
-    let h = c .before .before .before .before .before .before .before .before .free .given .0 in
+returns-5 c = let a = start-from-walk-free (c .before .before .before .before .before) .args in
+    let p = start-from-walk-free (c .before .before .before .before .before) .pre in
+    let q = known-told-from-walk-entries (c .before .before) in
+    let h = free-from-walk-entries (c .before .before) .free .given .0 in
     let w = c .before .before .before .before .before .walk-free in
     let v = c .before .before .walk-entries in
     let ok : w .result .ok ≡ true = not-false _ (c .before .before .before .if3 .left) in
-    no-chain (a .key) (a .n) (now (a .ib)) (frames q) (bases q) (p .4) (h .0) (h .1 .0) (places q) (c .before .before .before .before .before .before .fresh .result) (c .before .before .before .before .before .before .fresh .ensures) (sym ok ∙ w .ensures .0) (w .result .marks) (w .ensures .1 ok) (sym (not-true _ (c .if4 .taken)) ∙ v .ensures .0)
+    no-chain (a .key) (a .n) (now (a .ib)) (frames q) (bases q) (p .4) (h .0) (h .1 .0) (places q) (c .before .before .before .before .before .before .fresh .result)
+    (c .before .before .before .before .before .before .fresh .ensures) (sym ok ∙ w .ensures .0) (w .result .marks) (w .ensures .1 ok) (sym (not-true _ (c .if4 .taken)) ∙ v .ensures .0)
 
 all-seen-requires : tie.Need-all-seen-requires
-all-seen-requires c κs = c .before .before .before .before .before .before .before .before .before .before .before .before .before .before .before .before .pre .4
+all-seen-requires c κs = start-from-walk-free (c .before .before .before .before .before) .pre .4
 
 returns-6 : tie.Need-returns-6
-returns-6 c = let a = c .before .before .before .before .before .before .before .before .before .before .before .before .before .before .before .before .before .before .args in
-    let p = c .before .before .before .before .before .before .before .before .before .before .before .before .before .before .before .before .before .before .pre in
-    let q = c .before .before .before .before .before .before .before .before .before in
-    let h = c .before .before .before .before .before .before .before .before .before .before .free .given .0 in
-    let w = c .before .before .before .before .before .before .before .walk-free in
+returns-6 c = let a = start-from-all-seen (c .before) .args in
+    let p = start-from-all-seen (c .before) .pre in
+    let q = known-told-from-walk-entries (c .before .before .before .before) in
+    let h = free-from-walk-entries (c .before .before .before .before) .free .given .0 in
+    let w = walk-free-from-all-seen (c .before) .walk-free in
     let v = c .before .before .before .before .walk-entries in
     let ok : w .result .ok ≡ true = not-false _ (c .before .before .before .before .before .if3 .left) in
     let fine : v .result .ok ≡ true = not-false _ (c .before .before .if4 .left) in
-    no-all (a .key) (a .n) (now (a .ib)) (frames q) (bases q) (p .4) (h .0) (h .1 .0) (places q) (c .before .before .before .before .before .before .before .before .fresh .result) (c .before .before .before .before .before .before .before .before .fresh .ensures) (sym ok ∙ w .ensures .0) (w .result .marks) (w .ensures .1 ok) (sym fine ∙ v .ensures .0) (v .result .marks) (v .ensures .1 fine) (sym (not-true _ (c .if5 .taken)) ∙ c .before .all-seen .ensures)
+    no-all (a .key) (a .n) (now (a .ib)) (frames q) (bases q) (p .4) (h .0) (h .1 .0) (places q) (fresh-from-else4 (c .before .before) .fresh .result)
+    (fresh-from-else4 (c .before .before) .fresh .ensures) (sym ok ∙ w .ensures .0) (w .result .marks) (w .ensures .1 ok) (sym fine ∙ v .ensures .0) (v .result .marks)
+    (v .ensures .1 fine) (sym (not-true _ (c .if5 .taken)) ∙ c .before .all-seen .ensures)
 
 returns-7 : tie.Need-returns-7
-returns-7 c = let a = c .before .before .before .before .before .before .before .before .before .before .before .before .before .before .before .before .before .before .args in
-    let p = c .before .before .before .before .before .before .before .before .before .before .before .before .before .before .before .before .before .before .pre in
-    let q = c .before .before .before .before .before .before .before .before .before in
-    let h = c .before .before .before .before .before .before .before .before .before .before .free .given .0 in
-    let w = c .before .before .before .before .before .before .before .walk-free in
+returns-7 c = let a = start-from-all-seen (c .before) .args in
+    let p = start-from-all-seen (c .before) .pre in
+    let q = known-told-from-walk-entries (c .before .before .before .before) in
+    let h = free-from-walk-entries (c .before .before .before .before) .free .given .0 in
+    let w = walk-free-from-all-seen (c .before) .walk-free in
     let v = c .before .before .before .before .walk-entries in
     let ok : w .result .ok ≡ true = not-false _ (c .before .before .before .before .before .if3 .left) in
     let fine : v .result .ok ≡ true = not-false _ (c .before .before .if4 .left) in
-    all-fine (a .key) (a .n) (now (a .ib)) (frames q) (bases q) (p .4) (h .0) (h .1 .0) (places q) (c .before .before .before .before .before .before .before .before .fresh .result) (c .before .before .before .before .before .before .before .before .fresh .ensures) (sym ok ∙ w .ensures .0) (w .result .marks) (w .ensures .1 ok) (sym fine ∙ v .ensures .0) (v .result .marks) (v .ensures .1 fine) (sym (not-false _ (c .if5 .left)) ∙ c .before .all-seen .ensures)
+    all-fine (a .key) (a .n) (now (a .ib)) (frames q) (bases q) (p .4) (h .0) (h .1 .0) (places q) (fresh-from-else4 (c .before .before) .fresh .result)
+    (fresh-from-else4 (c .before .before) .fresh .ensures) (sym ok ∙ w .ensures .0) (w .result .marks) (w .ensures .1 ok) (sym fine ∙ v .ensures .0) (v .result .marks)
+    (v .ensures .1 fine) (sym (not-false _ (c .if5 .left)) ∙ c .before .all-seen .ensures)
 
 pub check-spec : {M : Type 1} → statement M
 check-spec =

@@ -1,6 +1,8 @@
-use Rattle.index_read.proofs.Entry.{last-is}
+-- The last of the first len bytes stands at place len - 1 in the whole buffer and in its first len bytes alike (last-is).
+-- Where len is 0 nothing is there, and 0 is the answer by definition.
 use denote.Ref.{now}
 use borrow.Author.Needs.{needs}
+use Rattle.index_read.proofs.Entry.{last-is}
 use Rattle.index_read.proofs.last_of.Statement.{statement}
 use Rattle.index_read.proofs.last_of.Tie as tie
 

@@ -1,11 +1,13 @@
-use Rattle.index_read.proofs.Entry.{low-here, low-on, low-none}
-use Rattle.index_read.specs.Walk.{someLow}
-use denote.Ref.{now}
-use lib.ListN.{length, drop}
-use native.Mathlib.Omega.{arith}
+-- Invariant: i is within the list, and some byte of the whole is below X'FF' exactly where one of those from place i on is.
+-- Measure: the bytes from place i on.
 use Prim.Native.Nat.{_-_, _≤_}
 use mathlib.Core.Path.{_≡_, refl, sym, _∙_}
+use lib.ListN.{length, drop}
+use native.Mathlib.Omega.{arith}
+use denote.Ref.{now}
 use borrow.Author.Needs.{needs}
+use Rattle.index_read.specs.AidWalk.{someLow}
+use Rattle.index_read.proofs.Entry.{low-here, low-on, low-none}
 use Rattle.index_read.proofs.some_low.Statement.{statement}
 use Rattle.index_read.proofs.some_low.Tie as tie
 

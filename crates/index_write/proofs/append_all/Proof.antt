@@ -1,7 +1,11 @@
+-- Invariant (Filled): the entries added so far, and the next `left` ones of the record read after the newest separator of the scratch, are all
+-- the entries to add. The next ends at the cursor's `right` and can be read; the newest separator is that of the entry before it.
+-- The scratch has room for `left` entries more, and its lists are as long as at the start.
+-- Measure: the entries left to add.
 use Prim.Native.Nat.{_-_}
 use native.Mathlib.Omega.{arith}
 use denote.Ref.{now}
-use Rattle.index_write.specs.Flat.{newest}
+use Rattle.index_write.specs.AidFlat.{newest}
 use Rattle.index_write.proofs.Filling.{fill-done, Filled, fill-start, fill-next, fill-front, fill-turn}
 use Rattle.index_write.proofs.Walking.{Next}
 use Rattle.index_write.proofs.append_all.Statement.{statement}

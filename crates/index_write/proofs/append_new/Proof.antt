@@ -1,7 +1,9 @@
+-- No loop. The separator goes behind the bytes filled, its length and its number behind the entries; together that is one entry added (added-one).
+-- Roomy has a place for one entry more in each list; a separator of at most 255 bytes has its length in one byte.
 use mathlib.Core.Path.{refl}
 use lib.ListN.{length}
-use borrow.Author.Needs.{needs}
 use denote.Ref.{now}
+use borrow.Author.Needs.{needs}
 use Rattle.index_write.proofs.Adding.{added-one}
 use Rattle.index_write.proofs.append_new.Statement.{statement}
 use Rattle.index_write.proofs.append_new.Tie as tie

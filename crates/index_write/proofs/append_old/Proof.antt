@@ -1,8 +1,10 @@
+-- No loop. put_separator makes the separator behind the bytes filled; with its length and its number that is one entry added (added-one).
+-- It has at most 255 bytes by the contract, so its length fits a byte. The next entry ends where this one's characters begin.
 use mathlib.Core.Path.{refl}
 use lib.ListN.{drop}
 use native.Mathlib.Omega.{arith}
-use borrow.Author.Needs.{needs}
 use denote.Ref.{now}
+use borrow.Author.Needs.{needs}
 use Rattle.index.specs.Reading.{pieceAt}
 use Rattle.index.specs.Pieces.{spelt}
 use Rattle.index_write.proofs.Adding.{added-one}

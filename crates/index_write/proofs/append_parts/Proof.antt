@@ -1,18 +1,22 @@
+-- No loop. The new separators come first, the old one last. Its F still counts from the entry before, whose separator lies left of all that
+-- was added and so is unchanged: the old separator is put together as if nothing had come between (part-done, by spelt-is).
+-- The numbers are the entry's own for the first part, then those from the right end of the free ones, as partsOf has it (parts-two, parts-three).
+-- Each part takes one place and at most 255 bytes, so the room falls by one entry at a time (room-after).
 use Prim.Native.Nat.{_-_}
-use mathlib.Core.List.{[], _∷_}
-use mathlib.Core.Bool.{true, false}
 use mathlib.Core.Path.{_≡_, _∙_}
+use mathlib.Core.Bool.{true, false}
+use mathlib.Core.List.{[], _∷_}
 use lib.ListN.{length}
 use native.Mathlib.Omega.{arith}
+use denote.Ref.{now}
 use borrow.Author.Tests.{not-true, not-false}
 use borrow.Author.Needs.{needs}
-use denote.Ref.{now}
 use Rattle.fields.specs.Bytes.{number}
 use Rattle.index.specs.Reading.{pieceAt}
 use Rattle.index.specs.Pieces.{spelt}
-use Rattle.index.proofs.Inserting.{entry}
-use Rattle.index_write.specs.Flat.{Roomy, Added, newest}
-use Rattle.index_write.specs.Divided.{cuts}
+use Rattle.index.specs.Meaning.{entry}
+use Rattle.index.specs.Divided.{cuts}
+use Rattle.index_write.specs.AidFlat.{Roomy, Added, newest}
 use Rattle.index_write.proofs.Parting.{part-done, added-then, part-next, part-requires, room-after, room-kept, cuts-some, parts-two, parts-three}
 use Rattle.index_write.proofs.Walking.{Next}
 use Rattle.index_write.proofs.append_parts.Statement.{statement}

@@ -1,6 +1,8 @@
+-- The separator of a cut is the common front and one byte more (cut-inside). Where the left key ends with the common front, it is that
+-- key as a whole (cut-whole).
 use native.Mathlib.Omega.{arith}
-use borrow.Author.Needs.{needs}
 use denote.Ref.{now}
+use borrow.Author.Needs.{needs}
 use Rattle.index_write.proofs.Putting.{cut-inside, cut-whole}
 use Rattle.index_write.proofs.cut_length.Statement.{statement}
 use Rattle.index_write.proofs.cut_length.Tie as tie

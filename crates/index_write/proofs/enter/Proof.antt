@@ -1,3 +1,4 @@
+-- A single store at a place within the list is that place spliced (set-one). Length and number fit their widths by the contract.
 use native.Mathlib.Omega.{arith}
 use borrow.Author.Needs.{needs}
 use Rattle.index_write.proofs.Putting.{set-one}

@@ -1,6 +1,8 @@
+-- The entry's size is the pointer, F, L and what the separator has behind the common front (size-is).
+-- A separator of at most 255 bytes makes at most width + 257.
 use native.Mathlib.Omega.{arith}
-use borrow.Author.Needs.{needs}
 use denote.Ref.{now}
+use borrow.Author.Needs.{needs}
 use Rattle.index_write.proofs.Measuring.{size-is}
 use Rattle.index_write.proofs.entry_size.Statement.{statement}
 use Rattle.index_write.proofs.entry_size.Tie as tie

@@ -1,11 +1,15 @@
+-- No loop. After spread the scratch holds the new entries from its front on, and they are read from there as they were put in:
+-- what size_entries counts is their size (size-held), and their lengths add up to the bytes of the separators (total-held).
+-- The new entries are as many as n less the free numbers left (new-many), so n less the entries counts the free numbers (prepared).
+-- The separators fit the scratch, at most 255 bytes each (new-bytes); at most 256 entries of at most 258 bytes can't overflow the size.
 use Prim.Native.Nat.{_≤_}
 use mathlib.Core.Path.{_≡_, sym}
-use lib.Seq.{length-take-le}
 use lib.ListN.{length}
+use lib.Seq.{length-take-le}
 use native.Mathlib.Omega.{arith}
-use borrow.Author.Needs.{needs}
 use denote.Ref.{now}
-use Rattle.index_write.specs.Divided.{cuts, newMeaning}
+use borrow.Author.Needs.{needs}
+use Rattle.index.specs.Divided.{cuts, newMeaning}
 use Rattle.index_write.proofs.Spreading.{new-many, new-bytes, prepared}
 use Rattle.index_write.proofs.Measuring.{total-held, size-held}
 use Rattle.index_write.proofs.prepare.Statement.{statement}

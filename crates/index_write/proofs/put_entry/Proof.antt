@@ -1,8 +1,11 @@
+-- No loop. The characters after the common front, then F, L and the pointer, stored one behind the other, are the entry's bytes (entry-put).
+-- They end at place r, since they are as many as entrySize says (entry-fits, entry-place).
+-- A separator has at most 255 bytes, so F and L fit a byte each.
 use mathlib.Core.Path.{_∙_}
 use lib.ListN.{length-set}
 use native.Mathlib.Omega.{arith}
-use borrow.Author.Needs.{needs}
 use denote.Ref.{now}
+use borrow.Author.Needs.{needs}
 use Rattle.index_write.proofs.Writing.{entry-fits, entry-place, entry-copy, entry-put}
 use Rattle.index_write.proofs.put_entry.Statement.{statement}
 use Rattle.index_write.proofs.put_entry.Tie as tie

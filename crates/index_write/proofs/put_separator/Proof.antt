@@ -1,6 +1,9 @@
+-- No loop. F bytes of the separator before, then the entry's L characters, stored one behind the other, are the separator that the
+-- entry spells (separator-put); it is F + L bytes long (separator-long).
+-- Those F bytes end at the place of the new separator or before, so that storing it doesn't reach them.
 use native.Mathlib.Omega.{arith}
-use borrow.Author.Needs.{needs}
 use denote.Ref.{now}
+use borrow.Author.Needs.{needs}
 use Rattle.index_write.proofs.Putting.{separator-long, separator-put}
 use Rattle.index_write.proofs.put_separator.Statement.{statement}
 use Rattle.index_write.proofs.put_separator.Tie as tie

@@ -1,3 +1,6 @@
+-- Invariant: i is at most n. From place at + i on the buffer holds the last n - i of the bytes to repeat, and elsewhere it is as it was.
+-- Measure: i, the bytes not stored again yet.
+-- The bytes to repeat end at place at or before, so no store reaches them: what a turn reads is what was there at first (getD-splice).
 use Prim.Native.Nat.{_≤_, _+_}
 use mathlib.Core.Path.{_≡_, ap, _∙_}
 use lib.ListN.{length, drop}

@@ -1,8 +1,11 @@
+-- Invariant (Sized): the size of all entries is `size` and the size of those from i on, the next one compressed against the separator from
+-- q to p. The next separator begins at p: the lengths before i add up to p. Each entry took at most 258 bytes, so the sum can't overflow.
+-- Measure: the entries not counted yet.
 use Prim.Native.Nat.{_+_, _-_, _≤_}
 use lib.ListN.{length}
 use native.Mathlib.Omega.{arith}
-use borrow.Author.Needs.{needs}
 use denote.Ref.{now}
+use borrow.Author.Needs.{needs}
 use Rattle.index_write.proofs.Measuring.{Sized, size-start, size-reach, size-turn, size-end, part-long}
 use Rattle.index_write.proofs.size_entries.Statement.{statement}
 use Rattle.index_write.proofs.size_entries.Tie as tie

@@ -1,8 +1,12 @@
+-- No loop. The new entries are those before entry i, its parts, and those after it (new-entries); all-added joins the three stretches.
+-- What can be read as a whole can be read in pieces: before i (first-readable), the entry i (second-readable), after it (third-readable).
+-- The scratch has room: old entries and parts are at most n together (all-few), with separators of at most 255 bytes each.
+-- In a sound record the field at 18 gives the count of the free numbers (free-unused), and with it the entries in use.
 use Prim.Native.Nat.{_-_}
 use mathlib.Core.Path.{_≡_, _∙_}
 use native.Mathlib.Omega.{arith}
-use borrow.Author.Needs.{needs}
 use denote.Ref.{now}
+use borrow.Author.Needs.{needs}
 use Rattle.index.specs.Reading.{freeCount}
 use Rattle.index_write.proofs.Spreading.{free-unused, free-few, unused-inside, many-is, enough, first-readable, first-room, second-readable, second-room, third-readable, third-room, all-added}
 use Rattle.index_write.proofs.spread.Statement.{statement}

@@ -1,6 +1,7 @@
+-- The free numbers end where the unused space begins, one byte each: the k-th from the right lies k + 1 bytes before that place (taken-is).
 use native.Mathlib.Omega.{arith}
-use borrow.Author.Needs.{needs}
 use denote.Ref.{now}
+use borrow.Author.Needs.{needs}
 use Rattle.index_write.proofs.Taking.{taken-is}
 use Rattle.index_write.proofs.taken.Statement.{statement}
 use Rattle.index_write.proofs.taken.Tie as tie

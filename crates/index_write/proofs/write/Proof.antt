@@ -1,9 +1,12 @@
+-- No loop. renewed-is does the work: the entries, the zeros up to them and three displacements, stored over the old record, make the writer's
+-- form of the new meaning, byte for byte. The first 18 bytes, the free numbers that are left, RDF and CIDF stay where they lay.
+-- Header, free numbers and entries together fit the record less its last 7 bytes (renewed-size, Writable), so each store has its place.
 use mathlib.Core.Path.{sym, _∙_}
 use lib.Seq.{length-take-le}
 use native.Mathlib.Omega.{arith}
-use borrow.Author.Needs.{needs}
 use denote.Ref.{now}
-use Rattle.index_write.specs.Prepared.{heldIn}
+use borrow.Author.Needs.{needs}
+use Rattle.index_write.specs.AidPrepared.{heldIn}
 use Rattle.index_write.proofs.Renewing.{renewed-is, renewed-size}
 use Rattle.index_write.proofs.write.Statement.{statement}
 use Rattle.index_write.proofs.write.Tie as tie

@@ -1,8 +1,12 @@
+-- Invariant (Written): the first i entries are stored from place r up to `right`, and elsewhere the record is as it was.
+-- Their bytes and those of the entries from i on, the next one compressed against the separator from q to p, are the bytes of all entries.
+-- The next separator begins at p: the lengths before i add up to p.
+-- Measure: the entries not stored yet.
 use Prim.Native.Nat.{_+_, _-_, _≤_}
 use lib.ListN.{length}
 use native.Mathlib.Omega.{arith}
-use borrow.Author.Needs.{needs}
 use denote.Ref.{now}
+use borrow.Author.Needs.{needs}
 use Rattle.index_write.proofs.Writing.{Written, write-start, write-same, write-reach, write-room, write-turn, write-place, write-bytes}
 use Rattle.index_write.proofs.Measuring.{part-long}
 use Rattle.index_write.proofs.write_entries.Statement.{statement}

@@ -1,16 +1,22 @@
-use borrow.Author.Needs.{needs}
+-- Invariant: c is a place of the sound interval (Ready), and the place of the key among all records is what the search from c on tells,
+-- with ordinal records passed (foundFrom). ordinal is at most the bytes passed, so it stays in a usize.
+-- Measure: the number of records from place c on.
+-- find-start: on ascending keys the search from the first record tells the place of the key. find-step: one record is compared with it.
+-- find-last: no record is left. find-ends: the place told lies within the records and their bytes.
 use Prim.Native.Nat.{_≤_, _+_, _-_}
 use mathlib.Core.Path.{_≡_, _∙_, sym}
-use native.Mathlib.Omega.{arith}
 use lib.ListN.{length}
+use native.Mathlib.Omega.{arith}
+use borrow.Author.Needs.{needs}
 use Rattle.fields.specs.Bytes.{part}
 use Rattle.fields.specs.Order.{orderOf}
 use Rattle.interval.specs.Reading.{recordsIn}
-use Rattle.interval_find.specs.Search.{placeOf}
-use Rattle.interval_find.specs.Steps.{rest, Ready, Stepped}
-use Rattle.interval_find.specs.declared.Found.the-variants.{At, Gap}
+use Rattle.interval.specs.Search.{placeOf}
+use Rattle.interval.specs.declared.Found.the-variants.{At, Gap}
+use Rattle.interval.proofs.Readable.{readable-rdfs}
+use Rattle.interval_find.specs.AidSteps.{rest, Ready, Stepped}
 use Rattle.interval_find.specs.declared.Step.the-variants.{Record}
-use Rattle.interval_find.proofs.Steps.{recordsFrom, ready-first, readable-rdfs, fewer, long, key-lies}
+use Rattle.interval_find.proofs.Steps.{recordsFrom, ready-first, fewer, long, key-lies}
 use Rattle.interval_find.proofs.Follow.{byOrder, foundFrom, find-start, find-ends, find-last, find-step}
 use Rattle.interval_find.proofs.find.Statement.{statement}
 use Rattle.interval_find.proofs.find.Tie as tie
@@ -24,9 +30,16 @@ Inv-loop ci m key p ordinal₀ c₀ ordinal c =
 abbrev μ-loop : tie.MeasureT-loop
 μ-loop ci m key p ordinal₀ c₀ ordinal c = length (rest ci p c)
 
+-- The states that the proof looks back to, by their names.
+abbrev start-from-match-keys1 : tie.At-match-keys1 Inv-loop μ-loop → tie.Start Inv-loop μ-loop
+start-from-match-keys1 k = k .before .before .before .before .before .before
+
+abbrev start-from-match-keys2 : tie.At-match-keys2 Inv-loop μ-loop → tie.Start Inv-loop μ-loop
+start-from-match-keys2 k = k .before .before .before .before .before .before
+
 -- what is known once a step has given a record
 abbrev start : tie.After-known-told Inv-loop μ-loop → tie.Start Inv-loop μ-loop
-start k = k .before .before .before .before .before .before .before .before
+start k = start-from-match-keys1 (k .before .before)
 
 abbrev around : tie.After-known-told Inv-loop μ-loop → tie.At-loop Inv-loop μ-loop
 around k = k .before .before .before .before
@@ -93,7 +106,7 @@ enum-told c = search needs
 
 returns : tie.Need-returns Inv-loop μ-loop
 returns c =
-    let s = c .before .before .before .before .before .before .before in
+    let s = start-from-match-keys2 (c .before) in
     let o = c .before .before .before .loop in
     let e = rw (c .enum-told .given .1) at (c .before .before .step-on .ensures) in
     find-ends (s .args .m) (s .args .ci .now) (s .args .key .now) (s .pre .0) _ (sym (o .inv .1 ∙ find-last (s .args .m) (s .args .ci .now) (s .args .key .now) _ (o .c) (o .ordinal) e))

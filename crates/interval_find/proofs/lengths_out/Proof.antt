@@ -1,11 +1,17 @@
-use borrow.Author.Needs.{needs}
+-- Invariant: the lengths of the first i records stand at the front of the buffer, what lies behind is as at entry (record Gathered).
+-- The lengths still to come are those that the left unread RDFs describe; these RDFs are well formed and lie in the interval.
+-- Measure: left, the unread RDFs; a group takes at least one.
+-- gather-turn adds one group, gather-room: the buffer has room for it. no-damage: well-formed RDFs never begin with a damaged group.
+-- gather-end: with no RDF left all lengths are there.
 use Prim.Native.Nat.{_≤_, _+_}
 use mathlib.Core.Path.{_∙_, sym}
-use native.Mathlib.Omega.{arith}
 use lib.ListN.{length}
-use Rattle.rdf.specs.Front.{Small}
+use native.Mathlib.Omega.{arith}
+use borrow.Author.Needs.{needs}
+use Rattle.interval.proofs.Readable.{readable-rdfs}
+use Rattle.rdf.specs.AidFront.{Small}
 use Rattle.rdf.specs.declared.Front.the-variants.{Run}
-use Rattle.interval_find.proofs.Steps.{no-damage, readable-rdfs}
+use Rattle.interval_find.proofs.Steps.{no-damage}
 use Rattle.interval_find.proofs.Gather.{Gathered, gather-start, gather-room, gather-turn, gather-end, gathered-length}
 use Rattle.interval_find.proofs.lengths_out.Statement.{statement}
 use Rattle.interval_find.proofs.lengths_out.Tie as tie
@@ -16,9 +22,13 @@ Inv-loop ci m lens₀ p left₀ i₀ lens left i = Gathered m ci p left lens₀ 
 abbrev μ-loop : tie.MeasureT-loop
 μ-loop ci m lens₀ p left₀ i₀ lens left i = left
 
+-- The states that the proof looks back to, by their names.
+abbrev start-from-group-at : tie.After-group-at Inv-loop μ-loop → tie.Start Inv-loop μ-loop
+start-from-group-at k = k .before .before .before .before .before .before
+
 -- what is known once a group has been read
 abbrev start : tie.After-known-told Inv-loop μ-loop → tie.Start Inv-loop μ-loop
-start k = k .before .before .before .before .before .before .before .before .before
+start k = start-from-group-at (k .before .before .before)
 
 abbrev around : tie.After-known-told Inv-loop μ-loop → tie.At-loop Inv-loop μ-loop
 around k = k .before .before .before .before .before
@@ -56,13 +66,13 @@ enum-told c = search needs
 
 same-length : tie.Need-same-length Inv-loop μ-loop
 same-length c =
-    let s = c .before .before .before .before .before .before .before .before in
+    let s = start-from-group-at (c .before .before) in
     let a = c .before .before .before .before in
     gathered-length (s .args .m) (s .args .ci .now) (s .args .lens .now) (s .pre .0) (a .before .rdfs-of .result .at) (a .loop .left) (a .loop .lens) (a .loop .i) (s .pre .1) (a .loop .inv)
 
 returns : tie.Need-returns Inv-loop μ-loop
 returns c =
-    let s = c .before .before .before .before .before .before .before .before in
+    let s = start-from-group-at (c .before .before) in
     let a = c .before .before .before .before in
     absurd (no-damage (s .args .m .least) (s .args .m .most) (s .args .ci .now) (a .before .rdfs-of .result .at) (a .loop .left) (a .loop .inv .formed) (omega arith)
     (sym (c .enum-told .given .1) ∙ c .before .before .group-at .ensures .0))

@@ -1,12 +1,17 @@
-use borrow.Author.Needs.{needs}
+-- Invariant: c is a place of the sound interval (Ready), and what begins at the place asked for, among all records,
+-- is what begins there among the records from c on. So no record that was passed begins there.
+-- Measure: the number of records from place c on.
+-- from-next passes a record that begins elsewhere; from-here: it begins there; from-last: none is left. lies: the record ends in the interval.
 use mathlib.Core.Path.{_≡_, _∙_, sym, ap}
-use native.Mathlib.Omega.{arith}
 use lib.ListN.{length}
+use native.Mathlib.Omega.{arith}
+use borrow.Author.Needs.{needs}
 use Rattle.interval.specs.Reading.{recordsIn}
-use Rattle.interval_find.specs.Search.{startingAt, startedOf}
-use Rattle.interval_find.specs.Steps.{rest, Ready, Stepped}
+use Rattle.interval.specs.Search.{startingAt, startedOf}
+use Rattle.interval.proofs.Readable.{readable-rdfs}
+use Rattle.interval_find.specs.AidSteps.{rest, Ready, Stepped}
 use Rattle.interval_find.specs.declared.Step.the-variants.{Record}
-use Rattle.interval_find.proofs.Steps.{recordsFrom, ready-first, readable-rdfs, fewer, lies}
+use Rattle.interval_find.proofs.Steps.{recordsFrom, ready-first, fewer, lies}
 use Rattle.interval_find.proofs.Starting.{from-start, from-last, from-here, from-next}
 use Rattle.interval_find.proofs.record_at.Statement.{statement}
 use Rattle.interval_find.proofs.record_at.Tie as tie
@@ -18,9 +23,13 @@ Inv-loop ci m place p c₀ c =
 abbrev μ-loop : tie.MeasureT-loop
 μ-loop ci m place p c₀ c = length (rest ci p c)
 
+-- The states that the proof looks back to, by their names.
+abbrev start-from-at : tie.After-at Inv-loop μ-loop → tie.Start Inv-loop μ-loop
+start-from-at k = k .before .before .before .before .before .before
+
 -- what is known once a step has given a record
 abbrev start : tie.After-known-told Inv-loop μ-loop → tie.Start Inv-loop μ-loop
-start k = k .before .before .before .before .before .before .before
+start k = start-from-at (k .before)
 
 abbrev around : tie.After-known-told Inv-loop μ-loop → tie.At-loop Inv-loop μ-loop
 around k = k .before .before .before .before
@@ -38,8 +47,11 @@ rdfs-of-requires c κs =
 loop-holds : tie.Need-loop-holds Inv-loop μ-loop
 loop-holds c =
     let s = c .before .before in
-    let e = c .rdfs-of .ensures in
-    (ready-first (s .args .m) (s .args .ci .now) (s .pre) (c .rdfs-of .result .at) (c .rdfs-of .result .many) (e .0) (e .1), from-start (s .args .ci .now) (s .args .place) (c .rdfs-of .result .at) (c .rdfs-of .result .many) (e .0) (e .1))
+    let e = c .rdfs-of .ensures in (
+      ready-first (s .args .m) (s .args .ci .now) (s .pre) (c .rdfs-of .result .at) (c .rdfs-of .result .many) (e .0) (e .1),
+      from-start (s .args .ci .now) (s .args .place)
+          (c .rdfs-of .result .at) (c .rdfs-of .result .many) (e .0) (e .1),
+    )
 
 step-on-requires : tie.Need-step-on-requires Inv-loop μ-loop
 step-on-requires c κs = search needs
@@ -61,8 +73,16 @@ returns-2 : tie.Need-returns-2 Inv-loop μ-loop
 returns-2 c =
     let k = c .before in
     let a = start k .args in
-    let g = k .before .at .given in
-    (sym (ap startedOf (around k .loop .inv .1) ∙ from-here (a .m) (a .ci .now) (a .place) (around k .before .rdfs-of .result .at) (around k .loop .c) (around k .loop .inv .0) (start k .pre .inside) (g .0 .0) (g .0 .1 .0) (g .0 .1 .1 .0) (stepped k) (c .if1 .taken)), omega (arith, c .if1 .taken, lies (a .m) (a .ci .now) (around k .before .rdfs-of .result .at) (around k .loop .c) (around k .loop .inv .0) (start k .pre .inside) (g .0 .0) (g .0 .1 .0) (g .0 .1 .1 .0) (stepped k)))
+    let g = k .before .at .given in (
+      sym (ap startedOf (around k .loop .inv .1) ∙ from-here (a .m) (a .ci .now) (a .place) (around k .before .rdfs-of .result .at) (around k .loop .c) (around k .loop .inv .0)
+          (start k .pre .inside) (g .0 .0) (g .0 .1 .0) (g .0 .1 .1 .0) (stepped k) (c .if1 .taken)),
+      omega (
+        arith,
+        c .if1 .taken,
+        lies (a .m) (a .ci .now) (around k .before .rdfs-of .result .at) (around k .loop .c) (around k .loop .inv .0) (start k .pre .inside)
+            (g .0 .0) (g .0 .1 .0) (g .0 .1 .1 .0) (stepped k),
+      ),
+    )
 
 loop-less : tie.Need-loop-less Inv-loop μ-loop
 loop-less c =
@@ -75,8 +95,11 @@ loop-again : tie.Need-loop-again Inv-loop μ-loop
 loop-again c =
     let k = c .before in
     let a = start k .args in
-    let g = k .before .at .given in
-    (stepped k .3, around k .loop .inv .1 ∙ from-next (a .m) (a .ci .now) (a .place) (around k .before .rdfs-of .result .at) (around k .loop .c) (around k .loop .inv .0) (start k .pre .inside) (g .0 .0) (g .0 .1 .0) (g .0 .1 .1 .0) (stepped k) (c .if1 .left))
+    let g = k .before .at .given in (
+      stepped k .3,
+      around k .loop .inv .1 ∙ from-next (a .m) (a .ci .now) (a .place) (around k .before .rdfs-of .result .at) (around k .loop .c) (around k .loop .inv .0)
+          (start k .pre .inside) (g .0 .0) (g .0 .1 .0) (g .0 .1 .1 .0) (stepped k) (c .if1 .left),
+    )
 
 pub record-at-spec : {M : Type 1} → statement M
 record-at-spec =

@@ -1,13 +1,20 @@
+-- run-step: the next record of a run. no-step: no run and no RDF is left. group-step: the first record of the next group.
+-- no-damage: the RDFs of a sound interval are well formed, so no damaged group is met.
+-- run-fits and group-fits: the record ends in the interval, so the next place does not overflow.
 use mathlib.Core.Path.{sym, _∙_}
 use native.Mathlib.Omega.{arith}
-use Rattle.rdf.specs.Front.{Small}
+use borrow.Author.Needs.{needs}
+use Rattle.rdf.specs.AidFront.{Small}
 use Rattle.rdf.specs.declared.Front.the-variants.{Run}
 use Rattle.interval_find.proofs.Steps.{run-step, run-fits, no-step, no-damage, group-step, group-fits}
-use borrow.Author.Needs.{needs}
 use Rattle.interval_find.proofs.step_on.Statement.{statement}
 use Rattle.interval_find.proofs.step_on.Tie as tie
 
-small : (c : tie.After-known-told) → Small (c .before .before .before .before .before .before .before .args .c .left)
+-- The states that the proof looks back to, by their names.
+abbrev start-from-len : tie.After-len → tie.Start
+start-from-len k = k .before .before .before .before .before .before
+
+small : (c : tie.After-known-told) → Small (start-from-len (c .before) .args .c .left)
     (Run (c .before .len .given .0 .0) (c .before .len .given .0 .1 .0) (c .before .len .given .0 .1 .1 .0))
 small c = rw (c .before .len .given .1) at (c .before .before .before .group-at .ensures .1)
 
@@ -49,8 +56,8 @@ returns-3 c =
 
 add-t18 : tie.Need-add-t18
 add-t18 c =
-    let a = c .before .before .before .before .before .before .before .args in
-    let r = c .before .before .before .before .before .before .before .pre in
+    let a = start-from-len (c .before) .args in
+    let r = start-from-len (c .before) .pre in
     let g = c .before .len .given in
     omega (
       arith,
@@ -66,8 +73,8 @@ sub-t20 c = omega (arith, small c)
 
 returns-4 : tie.Need-returns-4
 returns-4 c =
-    let a = c .before .before .before .before .before .before .before .args in
-    let r = c .before .before .before .before .before .before .before .pre in
+    let a = start-from-len (c .before) .args in
+    let r = start-from-len (c .before) .pre in
     let g = c .before .len .given in
     group-step (a .least) (a .most) (a .ci .now) (a .p) (a .c) r (omega arith) (omega arith) (g .0 .0) (g .0 .1 .0) (g .0 .1 .1 .0)
     (sym (g .1) ∙ c .before .before .before .group-at .ensures .0) (small c)

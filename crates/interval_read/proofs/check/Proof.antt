@@ -1,7 +1,9 @@
+-- tail-bad: an interval whose tail is not fine is unsound. tail-good: where the tail is fine, what the walk says is the verdict.
+-- That the numbers of the tail lie in the interval (Small) is what walk asks for.
 use mathlib.Core.Path.{_∙_, sym}
 use native.Mathlib.Omega.{arith}
-use Rattle.interval_read.proofs.Judging.{tail-bad, tail-good}
 use borrow.Author.Needs.{needs}
+use Rattle.interval_read.proofs.Judging.{tail-bad, tail-good}
 use Rattle.interval_read.proofs.check.Statement.{statement}
 use Rattle.interval_read.proofs.check.Tie as tie
 
@@ -29,7 +31,8 @@ returns-2 c =
     let k = c .before in
     let a = k .before .before .before .before .before .args in
     c .walk .ensures
-    ∙ tail-good (a .m) (a .ci .now) (omega arith) (omega arith) (k .before .bytes .given .0 .0) (k .before .bytes .given .0 .1 .0) (k .before .bytes .given .0 .1 .1 .0) (sym (k .before .bytes .given .1) ∙ k .before .before .before .read-tail .ensures .0)
+    ∙ tail-good (a .m) (a .ci .now) (omega arith) (omega arith) (k .before .bytes .given .0 .0) (k .before .bytes .given .0 .1 .0) (k .before .bytes .given .0 .1 .1 .0)
+    (sym (k .before .bytes .given .1) ∙ k .before .before .before .read-tail .ensures .0)
 
 pub check-spec : {M : Type 1} → statement M
 check-spec =

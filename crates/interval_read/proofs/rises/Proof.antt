@@ -1,3 +1,7 @@
+-- Invariant: whether all the keys ascend is whether the left keys from place here on ascend after the key at place before.
+-- The key at before lies in the interval, and so do all keys from here on.
+-- Measure: left, the keys that are still to be compared.
+-- run-on: a key above the one before it is passed. run-stops: one that is not ends the run. one-less: the key compared now lies in the interval.
 use Prim.Native.Nat.{_+_, _-_, _*_, _≤_}
 use mathlib.Core.Path.{_≡_, refl, _∙_, sym}
 use lib.ListN.{length}
@@ -8,17 +12,22 @@ use Rattle.fields.specs.Order.{orderOf}
 use Rattle.fields.proofs.Answers.{not-less}
 use Rattle.fields.proofs.Numbers.{one-less}
 use Rattle.interval.specs.Records.{ascendFrom}
-use Rattle.interval_read.specs.Walk.{keysAt}
+use Rattle.interval_read.specs.AidWalk.{keysAt}
 use Rattle.interval_read.proofs.Keys.{run-on, run-stops, keys-none, ascend-none}
 use Rattle.interval_read.proofs.rises.Statement.{statement}
 use Rattle.interval_read.proofs.rises.Tie as tie
 
 abbrev Inv-loop : tie.InvT-loop
 Inv-loop ci key prev at len count before₀ here₀ left₀ before here left =
-    (before + key ≤ length ci) × (here + len * left ≤ length ci + (len - key)) × (ascendFrom (part ci prev key) (keysAt key ci at len count) ≡ ascendFrom (part ci before key) (keysAt key ci here len left))
+    (before + key ≤ length ci) × (here + len * left ≤ length ci + (len - key)) ×
+    (ascendFrom (part ci prev key) (keysAt key ci at len count) ≡ ascendFrom (part ci before key) (keysAt key ci here len left))
 
 abbrev μ-loop : tie.MeasureT-loop
 μ-loop ci key prev at len count before₀ here₀ left₀ before here left = left
+
+-- The states that the proof looks back to, by their names.
+abbrev start-from-compare : tie.After-compare Inv-loop μ-loop → tie.Start Inv-loop μ-loop
+start-from-compare k = k .before .before .before .before .before .before
 
 -- the key that is compared lies in the interval
 inside : (c : tie.In-loop Inv-loop μ-loop) → c .before .loop .here + c .before .before .before .args .key ≤ length (c .before .before .before .args .ci .now)
@@ -29,7 +38,10 @@ inside c =
 
 -- what the comparison says
 told : (c : tie.After-compare Inv-loop μ-loop)
-    → c .compare .result ≡ orderOf (part (c .before .before .before .before .before .before .args .ci .now) (c .before .before .before .before .loop .before) (c .before .before .before .before .before .before .args .key)) (part (c .before .before .before .before .before .before .args .ci .now) (c .before .before .before .before .loop .here) (c .before .before .before .before .before .before .args .key))
+    → c .compare .result ≡ orderOf
+    (part (c .before .before .before .before .before .before .args .ci .now) (c .before .before .before .before .loop .before)
+    (c .before .before .before .before .before .before .args .key))
+    (part (c .before .before .before .before .before .before .args .ci .now) (c .before .before .before .before .loop .here) (c .before .before .before .before .before .before .args .key))
 told c =
     let a = c .before .before .before .before .before .before .args in
     let o = c .before .before .before .before .loop in
@@ -72,9 +84,10 @@ enum-told c = search needs
 
 returns : tie.Need-returns Inv-loop μ-loop
 returns c =
-    let a = c .before .before .before .before .before .before .before .args in
+    let a = start-from-compare (c .before) .args in
     let o = c .before .before .before .before .before .loop in
-    sym (o .inv .2 ∙ run-stops (a .key) (a .ci .now) (part (a .ci .now) (o .before) (a .key)) (o .here) (a .len) (o .left) (omega arith) (rw (told (c .before)) at (not-less (c .before .compare .result) (c .match .keys2))))
+    sym (o .inv .2 ∙ run-stops (a .key) (a .ci .now) (part (a .ci .now) (o .before) (a .key)) (o .here) (a .len) (o .left) (omega arith)
+    (rw (told (c .before)) at (not-less (c .before .compare .result) (c .match .keys2))))
 
 add-here : tie.Need-add-here Inv-loop μ-loop
 add-here c = omega (arith, inside (c .before .before .before .before .before))
@@ -87,9 +100,13 @@ loop-less c = search needs
 
 loop-again : tie.Need-loop-again Inv-loop μ-loop
 loop-again c =
-    let a = c .before .before .before .before .before .before .before .before .args in
-    let o = c .before .before .before .before .before .before .loop in
-    (inside (c .before .before .before .before .before), omega (arith, one-less (a .len) (o .left) (omega arith)), o .inv .2 ∙ run-on (a .key) (a .ci .now) (part (a .ci .now) (o .before) (a .key)) (o .here) (a .len) (o .left) (omega arith) (sym (c .enum-told .given .1) ∙ told (c .before .before)))
+    let a = start-from-compare (c .before .before) .args in
+    let o = c .before .before .before .before .before .before .loop in (
+      inside (c .before .before .before .before .before),
+      omega (arith, one-less (a .len) (o .left) (omega arith)),
+      o .inv .2 ∙ run-on (a .key) (a .ci .now)
+          (part (a .ci .now) (o .before) (a .key)) (o .here) (a .len) (o .left) (omega arith) (sym (c .enum-told .given .1) ∙ told (c .before .before)),
+    )
 
 returns-2 : tie.Need-returns-2 Inv-loop μ-loop
 returns-2 c =

@@ -1,9 +1,11 @@
+-- run-first: before the first record there is no key, and the empty list is below every key, so the first key is passed without a comparison.
+-- After a record the answer is that of rises. one-less splits the first record off the run, which keeps the places in the interval.
 use mathlib.Core.Path.{_∙_, sym}
 use native.Mathlib.Omega.{arith}
 use borrow.Author.Tests.{eq-eqb, ne-eqb}
-use Rattle.interval_read.proofs.Keys.{run-first}
 use borrow.Author.Needs.{needs}
 use Rattle.fields.proofs.Numbers.{one-less}
+use Rattle.interval_read.proofs.Keys.{run-first}
 use Rattle.interval_read.proofs.run_rises.Statement.{statement}
 use Rattle.interval_read.proofs.run_rises.Tie as tie
 

@@ -1,3 +1,9 @@
+-- Invariant: the judgement on all RDFs from the start is that on the left unread ones (record Come), for records from place at on,
+-- after the key of the record at last, or after none where no record was seen. seen counts the records passed.
+-- The last of all records is the one at last, unless more come. last is at most at, at is at most bytes, seen is at most at.
+-- Measure: left, the unread RDFs; a group takes at least one.
+-- steps: the first group stands for its part of the RDFs; goes-on passes it; no-group, too-long and falls make the interval unsound.
+-- ended: with no RDF left the interval is sound exactly if the records end at bytes.
 use Prim.Native.Nat.{ℕ, _≤_, _<_}
 use mathlib.Core.Path.{_≡_, refl, _∙_, sym}
 use mathlib.Core.List.{List, []}
@@ -6,7 +12,7 @@ use borrow.Author.Needs.{needs}
 use borrow.Author.Tests.{eq-eqb, ne-eqb, not-true, not-false}
 use Rattle.fields.proofs.Numbers.{one-less}
 use Rattle.interval.specs.Reading.{rdfs}
-use Rattle.rdf.specs.Front.{frontOf}
+use Rattle.rdf.specs.AidFront.{frontOf}
 use Rattle.rdf.specs.declared.Front.the-variants.{Run}
 use Rattle.rdf.proofs.Fronts.{Step, steps, stops, front-within}
 use Rattle.rdf.proofs.Rdfs.{prod16}
@@ -20,6 +26,10 @@ Inv-loop ci bytes p many offset key least most left₀ at₀ seen₀ last₀ lef
 
 abbrev μ-loop : tie.MeasureT-loop
 μ-loop ci bytes p many offset key least most left₀ at₀ seen₀ last₀ left at seen last = left
+
+-- The states that the proof looks back to, by their names.
+abbrev start-from-len : tie.After-len Inv-loop μ-loop → tie.Start Inv-loop μ-loop
+start-from-len k = k .before .before .before .before .before .before
 
 none : (ci : List ℕ) (p : ℕ) → rdfs ci p 0 ≡ []
 unfolding rdfs
@@ -36,15 +46,19 @@ pub record Group (ci : List ℕ) (p n least most l c u : ℕ) (some : 0 < n) : T
   pub holds : 1 ≤ c
 
 group : (c : tie.After-known-told Inv-loop μ-loop)
-    → Group (c .before .before .before .before .before .before .before .args .ci .now) (c .before .before .before .before .before .before .before .args .p) (c .before .before .before .before .before .loop .left) (c .before .before .before .before .before .before .before .args .m .least) (c .before .before .before .before .before .before .before .args .m .most) (c .before .len .given .0 .0) (c .before .len .given .0 .1 .0) (c .before .len .given .0 .1 .1 .0) (c .before .before .before .before .loop-test .taken)
+    → Group (start-from-len (c .before) .args .ci .now) (start-from-len (c .before) .args .p) (c .before .before .before .before .before .loop .left)
+    (start-from-len (c .before) .args .m .least) (start-from-len (c .before) .args .m .most) (c .before .len .given .0 .0) (c .before .len .given .0 .1 .0)
+    (c .before .len .given .0 .1 .1 .0) (c .before .before .before .before .loop-test .taken)
 group c =
-    let a = c .before .before .before .before .before .before .before .args in
+    let a = start-from-len (c .before) .args in
     let n = c .before .before .before .before .before .loop .left in
     let g = c .before .before .before .group-at in
-    let e : Run (c .before .len .given .0 .0) (c .before .len .given .0 .1 .0) (c .before .len .given .0 .1 .1 .0) ≡ frontOf (a .m .least) (a .m .most) (rdfs (a .ci .now) (a .p) n) = sym (c .before .len .given .1) ∙ g .ensures .0 in
+    let e : Run (c .before .len .given .0 .0) (c .before .len .given .0 .1 .0) (c .before .len .given .0 .1 .1 .0) ≡ frontOf (a .m .least) (a .m .most)
+    (rdfs (a .ci .now) (a .p) n) = sym (c .before .len .given .1) ∙ g .ensures .0 in
     let f = rw (c .before .len .given .1) at (g .ensures .1) in
     record {
-      step = steps (a .ci .now) (a .p) n (a .m .least) (a .m .most) (c .before .before .before .before .loop-test .taken) (c .before .len .given .0 .0) (c .before .len .given .0 .1 .0) (c .before .len .given .0 .1 .1 .0) e (f .3);
+      step = steps (a .ci .now) (a .p) n (a .m .least) (a .m .most) (c .before .before .before .before .loop-test .taken) (c .before .len .given .0 .0)
+          (c .before .len .given .0 .1 .0) (c .before .len .given .0 .1 .1 .0) e (f .3);
       least-is = front-within (a .m .least) (a .m .most) (rdfs (a .ci .now) (a .p) n) (c .before .len .given .0 .0) (c .before .len .given .0 .1 .0) (c .before .len .given .0 .1 .1 .0) e .0;
       len = f .0;
       count = f .1;
@@ -72,7 +86,8 @@ returns c =
     let a = c .before .before .before .before .before .before .args in
     let o = c .before .before .before .before .loop in
     let some = c .before .before .before .loop-test .taken in
-    sym (no-group (a .m) (a .ci .now) (a .bytes) (rdfs (a .ci .now) (a .p) (a .many)) (a .many) (a .p) (o .left) (o .at) (o .seen) (o .last) (o .inv .1) some (stops (a .ci .now) (a .p) (o .left) (a .m .least) (a .m .most) some (sym (c .enum-told .given .1) ∙ c .before .before .group-at .ensures .0)))
+    sym (no-group (a .m) (a .ci .now) (a .bytes) (rdfs (a .ci .now) (a .p) (a .many)) (a .many) (a .p) (o .left) (o .at) (o .seen) (o .last) (o .inv .1) some
+    (stops (a .ci .now) (a .p) (o .left) (a .m .least) (a .m .most) some (sym (c .enum-told .given .1) ∙ c .before .before .group-at .ensures .0)))
 
 mul-end : tie.Need-mul-end Inv-loop μ-loop
 mul-end c = omega (arith, prod16 (c .before .len .given .0 .0) (c .before .len .given .0 .1 .0) (group c .len) (group c .count))
@@ -83,15 +98,17 @@ add-end c = omega (arith, prod16 (c .before .len .given .0 .0) (c .before .len .
 returns-2 : tie.Need-returns-2 Inv-loop μ-loop
 returns-2 c =
     let k = c .before in
-    let a = k .before .before .before .before .before .before .before .args in
+    let a = start-from-len (k .before) .args in
     let o = k .before .before .before .before .before .loop in
     let g = group k in
-    sym (too-long (a .m) (a .ci .now) (a .bytes) (rdfs (a .ci .now) (a .p) (a .many)) (a .many) (a .p) (o .left) (o .at) (o .seen) (o .last) (o .inv .1) (k .before .before .before .before .loop-test .taken) (k .before .len .given .0 .0) (k .before .len .given .0 .1 .0) (k .before .len .given .0 .1 .1 .0) (g .step) (g .holds) (omega (arith, g .least-is)) (c .if1 .taken))
+    sym (too-long (a .m) (a .ci .now) (a .bytes) (rdfs (a .ci .now) (a .p) (a .many)) (a .many) (a .p) (o .left) (o .at) (o .seen) (o .last) (o .inv .1)
+    (k .before .before .before .before .loop-test .taken) (k .before .len .given .0 .0) (k .before .len .given .0 .1 .0) (k .before .len .given .0 .1 .1 .0) (g .step)
+    (g .holds) (omega (arith, g .least-is)) (c .if1 .taken))
 
 add-run-rises : tie.Need-add-run-rises Inv-loop μ-loop
 add-run-rises c =
     let k = c .before in
-    let a = k .before .before .before .before .before .before .before .args in
+    let a = start-from-len (k .before) .args in
     let o = k .before .before .before .before .before .loop in
     let g = group k in
     omega (arith, g .least-is, g .len, o .inv .1 .behind, o .inv .1 .inside)
@@ -99,7 +116,7 @@ add-run-rises c =
 add-run-rises-2 : tie.Need-add-run-rises-2 Inv-loop μ-loop
 add-run-rises-2 c =
     let k = c .before in
-    let a = k .before .before .before .before .before .before .before .args in
+    let a = start-from-len (k .before) .args in
     let o = k .before .before .before .before .before .loop in
     let g = group k in
     omega (arith, g .least-is, g .len, o .inv .1 .inside)
@@ -107,7 +124,7 @@ add-run-rises-2 c =
 run-rises-requires : tie.Need-run-rises-requires Inv-loop μ-loop
 run-rises-requires c κs =
     let k = c .before in
-    let a = k .before .before .before .before .before .before .before .args in
+    let a = start-from-len (k .before) .args in
     let o = k .before .before .before .before .before .loop in
     let g = group k in
     let one = one-less (k .before .len .given .0 .0) (k .before .len .given .0 .1 .0) (g .holds) in
@@ -116,15 +133,17 @@ run-rises-requires c κs =
 returns-3 : tie.Need-returns-3 Inv-loop μ-loop
 returns-3 c =
     let k = c .before .before .before in
-    let a = k .before .before .before .before .before .before .before .args in
+    let a = start-from-len (k .before) .args in
     let o = k .before .before .before .before .before .loop in
     let g = group k in
-    sym (falls (a .m) (a .ci .now) (a .bytes) (rdfs (a .ci .now) (a .p) (a .many)) (a .many) (a .p) (o .left) (o .at) (o .seen) (o .last) (o .inv .1) (k .before .before .before .before .loop-test .taken) (k .before .len .given .0 .0) (k .before .len .given .0 .1 .0) (k .before .len .given .0 .1 .1 .0) (g .step) (g .holds) (omega (arith, g .least-is)) (sym (c .before .run-rises .ensures) ∙ not-true (c .before .run-rises .result) (c .if2 .taken)))
+    sym (falls (a .m) (a .ci .now) (a .bytes) (rdfs (a .ci .now) (a .p) (a .many)) (a .many) (a .p) (o .left) (o .at) (o .seen) (o .last) (o .inv .1)
+    (k .before .before .before .before .loop-test .taken) (k .before .len .given .0 .0) (k .before .len .given .0 .1 .0) (k .before .len .given .0 .1 .1 .0) (g .step)
+    (g .holds) (omega (arith, g .least-is)) (sym (c .before .run-rises .ensures) ∙ not-true (c .before .run-rises .result) (c .if2 .taken)))
 
 sub-last : tie.Need-sub-last Inv-loop μ-loop
 sub-last c =
     let k = c .before .before .before in
-    let a = k .before .before .before .before .before .before .before .args in
+    let a = start-from-len (k .before) .args in
     let o = k .before .before .before .before .before .loop in
     let g = group k in
     omega (arith, one-less (k .before .len .given .0 .0) (k .before .len .given .0 .1 .0) (g .holds))
@@ -132,7 +151,7 @@ sub-last c =
 add-seen : tie.Need-add-seen Inv-loop μ-loop
 add-seen c =
     let k = c .before .before .before in
-    let a = k .before .before .before .before .before .before .before .args in
+    let a = start-from-len (k .before) .args in
     let o = k .before .before .before .before .before .loop in
     let g = group k in
     omega (arith, g .count, o .inv .1 .few, o .inv .1 .inside)
@@ -140,7 +159,7 @@ add-seen c =
 sub-left : tie.Need-sub-left Inv-loop μ-loop
 sub-left c =
     let k = c .before .before .before in
-    let a = k .before .before .before .before .before .before .before .args in
+    let a = start-from-len (k .before) .args in
     let o = k .before .before .before .before .before .loop in
     let g = group k in
     omega (arith, g .taken)
@@ -148,7 +167,7 @@ sub-left c =
 loop-less : tie.Need-loop-less Inv-loop μ-loop
 loop-less c =
     let k = c .before .before .before in
-    let a = k .before .before .before .before .before .before .before .args in
+    let a = start-from-len (k .before) .args in
     let o = k .before .before .before .before .before .loop in
     let g = group k in
     omega (arith, g .taken, g .takes)
@@ -156,10 +175,14 @@ loop-less c =
 loop-again : tie.Need-loop-again Inv-loop μ-loop
 loop-again c =
     let k = c .before .before .before in
-    let a = k .before .before .before .before .before .before .before .args in
+    let a = start-from-len (k .before) .args in
     let o = k .before .before .before .before .before .loop in
-    let g = group k in
-    (omega (arith, g .taken), goes-on (a .m) (a .ci .now) (a .bytes) (rdfs (a .ci .now) (a .p) (a .many)) (a .many) (a .p) (o .left) (o .at) (o .seen) (o .last) (o .inv .1) (k .before .before .before .before .loop-test .taken) (k .before .len .given .0 .0) (k .before .len .given .0 .1 .0) (k .before .len .given .0 .1 .1 .0) (g .step) (g .holds) (omega (arith, g .least-is)) (c .before .before .if1 .left) (sym (c .before .run-rises .ensures) ∙ not-false (c .before .run-rises .result) (c .if2 .left)))
+    let g = group k in (
+      omega (arith, g .taken),
+      goes-on (a .m) (a .ci .now) (a .bytes) (rdfs (a .ci .now) (a .p) (a .many)) (a .many) (a .p) (o .left) (o .at) (o .seen) (o .last)
+          (o .inv .1) (k .before .before .before .before .loop-test .taken) (k .before .len .given .0 .0) (k .before .len .given .0 .1 .0) (k .before .len .given .0 .1 .1 .0)
+          (g .step) (g .holds) (omega (arith, g .least-is)) (c .before .before .if1 .left) (sym (c .before .run-rises .ensures) ∙ not-false (c .before .run-rises .result) (c .if2 .left)),
+    )
 
 returns-4 : tie.Need-returns-4 Inv-loop μ-loop
 returns-4 c =

@@ -1,9 +1,15 @@
+-- group-one: a single record has one RDF. run-stored: the RDF with the length, and the one with the count left of it, are the bytes of a run.
+-- length-one and length-run: these are 3 and 6 bytes, so the places do not fall below zero.
 use mathlib.Core.Path.{_∙_}
 use native.Mathlib.Omega.{arith}
-use Rattle.interval_write.proofs.Stores.{group-one, length-one, length-run, run-stored}
 use borrow.Author.Needs.{needs}
+use Rattle.interval_write.proofs.Stores.{group-one, length-one, length-run, run-stored}
 use Rattle.interval_write.proofs.put_group.Statement.{statement}
 use Rattle.interval_write.proofs.put_group.Tie as tie
+
+-- The states that the proof looks back to, by their names.
+abbrev start-from-ci2 : tie.After-ci2 → tie.Start
+start-from-ci2 k = k .before .before .before .before .before
 
 sub-put-rdf : tie.Need-sub-put-rdf
 sub-put-rdf c =
@@ -40,17 +46,17 @@ put-rdf-requires-2 c κs =
 
 sub-put-rdf-3 : tie.Need-sub-put-rdf-3
 sub-put-rdf-3 c =
-    let a = c .before .before .before .before .before .before .before .args in
+    let a = start-from-ci2 (c .before .before) .args in
     omega (arith, length-run (a .len) (a .count) (omega arith))
 
 put-rdf-requires-3 : tie.Need-put-rdf-requires-3
 put-rdf-requires-3 c κs =
-    let a = c .before .before .before .before .before .before .before .args in
+    let a = start-from-ci2 (c .before .before) .args in
     omega (arith, length-run (a .len) (a .count) (omega arith), c .before .before .before .put-rdf2 .kept .0)
 
 sub-result-2 : tie.Need-sub-result-2
 sub-result-2 c =
-    let a = c .before .before .before .before .before .before .before .before .before .before .args in
+    let a = start-from-ci2 (c .before .before .before .before .before) .args in
     omega (arith, length-run (a .len) (a .count) (omega arith))
 
 same-length-2 : tie.Need-same-length-2
@@ -58,7 +64,7 @@ same-length-2 c = search needs
 
 returns-2 : tie.Need-returns-2
 returns-2 c =
-    let a = c .before .before .before .before .before .before .before .before .before .before .args in
+    let a = start-from-ci2 (c .before .before .before .before .before) .args in
     let n = length-run (a .len) (a .count) (omega arith) in (
       omega arith,
       c .before .before .put-rdf3 .ensures

@@ -1,6 +1,7 @@
+-- rdf-stored: the control byte, set just before the two bytes of the number, makes one splice of the RDF with them.
 use native.Mathlib.Omega.{arith}
-use Rattle.interval_write.proofs.Stores.{rdf-stored}
 use borrow.Author.Needs.{needs}
+use Rattle.interval_write.proofs.Stores.{rdf-stored}
 use Rattle.interval_write.proofs.put_rdf.Statement.{statement}
 use Rattle.interval_write.proofs.put_rdf.Tie as tie
 

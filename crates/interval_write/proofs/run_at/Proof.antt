@@ -1,8 +1,12 @@
-use borrow.Author.Needs.{needs}
-use mathlib.Core.Path.{_≡_}
-use native.Mathlib.Omega.{arith}
+-- Invariant: the run that begins at record i counts j - i records, plus however many of the length l stand first from place j on.
+-- j is above i and at most the number of lengths.
+-- Measure: length lens - j, the lengths that are still to be looked at.
+-- lead-more passes an equal length; lead-none and lead-end: the run stops. groups-at: the first group of some lengths is the run they begin with.
 use Prim.Native.Nat.{_≤_, _-_, _+_}
+use mathlib.Core.Path.{_≡_}
 use lib.ListN.{length, drop, getD}
+use native.Mathlib.Omega.{arith}
+use borrow.Author.Needs.{needs}
 use Rattle.interval_write.proofs.Runs.{lead, lead-more, lead-none, lead-end, groups-at}
 use Rattle.interval_write.proofs.run_at.Statement.{statement}
 use Rattle.interval_write.proofs.run_at.Tie as tie

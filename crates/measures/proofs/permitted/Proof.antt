@@ -1,9 +1,11 @@
--- The table's rule is one computed test; the loop has passed no size equal to the one asked for.
+-- Invariant: none of the first i sizes of the stepping rule is the one asked for; i is at most 28.
+-- Measure: 28 - i, the sizes that are still to be compared.
+-- stepping: each entry of the table is the size that the rule gives at its place, by one computed test.
+use Prim.Native.Nat.{_≤_, _-_}
 use mathlib.Core.Path.{_≡_, refl, sym, _∙_}
 use mathlib.Core.Bool.{false}
-use Prim.Native.Nat.{_≤_, _-_}
-use native.Mathlib.Omega.{arith}
 use lib.Dec.{eqb}
+use native.Mathlib.Omega.{arith}
 use borrow.Author.Needs.{needs}
 use borrow.Author.Tests.{eq-eqb, ne-eqb}
 use Rattle.measures.specs.Sizes.{anyBelow, sizeAt, permittedSize}

@@ -1,3 +1,4 @@
+-- and-32767: the mask of fifteen bits leaves the remainder by 32768.
 use Rattle.fields.proofs.Masks.{and-32767}
 use Rattle.rdf.proofs.below_flag.Statement.{statement}
 use Rattle.rdf.proofs.below_flag.Tie as tie

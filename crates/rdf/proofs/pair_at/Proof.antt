@@ -1,17 +1,23 @@
-use mathlib.Core.Path.{_≡_}
-use mathlib.Core.Logic.{⊎-elim}
-use mathlib.Core.List.{[], _∷_}
+-- rdfs-cons: the count's RDF is the rightmost of the n that are left; with n = 0 there is none, and the run is damaged.
+-- told: a byte taken apart as Count is X'08'. not-count: a byte taken apart as anything else is not. The count must be at least 2.
 use Prim.Native.Nat.{ℕ, _+_, _-_, _*_}
+use mathlib.Core.Path.{_≡_}
+use mathlib.Core.List.{[], _∷_}
+use mathlib.Core.Logic.{⊎-elim}
 use lib.ListN.{getD}
 use native.Mathlib.Omega.{arith}
 use borrow.Author.Tests.{ne-eqb, le-leb, lt-leb}
+use borrow.Author.Needs.{needs}
 use Rattle.interval.specs.Reading.{rdfs}
+use Rattle.rdf.specs.Control.{controlOf}
 use Rattle.rdf.proofs.Rdfs.{rdfs-cons}
 use Rattle.rdf.proofs.Controls.{told}
-use Rattle.rdf.specs.Control.{controlOf}
-use borrow.Author.Needs.{needs}
 use Rattle.rdf.proofs.pair_at.Statement.{statement}
 use Rattle.rdf.proofs.pair_at.Tie as tie
+
+-- The states that the proof looks back to, by their names.
+abbrev start-from-match-keys1 : tie.At-match-keys1 → tie.Start
+start-from-match-keys1 k = k .before .before .before .before .before
 
 not-count : (x : ℕ) {r : Rattle.rdf.specs.declared.Control.Control} → x ≡ 8 → r ≡ controlOf x
     → types.Run.OneOf (0 ∷ 1 ∷ 3 ∷ []) (denote.Enum.Declared.tagOf Rattle.rdf.proofs.Control.the-type r) → ⊥
@@ -53,15 +59,29 @@ read-two-requires c κs = search needs
 
 returns-3 : tie.Need-returns-3
 returns-3 c =
-    let a = c .before .before .before .before .before .before .before .before .args in
-    let x : ℕ = getD (a .b .now) (a .p + 3 * (a .n - 1)) 0 in
-    (rw (rdfs-cons (a .b .now) (a .p) (a .n) (omega arith), told x (c .before .before .before .before .take-apart .ensures) (c .before .before .enum-told .given .1), ← c .before .read-two .ensures .0, lt-leb _ _ (c .if2 .taken)), tt)
+    let a = start-from-match-keys1 (c .before .before .before) .args in
+    let x : ℕ = getD (a .b .now) (a .p + 3 * (a .n - 1)) 0 in (
+      rw (
+        rdfs-cons (a .b .now) (a .p) (a .n) (omega arith),
+        told x (c .before .before .before .before .take-apart .ensures) (c .before .before .enum-told .given .1),
+        ← c .before .read-two .ensures .0,
+        lt-leb _ _ (c .if2 .taken),
+      ),
+      tt,
+    )
 
 returns-4 : tie.Need-returns-4
 returns-4 c =
-    let a = c .before .before .before .before .before .before .before .before .args in
-    let x : ℕ = getD (a .b .now) (a .p + 3 * (a .n - 1)) 0 in
-    (rw (rdfs-cons (a .b .now) (a .p) (a .n) (omega arith), told x (c .before .before .before .before .take-apart .ensures) (c .before .before .enum-told .given .1), ← c .before .read-two .ensures .0, le-leb _ _ (c .if2 .left)), omega arith)
+    let a = start-from-match-keys1 (c .before .before .before) .args in
+    let x : ℕ = getD (a .b .now) (a .p + 3 * (a .n - 1)) 0 in (
+      rw (
+        rdfs-cons (a .b .now) (a .p) (a .n) (omega arith),
+        told x (c .before .before .before .before .take-apart .ensures) (c .before .before .enum-told .given .1),
+        ← c .before .read-two .ensures .0,
+        le-leb _ _ (c .if2 .left),
+      ),
+      omega arith,
+    )
 
 pub pair-at-spec : {M : Type 1} → statement M
 pair-at-spec =

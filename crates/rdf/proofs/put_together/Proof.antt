@@ -1,3 +1,4 @@
+-- bits-joined: the two bits do not meet, so the or of the shifted bits is their sum.
 use native.Mathlib.Omega.{arith}
 use Rattle.rdf.proofs.Controls.{bits-joined}
 use Rattle.rdf.proofs.put_together.Statement.{statement}

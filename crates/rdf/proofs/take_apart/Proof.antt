@@ -1,16 +1,18 @@
-use mathlib.Core.Path.{_≡_, refl, _∙_, sym, ap}
+-- agree: the three masks tell the bytes apart just as controlOf does, by one computed test over all 256 bytes.
+-- Each way out is a case of byMask, which says what the code's tests choose.
 use Prim.Native.Nat.{ℕ, zero, suc, _<_}
-use lib.Bits.{bitAnd}
+use mathlib.Core.Path.{_≡_, refl, _∙_, sym, ap}
 use lib.Dec.{eqb}
+use lib.Bits.{bitAnd}
 use borrow.Author.Tests.{eq-eqb, ne-eqb}
+use borrow.Author.Needs.{needs}
+use Rattle.fields.specs.Choice.{pick}
 use Rattle.fields.proofs.Masks.{below-eq}
 use Rattle.rdf.specs.Control.{controlOf}
-use Rattle.fields.specs.Choice.{pick}
 use Rattle.rdf.specs.declared.Control.{Control}
 use Rattle.rdf.specs.declared.Control.the-variants.{Single, Paired, Count, Bad}
 use Rattle.rdf.proofs.take_apart.Statement.{statement}
 use Rattle.rdf.proofs.take_apart.Tie as tie
-use borrow.Author.Needs.{needs}
 
 -- what the code does, as a function of its tests
 abbrev byMask : ℕ → Control

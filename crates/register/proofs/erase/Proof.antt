@@ -1,3 +1,7 @@
+-- No loop. Measures that were judged fine are what the floors below ask (fits-lent). An area that the check calls intact is whole (told-whole).
+-- A gap means that no record has the key (key-absent); a hit, that one has it (key-found).
+-- The edit where the search ended, one record out and none in, is that of the request's meaning, and one that fits (erase-edits).
+-- What take_out makes of it, and what is told, is then what the meaning says (erase-made).
 use Prim.Native.Nat.{ℕ}
 use mathlib.Core.Path.{_≡_, _∙_, sym}
 use mathlib.Core.List.{List, []}
@@ -5,14 +9,13 @@ use lib.ListN.{length}
 use native.Mathlib.Omega.{arith}
 use borrow.Author.Needs.{needs}
 use Rattle.fields.specs.Bytes.{Octets}
-use Rattle.measures.specs.Judgement.{judgedOf}
+use Rattle.measures.specs.Judgement.{judgedOf, Fits}
 use Rattle.measures.specs.declared.Measures.{Measures}
 use Rattle.measures.specs.declared.Judged.the-variants.{Fine}
 use Rattle.area.specs.Reading.{readArea}
-use Rattle.area_read.specs.Measured.{Measured}
-use Rattle.seek.specs.Sought.{Whole}
-use Rattle.register.proofs.Measures.{measured, key-is, told-damage, told-whole}
-use Rattle.register.proofs.Finding.{key-found, key-absent}
+use Rattle.area_find.specs.AidSought.{Whole}
+use Rattle.register.proofs.Measures.{fits-lent, key-is, told-damage, told-whole}
+use Rattle.register.proofs.KeyFound.{key-found, key-absent}
 use Rattle.register.proofs.Changing.{makes-as, erase-outside, erase-damaged, erase-wrong, erase-absent, erase-makes}
 use Rattle.register.proofs.Edited.{erase-edits, erase-made}
 use Rattle.register.proofs.erase.Statement.{statement}
@@ -37,8 +40,8 @@ wanted k = start k .args .wanted .now
 fine : (k : tie.After-known-told) → judgedOf (start k .args .size) (start k .args .offset) (start k .args .key) (start k .args .most) (length (area k)) ≡ Fine (m k) (n k)
 fine k = sym (k .before .before .before .judge .ensures) ∙ k .before .m .given .1
 
-lent : (k : tie.After-known-told) → Measured (m k) (n k) (area k)
-lent k = let a = start k .args in measured (a .size) (a .offset) (a .key) (a .most) (n k) (m k) (area k) (fine k)
+lent : (k : tie.After-known-told) → Fits (m k) (n k) (length (area k))
+lent k = let a = start k .args in fits-lent (a .size) (a .offset) (a .key) (a .most) (n k) (m k) (area k) (fine k)
 
 -- what is lent is bytes
 octets : (k : tie.After-known-told) → Octets (area k)
@@ -105,8 +108,8 @@ returns-3 c =
     erase-wrong (a .size) (a .offset) (a .key) (a .most) (area k) (wanted k) (m k) (n k) (fine k) (w .content) (w .reads)
     (λ e. c .if1 .taken (e ∙ key-is (a .size) (a .offset) (a .key) (a .most) (n k) (m k) (area k) (fine k)))
 
-seek-requires : tie.Need-seek-requires
-seek-requires c κs = (lent (past (c .before .before)), sound-there (c .before .before), long (c .before))
+find-requires : tie.Need-find-requires
+find-requires c κs = (lent (past (c .before .before)), sound-there (c .before .before), long (c .before))
 
 enum-known-found : tie.Need-enum-known-found
 enum-known-found c = search needs
@@ -125,7 +128,8 @@ returns-4 c =
     let a = start k .args in
     let w = sound-there (p .before) in
     erase-absent (a .size) (a .offset) (a .key) (a .most) (area k) (wanted k) (m k) (n k) (fine k) (w .content) (w .reads) (long p)
-    (key-absent (m k) (n k) (area k) (lent k) w (wanted k) (long p) (key-octets k) (f .seek .result) (f .seek .ensures) (c .enum-told3 .given .0 .0) (c .enum-told3 .given .0 .1 .0) (c .enum-told3 .given .1))
+    (key-absent (m k) (n k) (area k) (lent k) w (wanted k) (long p) (key-octets k) (f .find .result) (f .find .ensures) (c .enum-told3 .given .0 .0) (c .enum-told3 .given .0 .1 .0)
+    (c .enum-told3 .given .1))
 
 take-out-requires : tie.Need-take-out-requires
 take-out-requires c κs =
@@ -133,7 +137,7 @@ take-out-requires c κs =
     let p = f .before .before in
     let k = past (p .before) in
     let g = c .before .before .found .given in
-    erase-edits (m k) (n k) (area k) (lent k) (octets k) (sound-there (p .before)) (wanted k) (long p) (key-octets k) (f .seek .result) (f .seek .ensures) (g .0 .0) (g .0 .1 .0) (g .0 .1 .1 .0) (g .1)
+    erase-edits (m k) (n k) (area k) (lent k) (octets k) (sound-there (p .before)) (wanted k) (long p) (key-octets k) (f .find .result) (f .find .ensures) (g .0 .0) (g .0 .1 .0) (g .0 .1 .1 .0) (g .1)
 
 told-requires : tie.Need-told-requires
 told-requires c κs = search needs
@@ -150,8 +154,10 @@ returns-5 c =
     let a = start k .args in
     let w = sound-there (p .before) in
     let g = t .before .before .before .found .given in
-    makes-as (erase-makes (a .size) (a .offset) (a .key) (a .most) (area k) (wanted k) (m k) (n k) (fine k) (w .content) (w .reads) (long p) _ [] (key-found (m k) (n k) (area k) (lent k) w (wanted k) (long p) (key-octets k) (f .seek .result) (f .seek .ensures) (g .0 .0) (g .0 .1 .0) (g .0 .1 .1 .0) (g .1)))
-    (erase-made (m k) (n k) (area k) (lent k) (octets k) w (wanted k) (long p) (key-octets k) (f .seek .result) (f .seek .ensures) (g .0 .0) (g .0 .1 .0) (g .0 .1 .1 .0) (g .1) (t .take-out .result) (t .take-out .last .0) (c .told .result) (t .take-out .ensures) (c .told .ensures))
+    makes-as (erase-makes (a .size) (a .offset) (a .key) (a .most) (area k) (wanted k) (m k) (n k) (fine k) (w .content) (w .reads) (long p) _ []
+    (key-found (m k) (n k) (area k) (lent k) w (wanted k) (long p) (key-octets k) (f .find .result) (f .find .ensures) (g .0 .0) (g .0 .1 .0) (g .0 .1 .1 .0) (g .1)))
+    (erase-made (m k) (n k) (area k) (lent k) (octets k) w (wanted k) (long p) (key-octets k) (f .find .result) (f .find .ensures) (g .0 .0) (g .0 .1 .0) (g .0 .1 .1 .0)
+    (g .1) (t .take-out .result) (t .take-out .last .0) (c .told .result) (t .take-out .ensures) (c .told .ensures))
 
 pub erase-spec : {M : Type 1} → statement M
 erase-spec =
@@ -168,7 +174,7 @@ erase-spec =
     enum-told-2
     same-length-2
     returns-3
-    seek-requires
+    find-requires
     enum-known-found
     enum-told-3
     same-length-3

@@ -1,11 +1,16 @@
+-- The part of the area has the length that was asked for, since it lies within the area. Where the output is shorter nothing is stored
+-- and that length is told (hand-short); else it is stored at the front and the later bytes stay (hand-found).
 use Prim.Native.Nat.{_+_, _-_}
 use mathlib.Core.Path.{_≡_}
 use native.Mathlib.Omega.{arith}
 use borrow.Author.Needs.{needs}
-use Rattle.register.proofs.Ways.{hand-short, hand-found}
-use borrow.Author.Needs.{needs}
+use Rattle.register.proofs.Reading.{hand-short, hand-found}
 use Rattle.register.proofs.hand_out.Statement.{statement}
 use Rattle.register.proofs.hand_out.Tie as tie
+
+-- The states that the proof looks back to, by their names.
+abbrev start-from-copy : tie.After-copy → tie.Start
+start-from-copy k = k .before .before .before .before .before .before
 
 returns : tie.Need-returns
 returns c =
@@ -32,7 +37,7 @@ same-length c = search needs
 
 returns-2 : tie.Need-returns-2
 returns-2 c =
-    let s = c .before .before .before .before .before .before .before .before in
+    let s = start-from-copy (c .before .before) in
     let a = s .args in
     let e : a .from + a .bytes - a .from ≡ a .bytes = omega arith in
     hand-found (a .area .now) (a .from) (a .bytes) (a .out .now) (omega arith) (omega arith) (c .before .before .copy .last .0) (rw e at (c .before .before .copy .ensures))

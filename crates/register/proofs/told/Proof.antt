@@ -1,6 +1,7 @@
+-- Each of the three outcomes of a change has its answer in answerFor; case by case the two are the same.
 use mathlib.Core.Path.{sym, ap}
 use borrow.Author.Needs.{needs}
-use Rattle.register.specs.Told.{answerFor}
+use Rattle.register.specs.AidTold.{answerFor}
 use Rattle.register.proofs.told.Statement.{statement}
 use Rattle.register.proofs.told.Tie as tie
 

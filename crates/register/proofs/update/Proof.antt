@@ -1,3 +1,8 @@
+-- No loop. Measures that were judged fine are what the floors below ask (fits-lent). An area that the check calls intact is whole (told-whole).
+-- A record of a length that the measures allow holds its whole key (new-long); the part of it that is sought by is that key (key-part).
+-- A gap means that no record has the key (new-absent); a hit, that one has it (new-present).
+-- The edit where the search ended, one record out and this one in, is that of the request's meaning, and one that fits (update-edits).
+-- What put_in makes of it, and what is told, is then what the meaning says (update-made).
 use Prim.Native.Nat.{ℕ, _+_, _-_}
 use mathlib.Core.Path.{_≡_, _∙_, sym}
 use mathlib.Core.Bool.{true, false}
@@ -8,14 +13,13 @@ use native.Mathlib.Omega.{arith}
 use borrow.Author.Needs.{needs}
 use borrow.Author.Tests.{ltb-true, ltb-false}
 use Rattle.fields.specs.Bytes.{Octets}
-use Rattle.measures.specs.Judgement.{judgedOf}
+use Rattle.measures.specs.Judgement.{judgedOf, Fits}
 use Rattle.measures.specs.declared.Measures.{Measures}
 use Rattle.measures.specs.declared.Judged.the-variants.{Fine}
 use Rattle.interval.specs.Records.{keyOf, within}
 use Rattle.area.specs.Reading.{readArea}
-use Rattle.area_read.specs.Measured.{Measured}
-use Rattle.seek.specs.Sought.{Whole, Sought}
-use Rattle.register.proofs.Measures.{measured, least-is, most-is, least-small, key-part, told-damage, told-whole}
+use Rattle.area_find.specs.AidSought.{Whole, Sought}
+use Rattle.register.proofs.Measures.{fits-lent, least-is, most-is, least-small, key-part, told-damage, told-whole}
 use Rattle.register.proofs.Changing.{makes-as, length-fine, length-short, length-long, update-outside, update-damaged, update-wrong, update-absent, update-makes}
 use Rattle.register.proofs.Edited.{new-long, new-absent, new-present, update-edits, update-made}
 use Rattle.register.proofs.update.Statement.{statement}
@@ -40,8 +44,8 @@ new k = start k .args .new .now
 fine : (k : tie.After-known-told) → judgedOf (start k .args .size) (start k .args .offset) (start k .args .key) (start k .args .most) (length (area k)) ≡ Fine (m k) (n k)
 fine k = sym (k .before .before .before .judge .ensures) ∙ k .before .m .given .1
 
-lent : (k : tie.After-known-told) → Measured (m k) (n k) (area k)
-lent k = let a = start k .args in measured (a .size) (a .offset) (a .key) (a .most) (n k) (m k) (area k) (fine k)
+lent : (k : tie.After-known-told) → Fits (m k) (n k) (length (area k))
+lent k = let a = start k .args in fits-lent (a .size) (a .offset) (a .key) (a .most) (n k) (m k) (area k) (fine k)
 
 least : (k : tie.After-known-told) → m k .least ≡ start k .args .offset + start k .args .key
 least k = let a = start k .args in least-is (a .size) (a .offset) (a .key) (a .most) (n k) (m k) (area k) (fine k)
@@ -79,14 +83,14 @@ right p =
 key-there : (k : tie.After-known-told) → take (start k .args .offset + start k .args .key - start k .args .offset) (drop (start k .args .offset) (new k)) ≡ keyOf (m k) (new k)
 key-there k = let a = start k .args in key-part (a .size) (a .offset) (a .key) (a .most) (n k) (m k) (area k) (fine k) (new k)
 
-abbrev passed : tie.After-seek → tie.Else2
+abbrev passed : tie.After-find → tie.Else2
 passed f = f .before .before .before
 
-abbrev known : tie.After-seek → tie.After-known-told
+abbrev known : tie.After-find → tie.After-known-told
 known f = past (passed f .before .before)
 
-sought : (f : tie.After-seek) → Sought (m (known f)) (n (known f)) (area (known f)) (keyOf (m (known f)) (new (known f))) (f .seek .result)
-sought f = rw (key-there (known f)) at (f .seek .ensures)
+sought : (f : tie.After-find) → Sought (m (known f)) (n (known f)) (area (known f)) (keyOf (m (known f)) (new (known f))) (f .find .result)
+sought f = rw (key-there (known f)) at (f .find .ensures)
 
 judge-requires : tie.Need-judge-requires
 judge-requires c κs = search needs
@@ -137,19 +141,19 @@ add-e c =
     let a = start k .args in
     omega (arith, least-small (a .size) (a .offset) (a .key) (a .most) (n k) (m k) (area k) (fine k))
 
-sub-seek : tie.Need-sub-seek
-sub-seek c = search needs
+sub-find : tie.Need-sub-find
+sub-find c = search needs
 
-part-seek-start : tie.Need-part-seek-start
-part-seek-start c = search needs
+part-find-start : tie.Need-part-find-start
+part-find-start c = search needs
 
-part-seek-end : tie.Need-part-seek-end
-part-seek-end c =
+part-find-end : tie.Need-part-find-end
+part-find-end c =
     let k = past (c .before .before .before) in
     omega (arith, least k, c .before .before .if1 .left)
 
-seek-requires : tie.Need-seek-requires
-seek-requires c κs =
+find-requires : tie.Need-find-requires
+find-requires c κs =
     let p = c .before .before in
     let q = p .before .before in
     let k = past q in
@@ -175,7 +179,7 @@ returns-4 c =
     let w = sound-there (p .before .before) in
     let g = c .enum-told3 .given in
     update-absent (a .size) (a .offset) (a .key) (a .most) (area k) (new k) (m k) (n k) (fine k) (w .content) (w .reads) (right p)
-    (new-absent (m k) (n k) (area k) (lent k) (octets k) w (new k) (right p) (new-octets k) (f .seek .result) (sought f) (g .0 .0) (g .0 .1 .0) (g .1))
+    (new-absent (m k) (n k) (area k) (lent k) (octets k) w (new k) (right p) (new-octets k) (f .find .result) (sought f) (g .0 .0) (g .0 .1 .0) (g .1))
 
 put-in-requires : tie.Need-put-in-requires
 put-in-requires c κs =
@@ -183,7 +187,7 @@ put-in-requires c κs =
     let p = passed f in
     let k = known f in
     let g = c .before .before .found .given in
-    update-edits (m k) (n k) (area k) (lent k) (octets k) (sound-there (p .before .before)) (new k) (right p) (new-octets k) (f .seek .result) (sought f) (g .0 .0) (g .0 .1 .0) (g .0 .1 .1 .0) (g .1)
+    update-edits (m k) (n k) (area k) (lent k) (octets k) (sound-there (p .before .before)) (new k) (right p) (new-octets k) (f .find .result) (sought f) (g .0 .0) (g .0 .1 .0) (g .0 .1 .1 .0) (g .1)
 
 told-requires : tie.Need-told-requires
 told-requires c κs = search needs
@@ -201,8 +205,8 @@ returns-5 c =
     let w = sound-there (p .before .before) in
     let g = t .before .before .before .found .given in
     makes-as (update-makes (a .size) (a .offset) (a .key) (a .most) (area k) (new k) (m k) (n k) (fine k) (w .content) (w .reads) (right p) _ []
-    (new-present (m k) (n k) (area k) (lent k) (octets k) w (new k) (right p) (new-octets k) (f .seek .result) (sought f) (g .0 .0) (g .0 .1 .0) (g .0 .1 .1 .0) (g .1)))
-    (update-made (m k) (n k) (area k) (lent k) (octets k) w (new k) (right p) (new-octets k) (f .seek .result) (sought f) (g .0 .0) (g .0 .1 .0) (g .0 .1 .1 .0) (g .1) (t .put-in .result) (t .put-in .last .0) (c .told .result) (t .put-in .ensures) (c .told .ensures))
+    (new-present (m k) (n k) (area k) (lent k) (octets k) w (new k) (right p) (new-octets k) (f .find .result) (sought f) (g .0 .0) (g .0 .1 .0) (g .0 .1 .1 .0) (g .1)))
+    (update-made (m k) (n k) (area k) (lent k) (octets k) w (new k) (right p) (new-octets k) (f .find .result) (sought f) (g .0 .0) (g .0 .1 .0) (g .0 .1 .1 .0) (g .1) (t .put-in .result) (t .put-in .last .0) (c .told .result) (t .put-in .ensures) (c .told .ensures))
 
 pub update-spec : {M : Type 1} → statement M
 update-spec =
@@ -220,10 +224,10 @@ update-spec =
     same-length-2
     returns-3
     add-e
-    sub-seek
-    part-seek-start
-    part-seek-end
-    seek-requires
+    sub-find
+    part-find-start
+    part-find-end
+    find-requires
     enum-known-found
     enum-told-3
     same-length-3

@@ -1,6 +1,8 @@
+-- The four ways in which a record is added are the cases of also: also-first after no record, also-other after another length,
+-- also-second as the second of a run, also-more as a later one of it. The bounds asked for keep the two sums in a usize.
+use mathlib.Core.Logic.{⊎-elim}
 use borrow.Author.Needs.{needs}
 use borrow.Author.Tests.{eqb-true, eqb-false, not-true, not-false}
-use mathlib.Core.Logic.{⊎-elim}
 use Rattle.room.proofs.Steps.{also-first, also-other, also-second, also-more}
 use Rattle.room.proofs.add.Statement.{statement}
 use Rattle.room.proofs.add.Tie as tie

@@ -1,6 +1,7 @@
-use borrow.Author.Needs.{needs}
+-- Only the next two lengths count. ahead-end: there are fewer than two; ahead-first, ahead-second: one of them differs; ahead-both: both are equal.
 use native.Mathlib.Omega.{arith}
 use denote.Ref.{now}
+use borrow.Author.Needs.{needs}
 use Rattle.room.proofs.Steps.{ahead-end, ahead-first, ahead-second, ahead-both}
 use Rattle.room.proofs.ahead_at.Statement.{statement}
 use Rattle.room.proofs.ahead_at.Tie as tie

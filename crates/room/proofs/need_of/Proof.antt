@@ -1,8 +1,9 @@
-use borrow.Author.Needs.{needs}
+-- room-of-need: the bytes, three for each RDF, and four for the CIDF are the need of any lengths that the room was counted from.
+use Prim.Native.Nat.{ℕ}
 use mathlib.Core.Path.{_≡_, refl}
 use mathlib.Core.List.{List}
-use Prim.Native.Nat.{ℕ}
-use Rattle.room.specs.Steps.{roomOf}
+use borrow.Author.Needs.{needs}
+use Rattle.room.specs.AidSteps.{roomOf}
 use Rattle.room.proofs.Steps.{room-of-need}
 use Rattle.room.proofs.need_of.Statement.{statement}
 use Rattle.room.proofs.need_of.Tie as tie

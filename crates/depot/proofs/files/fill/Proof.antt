@@ -1,8 +1,10 @@
-use borrow.Author.Needs.{needs}
+-- Invariant: n is at most the buffer's length, and the buffer is as long as at the start.
+-- Measure: the bytes of the buffer from n on. It falls, since a read that brings nothing ends the loop.
 use Prim.Native.Nat.{_≤_, _-_}
 use mathlib.Core.Path.{_≡_, sym}
 use lib.ListN.{length}
 use lib.Seq.{length-take-le}
+use borrow.Author.Needs.{needs}
 use Rattle.depot.proofs.files.fill.Statement.{statement}
 use Rattle.depot.proofs.files.fill.Tie as tie
 

@@ -1,3 +1,5 @@
+-- No loop. The lengths asked for are tested before use: the record's against the output, the digits' against the text of 128 bytes.
+-- So each front that is lent has the length it is taken with (length-take-le). Nothing is promised of what is printed.
 use mathlib.Core.Path.{sym}
 use lib.Seq.{length-take-le}
 use borrow.Author.Needs.{needs}

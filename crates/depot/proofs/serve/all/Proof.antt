@@ -1,3 +1,5 @@
+-- Invariant: the area has the length that it had at the start.
+-- Measure: the numbers from place up to the largest of 64 bits. That the file ends isn't known, so the count bounds the loop.
 use Prim.Native.Nat.{_-_}
 use mathlib.Core.Path.{_≡_}
 use lib.ListN.{length}

@@ -1,3 +1,5 @@
+-- Invariant: i lengths were passed, the next record begins within the buffer, and the buffer is as long as it was.
+-- Measure: the lengths left.
 use Prim.Native.Nat.{_≤_, _-_}
 use mathlib.Core.Path.{_≡_}
 use lib.ListN.{length}

@@ -1,19 +1,20 @@
+-- No loop. Nothing is promised of what is printed. The records are lent as long as their room says (room-of-bytes), so the interval can be written.
 use mathlib.Core.Path.{_≡_, _∙_, sym, ap}
 use lib.ListN.{length}
 use lib.Seq.{length-take-le}
 use native.Mathlib.Omega.{arith}
-use Rattle.room.specs.Room.{sum}
+use borrow.Author.Needs.{needs}
+use Rattle.fields.specs.Lists.{sum}
 use Rattle.room.specs.declared.Room.{Room}
 use Rattle.room.proofs.Steps.{room-of-bytes}
-use borrow.Author.Needs.{needs}
 use Rattle.edges.proofs.data.form.Statement.{statement}
 use Rattle.edges.proofs.data.form.Tie as tie
 
 returns : tie.Need-returns
 returns c = search needs
 
-taken-requires : tie.Need-taken-requires
-taken-requires c κs = search needs
+room-of-requires : tie.Need-room-of-requires
+room-of-requires c κs = search needs
 
 need-of-lengths-requires : tie.Need-need-of-lengths-requires
 need-of-lengths-requires c κs = search needs
@@ -54,12 +55,12 @@ array-share-prefix-records c = search needs
 slice-aggregate-write-2 : tie.Need-slice-aggregate-write-2
 slice-aggregate-write-2 c =
     let n : length (c .before .before .before .fill-records .last .0) ≡ 512 = c .before .before .before .fill-records .kept .0 in
-    sym (length-take-le (c .before .before .before .before .before .before .before .before .taken .result .bytes) (c .before .before .before .fill-records .last .0) (omega arith))
+    sym (length-take-le (c .before .before .before .before .before .before .before .before .room-of .result .bytes) (c .before .before .before .fill-records .last .0) (omega arith))
 
 write-requires : tie.Need-write-requires
 write-requires c κs =
     let lens = c .before .before .before .before .before .before .before .before .before .before .before .args .lens .now in
-    let k = c .before .before .before .before .before .before .before .before .taken in
+    let k = c .before .before .before .before .before .before .before .before .room-of in
     let n : length (c .before .before .before .fill-records .last .0) ≡ 512 = c .before .before .before .fill-records .kept .0 in
     let s : sum lens ≡ k .result .bytes = sym (ap (λ (r : Room). r .bytes) (k .ensures .0) ∙ room-of-bytes lens) in
     (omega (arith, c .before .before .before .before .before .before .before .need-of-lengths .ensures), omega arith, s ∙ sym (length-take-le (k .result .bytes) (c .before .before .before .fill-records .last .0) (omega arith)), omega arith)
@@ -81,7 +82,7 @@ form-spec =
     tie.close
     (tie.spec
     returns
-    taken-requires
+    room-of-requires
     need-of-lengths-requires
     slice-aggregate-words
     words-requires

@@ -1,3 +1,5 @@
+-- Invariant: i bytes were printed, of those there are.
+-- Measure: the bytes left.
 use Prim.Native.Nat.{_≤_, _-_}
 use lib.ListN.{length}
 use borrow.Author.Needs.{needs}

@@ -1,3 +1,4 @@
+-- No loop. Nothing is promised of what is printed; the separator that is lent is the front of the left key, as long as was told (length-take-le).
 use mathlib.Core.Path.{sym}
 use lib.Seq.{length-take-le}
 use borrow.Author.Needs.{needs}

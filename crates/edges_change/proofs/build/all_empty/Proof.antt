@@ -1,3 +1,5 @@
+-- Invariant: the area is as long as it was.
+-- Measure: the bytes before `end`.
 use mathlib.Core.Path.{_≡_}
 use lib.ListN.{length}
 use borrow.Author.Needs.{needs}

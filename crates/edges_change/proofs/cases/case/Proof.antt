@@ -1,3 +1,4 @@
+-- No loop. Nothing is promised of what is printed; each part that is lent lies within its list.
 use mathlib.Core.Path.{sym}
 use lib.Seq.{length-take-le}
 use borrow.Author.Needs.{needs}

@@ -1,3 +1,5 @@
+-- Invariant: i of the lengths were tried.
+-- Measure: the lengths left.
 use Prim.Native.Nat.{_≤_, _-_}
 use lib.ListN.{length}
 use borrow.Author.Needs.{needs}

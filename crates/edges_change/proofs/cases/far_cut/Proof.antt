@@ -1,3 +1,5 @@
+-- Invariant: i of the 45 lengths were stored, and there are still 45 places.
+-- Measure: the lengths left.
 use Prim.Native.Nat.{_≤_, _-_}
 use mathlib.Core.Path.{_≡_}
 use lib.ListN.{length}

@@ -1,3 +1,5 @@
+-- Invariant: i records were loaded, and the area is as long as it was.
+-- Measure: the records left.
 use Prim.Native.Nat.{_≤_, _-_}
 use mathlib.Core.Path.{_≡_}
 use lib.ListN.{length}

@@ -1,3 +1,5 @@
+-- Invariant: of the i bytes passed, at most i wait to be printed.
+-- Measure: the bytes left.
 use Prim.Native.Nat.{_≤_, _-_}
 use lib.ListN.{length}
 use borrow.Author.Needs.{needs}

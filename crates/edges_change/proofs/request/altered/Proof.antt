@@ -1,3 +1,5 @@
+-- Invariant: the intervals before `place` were compared, of the n there are.
+-- Measure: the intervals left.
 use Prim.Native.Nat.{_≤_, _-_}
 use borrow.Author.Needs.{needs}
 use Rattle.edges_change.proofs.request.altered.Statement.{statement}

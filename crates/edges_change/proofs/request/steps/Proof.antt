@@ -1,3 +1,5 @@
+-- Invariant: i requests of the script were carried out, and the area is as long as it was.
+-- Measure: the requests left.
 use Prim.Native.Nat.{_≤_, _-_}
 use mathlib.Core.Path.{_≡_}
 use lib.ListN.{length}

@@ -1,3 +1,5 @@
+-- Invariant: i free numbers were stored, and there are as many places as there were.
+-- Measure: the numbers left.
 use Prim.Native.Nat.{_≤_, _-_}
 use mathlib.Core.Path.{_≡_}
 use lib.ListN.{length}

@@ -1,9 +1,0 @@
-pub mod Keys
-pub mod Around
-pub mod Making
-pub mod Edits
-pub mod Lying
-pub mod Gets
-pub mod Order
-pub mod Accepted
-pub mod Unique

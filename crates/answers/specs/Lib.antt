@@ -1,6 +1,0 @@
-pub mod Answers
-pub mod Records
-pub mod Model
-pub mod Reading
-pub mod Finding
-pub mod Changing

@@ -1,0 +1,106 @@
+-- No loop. The entry's interval can be read (edit-readable), and the record that goes lies in it (edit-goes).
+-- What the scratch holds then are the entry's records with the edit made: ready to be spread (edit-ready), and spread, the edit
+-- carried out (edit-made). An area reads as one content only, so what is said of any content is said of this one (same-content).
+use mathlib.Core.List.{[]}
+use native.Mathlib.Omega.{arith}
+use borrow.Author.Needs.{needs}
+use Rattle.measures.proofs.Fine.{fits-small}
+use Rattle.area.proofs.Places.{data-ends, data-small}
+use Rattle.change_write.proofs.Editing.{counted-bytes, counted-lens, edit-readable, edit-goes, edit-ready, edit-made}
+use Rattle.change_write.proofs.take_out.Statement.{statement}
+use Rattle.change_write.proofs.take_out.Tie as tie
+
+add-a : tie.Need-add-a
+add-a c = search needs
+
+mul-a : tie.Need-mul-a
+mul-a c =
+    let s = c .before .before in
+    let a = s .args in
+    omega (arith, data-small (a .m) (a .n) (a .area .now) (s .pre .entered .fits) (a .number) (s .pre .entered .within))
+
+add-e : tie.Need-add-e
+add-e c =
+    let s = c .before .before .before in
+    let a = s .args in
+    omega (arith, data-small (a .m) (a .n) (a .area .now) (s .pre .entered .fits) (a .number) (s .pre .entered .within), fits-small (s .pre .entered .fits))
+
+sub-take-out : tie.Need-sub-take-out
+sub-take-out c = search needs
+
+part-take-out-start : tie.Need-part-take-out-start
+part-take-out-start c = search needs
+
+part-take-out-end : tie.Need-part-take-out-end
+part-take-out-end c =
+    let s = c .before .before .before .before in
+    let a = s .args in
+    let z = data-ends (a .m) (a .n) (a .area .now) (s .pre .entered .fits) (a .number) (s .pre .entered .within) in
+    search needs
+
+slice-aggregate-take-out : tie.Need-slice-aggregate-take-out
+slice-aggregate-take-out c = search needs
+
+slice-aggregate-take-out-2 : tie.Need-slice-aggregate-take-out-2
+slice-aggregate-take-out-2 c = search needs
+
+take-out-requires : tie.Need-take-out-requires
+take-out-requires c κs =
+    let s = c .before .before .before .before .before .before .before in
+    let a = s .args in
+    (edit-readable (a .m) (a .n) (a .area .now) (a .entry) (a .number) (a .ordinal) (a .start) 1 (a .span) [] (s .pre), edit-goes (a .m) (a .n) (a .area .now) (a .entry) (a .number) (a .ordinal) (a .start) 1 (a .span) [] (s .pre), omega arith, omega arith)
+
+array-share-prefix-bytes : tie.Need-array-share-prefix-bytes
+array-share-prefix-bytes c = search needs
+
+slice-aggregate-make : tie.Need-slice-aggregate-make
+slice-aggregate-make c =
+    let p = c .before .before .before .before .take-out in
+    counted-bytes _ _ (p .last .1 .1 .1 .1 .1 .0) (p .last .1 .1 .1 .1 .1 .1 .0) _ (p .result) (p .ensures)
+
+array-share-prefix-lens : tie.Need-array-share-prefix-lens
+array-share-prefix-lens c = search needs
+
+slice-aggregate-make-2 : tie.Need-slice-aggregate-make-2
+slice-aggregate-make-2 c =
+    let p = c .before .before .before .before .before .take-out in
+    counted-lens _ _ (p .last .1 .1 .1 .1 .1 .0) (p .last .1 .1 .1 .1 .1 .1 .0) _ (p .result) (p .ensures)
+
+make-requires : tie.Need-make-requires
+make-requires c κs =
+    let s = c .before .before .before .before .before .before .before .before .before .before .before .before .before in
+    let a = s .args in
+    let p = c .before .before .before .before .before .take-out in
+    edit-ready (a .m) (a .n) (a .area .now) (a .entry) (a .number) (a .ordinal) (a .start) 1 (a .span) [] (s .pre) _ _ (p .last .1 .1 .1 .1 .1 .0) (p .last .1 .1 .1 .1 .1 .1 .0) (p .result) (p .ensures)
+
+same-length : tie.Need-same-length
+same-length c = search needs
+
+returns : tie.Need-returns
+returns c =
+    let s = c .before .before .before .before .before .before .before .before .before .before .before .before .before .before .before .before in
+    let a = s .args in
+    let p = c .before .before .before .before .before .before .before .before .take-out in
+    let k = c .before .before .make in
+    edit-made (a .m) (a .n) (a .area .now) (a .entry) (a .number) (a .ordinal) (a .start) 1 (a .span) [] (s .pre) _ _ (p .last .1 .1 .1 .1 .1 .0) (p .last .1 .1 .1 .1 .1 .1 .0) (p .result) (p .ensures) (k .result) (k .last .0) (k .ensures)
+
+pub take-out-spec : {M : Type 1} → statement M
+take-out-spec =
+    tie.close
+    (tie.spec
+    add-a
+    mul-a
+    add-e
+    sub-take-out
+    part-take-out-start
+    part-take-out-end
+    slice-aggregate-take-out
+    slice-aggregate-take-out-2
+    take-out-requires
+    array-share-prefix-bytes
+    slice-aggregate-make
+    array-share-prefix-lens
+    slice-aggregate-make-2
+    make-requires
+    same-length
+    returns)

@@ -1,0 +1,2 @@
+pub mod AidCarried
+pub mod AidAsked

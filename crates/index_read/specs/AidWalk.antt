@@ -1,0 +1,107 @@
+-- What the walk's own functions answer. These are aids that follow the code's loops and steps; nothing here has to be believed, since the
+-- check's contract cites only specs/Check.antt, and proofs/ shows that the two are the same.
+use Prim.Native.Nat.{ℕ, zero, suc, _+_, _-_, _*_, _≤_, _<_, _^_}
+use mathlib.Core.Path.{_≡_}
+use mathlib.Core.Bool.{Bool, true, false}
+use mathlib.Core.List.{List, [], _∷_, _++_, map}
+use lib.ListN.{length, getD, take, drop, set, replicate}
+use lib.Dec.{eqb, leb, ltb}
+use Rattle.fields.specs.Choice.{pick, both}
+use Rattle.fields.specs.Bytes.{part}
+use Rattle.fields.specs.Order.{less}
+use Rattle.index.specs.Bounds.{empty, bound, separator}
+use Rattle.index.specs.Pieces.{Piece, spelt, pieceSize}
+use Rattle.index.specs.Reading.{unusedAt, lastAt, sectionAt, freeCount, lengthAt, piecesAt}
+use Rattle.index_read.specs.AidParsing.{frontAt, charsAt, parsedOf}
+use Rattle.index_read.specs.declared.Marks.{Marks}
+use Rattle.index_read.specs.declared.Parsed.{Parsed}
+use Rattle.index_read.specs.declared.Parsed.the-variants.{Of, Bad}
+use Rattle.index_read.specs.declared.Places.{Places}
+use Rattle.index_read.specs.declared.Places.the-variants.{At, Nowhere}
+use Rattle.index_read.specs.declared.Limits.{Limits}
+
+-- ---- the displacements, as far as they can be judged before the walk
+
+unfoldable pub liesWell : ℕ → ℕ → List ℕ → Bool
+liesWell w n ib =
+    both (eqb (sectionAt ib) (lastAt ib))
+    (both (eqb (24 + w * freeCount w ib) (unusedAt ib))
+    (both (ltb (freeCount w ib) n) (both (leb (unusedAt ib) (lastAt ib)) (leb (lastAt ib) (length ib - 7)))))
+
+unfoldable pub placesOf : ℕ → ℕ → List ℕ → Places
+placesOf w n ib = pick (liesWell w n ib) (At (freeCount w ib) (lastAt ib)) Nowhere
+
+-- ---- one entry
+
+-- some byte is below X'FF'
+unfoldable pub someLow : List ℕ → Bool
+someLow [] = false
+someLow (x ∷ xs) = pick (ltb x 255) true (someLow xs)
+
+-- the bound of sep is above the one that the first K bytes of buf hold; before the first entry there is none
+abbrev pub boundRises : Bool → ℕ → List ℕ → List ℕ → Bool
+boundRises first K buf sep = pick first true (less (take K buf) (bound K sep))
+
+-- the separator of the entry that ends at place r, if buf begins with the separator before
+abbrev pub nextIn : ℕ → List ℕ → ℕ → List ℕ → List ℕ
+nextIn w ib r buf = take (frontAt w ib r) buf ++ part ib (charsAt w ib r) (lengthAt w ib r)
+
+unfoldable pub entryOf : ℕ → List ℕ → ℕ → ℕ → ℕ → ℕ → Bool → List ℕ → Parsed
+entryOf w ib r edge len K first buf =
+    pick (both (boundRises first K buf (nextIn w ib r buf)) (separator K (nextIn w ib r buf))) (parsedOf w ib r edge len K) Bad
+
+-- after a good entry the buffer holds its bound
+abbrev pub Renewed : ℕ → List ℕ → List ℕ → List ℕ → Parsed → Type 0
+Renewed K ib old new Bad = Unit {0}
+Renewed K ib old new (Of f l at number) = new ≡ bound K (take f old ++ part ib at l) ++ drop K old
+
+-- ---- all entries
+
+-- the entries that end at place r and must begin at place e; low and ref are bound and separator of the one before
+unfoldable pub chain : ℕ → ℕ → ℕ → ℕ → List ℕ → List ℕ → List Piece → Bool
+chain w K e r low ref [] = both (eqb r e) (empty ref)
+chain w K e r low ref (p ∷ ps) =
+    both (leb (e + pieceSize w p) r)
+    (both (leb (p .front) (length ref))
+    (both (separator K (spelt ref p))
+    (both (less low (bound K (spelt ref p))) (chain w K e (r - pieceSize w p) (bound K (spelt ref p)) (spelt ref p) ps))))
+
+abbrev pub pieceNumbers : List Piece → List ℕ
+pieceNumbers ps = map (λ (p : Piece). p .num) ps
+
+-- ---- marks
+
+-- every number is below n and not marked yet
+unfoldable pub marking : ℕ → List ℕ → List ℕ → Bool
+marking n seen [] = true
+marking n seen (x ∷ xs) = both (ltb x n) (both (eqb (getD seen x 0) 0) (marking n (set seen x 1) xs))
+
+-- the marks afterwards
+unfoldable pub seenAfter : List ℕ → List ℕ → List ℕ
+seenAfter seen [] = seen
+seenAfter seen (x ∷ xs) = seenAfter (set seen x 1) xs
+
+-- every number below k is marked
+unfoldable pub allSeen : List ℕ → ℕ → Bool
+allSeen seen zero = true
+allSeen seen (suc k) = pick (eqb (getD seen k 0) 0) false (allSeen seen k)
+
+abbrev pub emptyMarks : Marks
+emptyMarks = record { seen = replicate 256 0; used = 0; free = 0 }
+
+abbrev pub freeAll : Marks → List ℕ → Marks
+freeAll m xs = record { seen = seenAfter (m .seen) xs; used = m .used; free = m .free + length xs }
+
+abbrev pub usedAll : Marks → List ℕ → Marks
+usedAll m xs = record { seen = seenAfter (m .seen) xs; used = m .used + length xs; free = m .free }
+
+-- the entries from place r on keep the rules, and their numbers are new
+unfoldable pub fineFrom : ℕ → ℕ → ℕ → ℕ → List ℕ → List ℕ → List ℕ → List ℕ → ℕ → ℕ → Bool
+fineFrom w K n e ib seen low ref r left =
+    let ps = piecesAt w ib r left in
+    both (chain w K e r low ref ps) (marking n seen (pieceNumbers ps))
+
+-- ---- what the walk asks: a width and a key that were judged, an edge that two bytes tell, marks that can still count so many
+abbrev pub Walkable : List ℕ → Limits → Marks → ℕ → Type 0
+Walkable ib by marks count =
+    (1 ≤ by .width) × (by .width ≤ 4) × (7 ≤ length ib) × (by .edge < 65536) × (1 ≤ by .key) × (by .key ≤ 255) × (by .n ≤ 256) × (marks .used + count < 2 ^ 64)

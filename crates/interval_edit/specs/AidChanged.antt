@@ -1,0 +1,37 @@
+-- Aids: a change of an interval's records, laid out in two flat buffers. Contracts between crates cite them.
+use Prim.Native.Nat.{ℕ, _+_, _≤_}
+use mathlib.Core.Path.{_≡_}
+use mathlib.Core.List.{List, map}
+use lib.ListN.{length, take, drop}
+use Rattle.fields.specs.Bytes.{splice}
+use Rattle.fields.specs.Lists.{concat}
+use Rattle.measures.specs.declared.Measures.{Measures}
+use Rattle.interval.specs.Search.{startOf}
+use Rattle.interval.specs.Reading.{displacement, recordsIn, Readable}
+use Rattle.interval_edit.specs.declared.Extent.{Extent}
+
+-- Which records go: so many from that ordinal on. Where their bytes start, and how many these are.
+pub record Goes (rs : List (List ℕ)) (ordinal start gone bytes : ℕ) : Type 0 where
+  pub starts : start ≡ startOf ordinal rs
+  pub inside : ordinal + gone ≤ length rs
+  pub takes : bytes ≡ length (concat (take gone (drop ordinal rs)))
+
+-- The records rs lie end to end at the front of the one buffer, their lengths at the front of the other; what lies behind is as it was.
+-- The answer says how many bytes and lengths that are.
+pub record Changed (bytes₀ lens₀ bytes lens : List ℕ) (rs : List (List ℕ)) (r : Extent) : Type 0 where
+  pub bytes-are : bytes ≡ splice bytes₀ 0 (concat rs)
+  pub lens-are : lens ≡ splice lens₀ 0 (map length rs)
+  pub total : r .bytes ≡ length (concat rs)
+  pub many : r .count ≡ length rs
+  pub total-most : r .bytes ≤ 65536
+  pub many-most : r .count ≤ 32768
+
+-- the span lies among the records' bytes, and the buffer is long enough for them with the new ones
+abbrev pub SpanLies : List ℕ → ℕ → ℕ → List ℕ → List ℕ → Type 0
+SpanLies ci start span new bytes =
+    (4 ≤ length ci) × (displacement ci ≤ length ci) × (start + span ≤ displacement ci) × (displacement ci + length new ≤ length bytes)
+
+-- a sound interval, records of it that go, and buffers long enough for whatever comes out
+abbrev pub CanPutIn : Measures → List ℕ → ℕ → ℕ → ℕ → ℕ → List ℕ → List ℕ → List ℕ → Type 0
+CanPutIn m ci ordinal start gone span new bytes lens =
+    Readable m ci × Goes (recordsIn ci) ordinal start gone span × (length new ≤ 32768) × (65536 ≤ length bytes) × (32768 ≤ length lens)

@@ -1,0 +1,4 @@
+pub mod Serving
+pub mod Digits
+pub mod Vectors
+pub mod Unique

@@ -1,0 +1,43 @@
+-- The order of refusals, and that a refusal leaves what was lent: 2 before 3 and 9, 4 before 6 and 7.
+use Prim.Native.Nat.{ℕ}
+use mathlib.Core.Path.{_≡_, refl}
+use mathlib.Core.Bool.{true}
+use mathlib.Core.List.{List, _∷_}
+use lib.ListN.{length}
+use Rattle.measures.specs.Judgement.{judgedOf}
+use Rattle.measures.specs.declared.Measures.{Measures}
+use Rattle.measures.specs.declared.Judged.the-variants.{Fine}
+use Rattle.interval.specs.Records.{keyOf, within}
+use Rattle.area.specs.Content.{Content, recordsOf}
+use Rattle.area.specs.Reading.{damaged, whole, readArea}
+use Rattle.change.specs.Plan.{Plan, noInterval, noRoom, stores}
+use Rattle.requests.specs.Answers.{numberOf}
+use Rattle.requests.specs.Records.{withKey}
+use Rattle.requests.specs.Reading.{getOf, getAtOf}
+use Rattle.requests.specs.Changing.{kept, carryOut, insertOf}
+use Rattle.requests.specs.declared.Answer.the-variants.{Damaged, Present}
+
+module _ (size offset key most : ℕ) (area : List ℕ) (m : Measures) (n : ℕ) (j : judgedOf size offset key most (length area) ≡ Fine m n)
+    (place : ℕ) (d : readArea m n area ≡ damaged place) (out : List ℕ) where
+  -- 2 comes before 3: whatever the key's length
+  pub get-damaged : (wanted : List ℕ) → getOf size offset key most area wanted out ≡ record { answer = Damaged place; output = out }
+  unfolding getOf
+  get-damaged wanted = rw (j, d) refl
+
+  -- and before 9
+  pub get-at-damaged : (address : ℕ) → getAtOf size offset key most area address out ≡ record { answer = Damaged place; output = out }
+  unfolding getAtOf
+  get-at-damaged address = rw (j, d) refl
+
+-- 4 comes before 6 and 7: a key that is present is told whatever room there is
+pub insert-present : (size offset key most : ℕ) (area : List ℕ) (m : Measures) (n : ℕ) → judgedOf size offset key most (length area) ≡ Fine m n
+    → (c : Content) → readArea m n area ≡ whole c → (r x : List ℕ) (xs : List (List ℕ)) → within (m .least) (m .most) (length r) ≡ true
+    → withKey m (keyOf m r) (recordsOf (c .filled)) ≡ x ∷ xs → insertOf size offset key most area r ≡ kept Present area
+unfolding insertOf
+insert-present size offset key most area m n j c w r x xs l e = rw (j, w, l, e) refl
+
+-- a plan that refuses leaves the area
+pub refused-spares : (m : Measures) (area : List ℕ) (p : Plan) → (numberOf (carryOut m area p .answer) ≡ 0 → ⊥) → carryOut m area p .area ≡ area
+refused-spares m area noInterval d = refl
+refused-spares m area noRoom d = refl
+refused-spares m area (stores ss) d = absurd (d refl)
