@@ -1,0 +1,46 @@
+-- An answer as a program in C reads it, a number and up to two values: document 01, 'What each number tells the depot'.
+use Prim.Native.Nat.{ℕ}
+use mathlib.Core.Path.{_≡_}
+use mathlib.Core.List.{List}
+use lib.ListN.{getD}
+use Rattle.interval.specs.declared.Found.{Found}
+use Rattle.interval.specs.declared.Found.the-variants.{At, Gap}
+use Rattle.requests.specs.Answers.{numberOf, valuesOf}
+use Rattle.requests.specs.Reading as reading
+use Rattle.requests.specs.Changing.{Outcome}
+use Rattle.requests.specs.declared.Answer.{Answer}
+use Rattle.exports.specs.declared.Values.{Values}
+use Rattle.index_read.specs.declared.Index.{Index}
+use Rattle.index_read.specs.declared.Index.the-variants.{Sound, Unsound}
+
+-- the number, and the values in their order, 0 where there are fewer
+abbrev pub valuesTold : Answer → Values
+valuesTold a = record { number = numberOf a; first = getD (valuesOf a) 0 0; second = getD (valuesOf a) 1 0 }
+
+-- what a check leaves: its number and both values
+pub record Told (a : Answer) (r first second : ℕ) : Type 0 where
+  pub number : r ≡ numberOf a
+  pub first-is : first ≡ getD (valuesOf a) 0 0
+  pub second-is : second ≡ getD (valuesOf a) 1 0
+
+-- what a get leaves: its number, its value, the whole output
+pub record Given (g : reading.Given) (r value : ℕ) (output : List ℕ) : Type 0 where
+  pub number : r ≡ numberOf (g .answer)
+  pub value-is : value ≡ getD (valuesOf (g .answer)) 0 0
+  pub outputs : output ≡ g .output
+
+-- what a change leaves: its number, its value, the whole area
+pub record Made (o : Outcome) (r value : ℕ) (area : List ℕ) : Type 0 where
+  pub number : r ≡ numberOf (o .answer)
+  pub value-is : value ≡ getD (valuesOf (o .answer)) 0 0
+  pub leaves : area ≡ o .area
+
+-- a key's place: 1 for a record, 0 for a gap, with the ordinal and the start
+abbrev pub placeTold : Found → Values
+placeTold (At i start len) = record { number = 1; first = i; second = start }
+placeTold (Gap i start) = record { number = 0; first = i; second = start }
+
+-- a record's verdict: 1 with its free numbers and entries, or 0
+abbrev pub indexTold : Index → Values
+indexTold (Sound free entries) = record { number = 1; first = free; second = entries }
+indexTold Unsound = record { number = 0; first = 0; second = 0 }
