@@ -4,6 +4,7 @@ use mathlib.Core.Path.{_≡_}
 use mathlib.Core.Bool.{false, true, Bool}
 use mathlib.Core.List.{List, []}
 use lib.ListN.{length, take}
+use Rattle.fields.specs.Choice.{pick}
 use Rattle.measures.specs.Judgement.{Fits}
 use Rattle.measures.specs.declared.Measures.{Measures}
 use Rattle.interval.specs.Records.{keysOf, upTo}
@@ -12,12 +13,11 @@ use Rattle.interval_read.specs.declared.Opened.{Opened}
 use Rattle.interval_read.specs.declared.Opened.the-variants as opened
 use Rattle.index.specs.Meaning.{Entry}
 use Rattle.index.specs.Reading.{readIndex, soundIndex}
+use Rattle.index.specs.Bounds.{bound}
+use Rattle.index_read.specs.AidParsing.{joinedOf}
 use Rattle.area.specs.Content.{fill, recordsOf}
 use Rattle.area.specs.Soundness.{unsoundUsed}
 use Rattle.area_read.specs.declared.Seen.{Seen}
-use Rattle.fields.specs.Choice.{pick}
-use Rattle.index.specs.Bounds.{bound}
-use Rattle.index_read.specs.AidParsing.{joinedOf}
 
 -- an aid: an interval that opened well is judged by its own bound
 abbrev pub Closed : Measures → List ℕ → List ℕ → Opened → Seen → Type 0

@@ -2,16 +2,19 @@
 use Prim.Native.Nat.{ℕ}
 use mathlib.Core.Path.{_≡_}
 use mathlib.Core.List.{List}
-use lib.ListN.{getD}
+use lib.ListN.{getD, length}
+use Rattle.measures.specs.Judgement.{measures}
+use Rattle.interval.specs.Reading.{recordsIn}
+use Rattle.interval.specs.Search.{placeOf}
 use Rattle.interval.specs.declared.Found.{Found}
 use Rattle.interval.specs.declared.Found.the-variants.{At, Gap}
+use Rattle.index_read.specs.declared.Index.{Index}
+use Rattle.index_read.specs.declared.Index.the-variants.{Sound, Unsound}
 use Rattle.requests.specs.Answers.{numberOf, valuesOf}
 use Rattle.requests.specs.Reading as reading
 use Rattle.requests.specs.Changing.{Outcome}
 use Rattle.requests.specs.declared.Answer.{Answer}
 use Rattle.exports.specs.declared.Values.{Values}
-use Rattle.index_read.specs.declared.Index.{Index}
-use Rattle.index_read.specs.declared.Index.the-variants.{Sound, Unsound}
 
 -- the number, and the values in their order, 0 where there are fewer
 abbrev pub valuesTold : Answer → Values
@@ -39,6 +42,10 @@ pub record Made (o : Outcome) (r value : ℕ) (area : List ℕ) : Type 0 where
 abbrev pub placeTold : Found → Values
 placeTold (At i start len) = record { number = 1; first = i; second = start }
 placeTold (Gap i start) = record { number = 0; first = i; second = start }
+
+-- that of a key among the records of an interval
+abbrev pub placeIn : List ℕ → ℕ → ℕ → ℕ → List ℕ → Values
+placeIn ci offset key most wanted = placeTold (placeOf (measures (length ci) offset key most) wanted (recordsIn ci))
 
 -- a record's verdict: 1 with its free numbers and entries, or 0
 abbrev pub indexTold : Index → Values

@@ -2,16 +2,14 @@
 // three functions of lower floors that are worth timing alone; each asks what the function that it calls asks.
 ghost use Prim.Native.Nat.{_≤_};
 ghost use mathlib.Core.Path.{_≡_};
-ghost use mathlib.Core.List.{[]};
 ghost use lib.ListN.{length};
 ghost use Rattle.measures.specs.Judgement.{measures};
-ghost use Rattle.interval.specs.Reading.{recordsIn, Readable};
-ghost use Rattle.interval.specs.Search.{placeOf};
+ghost use Rattle.interval.specs.Reading.{Readable};
 ghost use Rattle.index_read.specs.Check.{indexOf};
 ghost use Rattle.index_find.specs.AidLocate.{Searchable, Leads};
 ghost use Rattle.requests.specs.Reading.{checkOf, getOf, getAtOf};
 ghost use Rattle.requests.specs.Changing.{insertOf, updateOf, eraseOf};
-ghost use Rattle.exports.specs.Values.{valuesTold, placeTold, indexTold, Told, Given, Made};
+ghost use Rattle.exports.specs.Values.{valuesTold, indexTold, Told, Given, Made, placeIn};
 use index_read::Index;
 use interval::Found;
 use measures::Measures;
@@ -191,7 +189,7 @@ pub extern "C" fn belquita_find(
     requires sound { ⌜ Readable (measures (length (now ci)) offset key most) (now ci) ⌝ }
     requires keyed { ⌜ length (now wanted) ≡ key ⌝ }
     requires small { ⌜ offset ≤ 32768 ⌝ }
-    ensures { λ r. ⌜ record { number = r; first = now (ordinal .exit); second = now (start .exit) } ≡ placeTold (placeOf (measures (length (now (ci .entry))) offset key most) (now (wanted .entry)) (recordsIn (now (ci .entry)))) ⌝ }
+    ensures { λ r. ⌜ record { number = r; first = now (ordinal .exit); second = now (start .exit) } ≡ placeIn (now (ci .entry)) offset key most (now (wanted .entry)) ⌝ }
 {
     let m = Measures {
         size: ci.len(),

@@ -9,3 +9,4 @@ pub mod Tables
 pub mod Masks
 pub mod Unique
 pub mod Lists
+pub mod Words

@@ -5,7 +5,7 @@ use mathlib.Core.List.{List, [], _∷_, _++_, append-assoc, append-nil}
 use lib.ListN.{length, getD, drop, set, length-append, length-drop}
 use lib.Seq.{getD-append-seam, take-at, drop-at, take-suc, getD-drop}
 use native.Mathlib.Omega.{arith}
-use native.Mathlib.Nat.{div-add-mod', mod-eq-of-lt, mul-suc}
+use native.Mathlib.Nat.{div-add-mod', mod-eq-of-lt, mul-suc, pow-suc, mul-assoc}
 use native.Mathlib.Numerals.{add-one}
 use Rattle.fields.specs.Bytes.{Octets, part, number, digits, splice}
 use Rattle.fields.proofs.Splices.{sets-splice, splice-nil, set-splice, length-splice}
@@ -71,13 +71,26 @@ digits-2 x h =
     let e : x / 256 % 256 ≡ x / 256 = mod-eq-of-lt (omega arith) in
     rw e
 
-pub number-4 : (b : List ℕ) (i : ℕ) → number 4 b i ≡ number 2 b i * 65536 + number 2 b (i + 2)
+pub number-4 : (b : List ℕ) (i : ℕ) → number 4 b i ≡ getD b i 0 * 16777216 + getD b (i + 1) 0 * 65536 + getD b (i + 2) 0 * 256 + getD b (i + 3) 0
 unfolding number
 number-4 b i =
     let p : i + 0 ≡ i = omega arith in
-    let q : i + 2 + 0 ≡ i + 2 = omega arith in
-    let r : i + 2 + 1 ≡ i + 3 = omega arith in
-    rw (p, q, r) (omega arith)
+    rw p (omega arith)
+
+-- the number of two stretches, one after the other
+pub number-add : (v w : ℕ) (b : List ℕ) (a : ℕ) → number (v + w) b a ≡ number v b a * 256 ^ w + number w b (a + v)
+unfolding number
+number-add v zero b a =
+    let p : v + 0 ≡ v = omega arith in
+    rw p (omega arith)
+number-add v (suc w) b a =
+    let p : v + suc w ≡ suc (v + w) = omega arith in
+    let q : a + (v + w) ≡ a + v + w = omega arith in
+    let r : number v b a * 256 ^ suc w ≡ number v b a * 256 ^ w * 256 = ap (λ (x : ℕ). number v b a * x) (pow-suc 256 w) ∙ sym (mul-assoc (number v b a) (256 ^ w) 256) in
+    rw (p, number-add v w b a, q, r) (omega arith)
+
+pub number-8 : (b : List ℕ) (i : ℕ) → number 8 b i ≡ number 4 b i * 4294967296 + number 4 b (i + 4)
+number-8 b i = number-add 4 4 b i
 
 -- no byte, and one byte more
 pub number-none : (b : List ℕ) (a : ℕ) → 0 ≡ number 0 b a

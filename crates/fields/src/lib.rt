@@ -30,12 +30,23 @@ pub fn read_two(b: &[u8], at: usize) -> usize
     high * 256 + low
 }
 
-// The number in four bytes.
+// The number in four bytes. Each byte is shifted to its place by itself: so the compiler makes one load of it, and one of eight.
 pub fn read_four(b: &[u8], at: usize) -> usize
     requires { ⌜ at + 4 ≤ length (now b) ⌝ }
     ensures { λ r. ⌜ (r ≡ number 4 (now (b .entry)) at) × (r < 4294967296) ⌝ }
 {
-    read_two(b, at) * 65536 + read_two(b, at + 2)
+    let first = wide(b[at]) * 16777216;
+    let second = wide(b[at + 1]) * 65536;
+    let third = wide(b[at + 2]) * 256;
+    first + second + third + wide(b[at + 3])
+}
+
+// The number in eight bytes.
+pub fn read_eight(b: &[u8], at: usize) -> usize
+    requires { ⌜ at + 8 ≤ length (now b) ⌝ }
+    ensures { λ r. ⌜ r ≡ number 8 (now (b .entry)) at ⌝ }
+{
+    read_four(b, at) * 4294967296 + read_four(b, at + 4)
 }
 
 // The number in `width` bytes: a pointer.
@@ -96,8 +107,8 @@ pub(crate) fn shorter(a: usize, b: usize) -> usize
     if a < b { a } else { b }
 }
 
-// How the part a stands to the part b: the first byte in which they differ decides.
-pub fn compare(a: &[u8], b: &[u8]) -> Order
+// How the part a stands to the part b, byte by byte: the first byte in which they differ decides. For parts of a few bytes.
+pub fn compare_bytes(a: &[u8], b: &[u8]) -> Order
     ensures { λ r. ⌜ r ≡ orderOf (now (a .entry)) (now (b .entry)) ⌝ }
 {
     let i = common_front(a, b);
@@ -114,6 +125,37 @@ pub fn compare(a: &[u8], b: &[u8]) -> Order
         return Order::Less;
     }
     Order::Greater
+}
+
+// The same by words: eight bytes at a time are one number each, the highest byte first, and the first numbers that differ decide;
+// what is left of either part is compared byte by byte.
+pub(crate) fn compare_words(a: &[u8], b: &[u8]) -> Order
+    ensures { λ r. ⌜ r ≡ orderOf (now (a .entry)) (now (b .entry)) ⌝ }
+{
+    let n = shorter(a.len(), b.len());
+    let mut i = 0;
+    while 8 <= n - i {
+        let x = read_eight(a, i);
+        let y = read_eight(b, i);
+        if x < y {
+            return Order::Less;
+        }
+        if y < x {
+            return Order::Greater;
+        }
+        i += 8;
+    }
+    compare_bytes(&a[i..], &b[i..])
+}
+
+// How the part a stands to the part b: by words where it has one.
+pub fn compare(a: &[u8], b: &[u8]) -> Order
+    ensures { λ r. ⌜ r ≡ orderOf (now (a .entry)) (now (b .entry)) ⌝ }
+{
+    if a.len() < 8 {
+        return compare_bytes(a, b);
+    }
+    compare_words(a, b)
 }
 
 // Stores a run of bytes from a place on.

@@ -18,7 +18,7 @@ pub(crate) fn is_below(buf: &[u8], key: &[u8], len: usize) -> bool
     requires { ⌜ (len ≤ length (now buf)) × (len ≤ length (now key)) ⌝ }
     ensures { λ r. ⌜ r ≡ less (take len (now (buf .entry))) (take len (now (key .entry))) ⌝ }
 {
-    let Order::Less = fields::compare(&buf[..len], &key[..len]) else {
+    let Order::Less = fields::compare_bytes(&buf[..len], &key[..len]) else {
         return false;
     };
     true

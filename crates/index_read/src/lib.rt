@@ -136,7 +136,7 @@ pub(crate) fn ascends(
     }
     let e = front + len;
     let z = at + len;
-    let o = fields::compare(&buf[front..e], &ib[at..z]);
+    let o = fields::compare_bytes(&buf[front..e], &ib[at..z]);
     match o {
         Order::Less => true,
         Order::Same => some_low(&buf[e..key]),

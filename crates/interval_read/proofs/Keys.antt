@@ -36,9 +36,8 @@ module _ (key : ℕ) (ci prev : List ℕ) (at len c : ℕ) (some : 0 < c) where
   turn : ascendFrom prev (keysAt key ci at len c) ≡ both (less prev (part ci at key)) (ascendFrom (part ci at key) (keysAt key ci (at + len) len (c - 1)))
   turn = rw (keys-more key ci at len c some) (ascend-cons prev (part ci at key) (keysAt key ci (at + len) len (c - 1)))
 
-  pub run-on : Less ≡ orderOf prev (part ci at key)
-      → ascendFrom prev (keysAt key ci at len c) ≡ ascendFrom (part ci at key) (keysAt key ci (at + len) len (c - 1))
-  run-on e = turn ∙ rw (← e)
+  pub run-on : less prev (part ci at key) ≡ true → ascendFrom prev (keysAt key ci at len c) ≡ ascendFrom (part ci at key) (keysAt key ci (at + len) len (c - 1))
+  run-on e = turn ∙ rw e
 
   pub run-stops : less prev (part ci at key) ≡ false → ascendFrom prev (keysAt key ci at len c) ≡ false
   run-stops e = turn ∙ rw e

@@ -1,12 +1,13 @@
 -- Aids: what the walk has before it, in the terms of its places. Contracts of this crate's inner functions cite them;
 -- nothing here has to be believed, as `verdictOf` is shown equal to it.
 use Prim.Native.Nat.{ℕ, zero, suc, _+_, _*_, _≤_, _-_, _<_}
+use mathlib.Core.Path.{_≡_}
 use mathlib.Core.Bool.{Bool}
 use mathlib.Core.List.{List, [], _∷_}
 use lib.ListN.{length}
 use lib.Dec.{eqb}
 use Rattle.fields.specs.Choice.{pick, both, no}
-use Rattle.fields.specs.Bytes.{part}
+use Rattle.fields.specs.Bytes.{part, number}
 use Rattle.fields.specs.Lists.{sum}
 use Rattle.measures.specs.declared.Measures.{Measures}
 use Rattle.interval.specs.Records.{ascendFrom}
@@ -54,3 +55,13 @@ walked m ci d many rs =
 abbrev pub RunLies : List ℕ → ℕ → ℕ → ℕ → ℕ → ℕ → Type 0
 RunLies ci key prev at len count =
     (prev + key ≤ length ci) × (1 ≤ key) × (key ≤ len) × (1 ≤ count) × (at + len * count ≤ length ci + (len - key)) × (length ci ≤ 32768) × (len < 65536)
+
+-- what the check of neighbouring keys asks: the key before lies in the interval, and so do `count` keys from place `at` on, `len` bytes apart
+abbrev pub KeysLie : List ℕ → ℕ → ℕ → ℕ → ℕ → ℕ → Type 0
+KeysLie ci key prev at len count =
+    (prev + key ≤ length ci) × (key ≤ len) × (at + len * count ≤ length ci + (len - key)) × (length ci ≤ 32768) × (len < 65536)
+
+-- two keys of eight bytes and more lie in the interval, and these are the numbers in the first eight of each
+abbrev pub WordsKnown : List ℕ → ℕ → ℕ → ℕ → ℕ → ℕ → Type 0
+WordsKnown ci key before here word next =
+    (before + key ≤ length ci) × (here + key ≤ length ci) × (length ci ≤ 32768) × (8 ≤ key) × (word ≡ number 8 ci before) × (next ≡ number 8 ci here)

@@ -7,11 +7,12 @@ ghost use lib.ListN.{length};
 ghost use lib.Dec.{eqb};
 ghost use Rattle.fields.specs.Choice.{pick};
 ghost use Rattle.fields.specs.Bytes.{part};
+ghost use Rattle.fields.specs.Order.{less};
 ghost use Rattle.interval.specs.Records.{ascendFrom, keysOf, upTo};
 ghost use Rattle.interval.specs.Reading.{rdfs, recordsIn};
 ghost use Rattle.interval.specs.Role.{soundFree};
 ghost use Rattle.interval_read.specs.Verdict.{verdictOf};
-ghost use Rattle.interval_read.specs.AidWalk.{tailOf, Small, keysAt, walked, RunLies};
+ghost use Rattle.interval_read.specs.AidWalk.{tailOf, Small, keysAt, walked, RunLies, KeysLie, WordsKnown};
 ghost use Rattle.interval_read.specs.AidOpened.{openedOf, Inside, Closable};
 use fields::Order;
 use measures::Measures;
@@ -61,25 +62,101 @@ pub(crate) fn read_tail(ci: &[u8]) -> Tail
     Tail::Of { bytes, at, many }
 }
 
+// Whether the key at one place is below the key at another.
+pub(crate) fn key_below(ci: &[u8], key: usize, before: usize, here: usize) -> bool
+    requires { ⌜ (before + key ≤ length (now ci)) × (here + key ≤ length (now ci)) × (length (now ci) ≤ 32768) ⌝ }
+    ensures { λ r. ⌜ r ≡ less (part (now (ci .entry)) before key) (part (now (ci .entry)) here key) ⌝ }
+{
+    let e = before + key;
+    let f = here + key;
+    let Order::Less = fields::compare(&ci[before..e], &ci[here..f]) else {
+        return false;
+    };
+    true
+}
+
+// The same for keys of eight bytes and more, the numbers in whose first eight are known: where the first is lower they decide.
+pub(crate) fn word_below(
+    ci: &[u8],
+    key: usize,
+    before: usize,
+    here: usize,
+    word: usize,
+    next: usize,
+) -> bool
+    requires { ⌜ WordsKnown (now ci) key before here word next ⌝ }
+    ensures { λ r. ⌜ r ≡ less (part (now (ci .entry)) before key) (part (now (ci .entry)) here key) ⌝ }
+{
+    if word < next {
+        return true;
+    }
+    key_below(ci, key, before, here)
+}
+
 // Whether the keys of `count` records of one length, the first key at place `at`, ascend after the key at place `prev`.
-pub(crate) fn rises(ci: &[u8], key: usize, prev: usize, at: usize, len: usize, count: usize) -> bool
-    requires { ⌜ (prev + key ≤ length (now ci)) × (key ≤ len) × (at + len * count ≤ length (now ci) + (len - key)) × (length (now ci) ≤ 32768) × (len < 65536) ⌝ }
+pub(crate) fn rises_keys(
+    ci: &[u8],
+    key: usize,
+    prev: usize,
+    at: usize,
+    len: usize,
+    count: usize,
+) -> bool
+    requires { ⌜ KeysLie (now ci) key prev at len count ⌝ }
     ensures { λ r. ⌜ r ≡ ascendFrom (part (now (ci .entry)) prev key) (keysAt key (now (ci .entry)) at len count) ⌝ }
 {
     let mut before = prev;
     let mut here = at;
     let mut left = count;
     while 0 < left {
-        let e = before + key;
-        let f = here + key;
-        let Order::Less = fields::compare(&ci[before..e], &ci[here..f]) else {
+        if !key_below(ci, key, before, here) {
             return false;
-        };
+        }
         before = here;
         here = here + len;
         left -= 1;
     }
     true
+}
+
+// The same for keys of eight bytes and more. The first eight bytes of each are read once, as a number that goes along.
+pub(crate) fn rises_words(
+    ci: &[u8],
+    key: usize,
+    prev: usize,
+    at: usize,
+    len: usize,
+    count: usize,
+) -> bool
+    requires { ⌜ KeysLie (now ci) key prev at len count × (8 ≤ key) ⌝ }
+    ensures { λ r. ⌜ r ≡ ascendFrom (part (now (ci .entry)) prev key) (keysAt key (now (ci .entry)) at len count) ⌝ }
+{
+    let mut before = prev;
+    let mut here = at;
+    let mut left = count;
+    let mut word = fields::read_eight(ci, prev);
+    while 0 < left {
+        let next = fields::read_eight(ci, here);
+        if !word_below(ci, key, before, here, word, next) {
+            return false;
+        }
+        word = next;
+        before = here;
+        here = here + len;
+        left -= 1;
+    }
+    true
+}
+
+// Either, by the key's length.
+pub(crate) fn rises(ci: &[u8], key: usize, prev: usize, at: usize, len: usize, count: usize) -> bool
+    requires { ⌜ KeysLie (now ci) key prev at len count ⌝ }
+    ensures { λ r. ⌜ r ≡ ascendFrom (part (now (ci .entry)) prev key) (keysAt key (now (ci .entry)) at len count) ⌝ }
+{
+    if key < 8 {
+        return rises_keys(ci, key, prev, at, len, count);
+    }
+    rises_words(ci, key, prev, at, len, count)
 }
 
 // The same for a run of an interval of which `seen` records were passed, the last of them with its key at `prev`.

@@ -16,33 +16,33 @@ use Rattle.index_find.proofs.is_below.Tie as tie
 abbrev start-from-match-keys1 : tie.At-match-keys1 → tie.Start
 start-from-match-keys1 k = k .before .before .before .before .before .before
 
-slice-aggregate-compare : tie.Need-slice-aggregate-compare
-slice-aggregate-compare c = sym (length-take-le _ _ (c .before .before .before .pre .0))
+slice-aggregate-compare-bytes : tie.Need-slice-aggregate-compare-bytes
+slice-aggregate-compare-bytes c = sym (length-take-le _ _ (c .before .before .before .pre .0))
 
-slice-aggregate-compare-2 : tie.Need-slice-aggregate-compare-2
-slice-aggregate-compare-2 c = sym (length-take-le _ _ (c .before .before .before .before .pre .1))
+slice-aggregate-compare-bytes-2 : tie.Need-slice-aggregate-compare-bytes-2
+slice-aggregate-compare-bytes-2 c = sym (length-take-le _ _ (c .before .before .before .before .pre .1))
 
-compare-requires : tie.Need-compare-requires
-compare-requires c κs = search needs
+compare-bytes-requires : tie.Need-compare-bytes-requires
+compare-bytes-requires c κs = search needs
 
 enum-told : tie.Need-enum-told
 enum-told c = search needs
 
 returns : tie.Need-returns
 returns c = let a = c .before .before .before .before .before .before .args in
-    below-is (take (a .len) (now (a .buf))) (take (a .len) (now (a .key))) (c .before .compare .result) false (c .before .compare .ensures) (not-less (c .before .compare .result) (c .match .keys2))
+    below-is (take (a .len) (now (a .buf))) (take (a .len) (now (a .key))) (c .before .compare-bytes .result) false (c .before .compare-bytes .ensures) (not-less (c .before .compare-bytes .result) (c .match .keys2))
 
 returns-2 : tie.Need-returns-2
 returns-2 c = let a = start-from-match-keys1 (c .before) .args in
-    below-is (take (a .len) (now (a .buf))) (take (a .len) (now (a .key))) (c .before .before .compare .result) true (c .before .before .compare .ensures) (ap isLess (c .enum-told .given .1))
+    below-is (take (a .len) (now (a .buf))) (take (a .len) (now (a .key))) (c .before .before .compare-bytes .result) true (c .before .before .compare-bytes .ensures) (ap isLess (c .enum-told .given .1))
 
 pub is-below-spec : {M : Type 1} → statement M
 is-below-spec =
     tie.close
     (tie.spec
-    slice-aggregate-compare
-    slice-aggregate-compare-2
-    compare-requires
+    slice-aggregate-compare-bytes
+    slice-aggregate-compare-bytes-2
+    compare-bytes-requires
     enum-told
     returns
     returns-2)

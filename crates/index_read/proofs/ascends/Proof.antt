@@ -9,8 +9,8 @@ use Rattle.index_read.proofs.ascends.Statement.{statement}
 use Rattle.index_read.proofs.ascends.Tie as tie
 
 -- The states that the proof looks back to, by their names.
-abbrev start-from-compare : tie.After-compare → tie.Start
-start-from-compare k = k .before .before .before .before .before .before
+abbrev start-from-compare-bytes : tie.After-compare-bytes → tie.Start
+start-from-compare-bytes k = k .before .before .before .before .before .before
 
 abbrev shared-slice-known-from-match-keys1 : tie.At-match-keys1 → tie.After-shared-slice-known
 shared-slice-known-from-match-keys1 k = k .before .before .before .before .before .before
@@ -33,26 +33,26 @@ add-e c = search needs
 add-z : tie.Need-add-z
 add-z c = search needs
 
-sub-compare : tie.Need-sub-compare
-sub-compare c = search needs
+sub-compare-bytes : tie.Need-sub-compare-bytes
+sub-compare-bytes c = search needs
 
-part-compare-start : tie.Need-part-compare-start
-part-compare-start c = search needs
+part-compare-bytes-start : tie.Need-part-compare-bytes-start
+part-compare-bytes-start c = search needs
 
-part-compare-end : tie.Need-part-compare-end
-part-compare-end c = search needs
+part-compare-bytes-end : tie.Need-part-compare-bytes-end
+part-compare-bytes-end c = search needs
 
-sub-compare-2 : tie.Need-sub-compare-2
-sub-compare-2 c = search needs
+sub-compare-bytes-2 : tie.Need-sub-compare-bytes-2
+sub-compare-bytes-2 c = search needs
 
-part-compare-start-2 : tie.Need-part-compare-start-2
-part-compare-start-2 c = search needs
+part-compare-bytes-start-2 : tie.Need-part-compare-bytes-start-2
+part-compare-bytes-start-2 c = search needs
 
-part-compare-end-2 : tie.Need-part-compare-end-2
-part-compare-end-2 c = search needs
+part-compare-bytes-end-2 : tie.Need-part-compare-bytes-end-2
+part-compare-bytes-end-2 c = search needs
 
-compare-requires : tie.Need-compare-requires
-compare-requires c κs = search needs
+compare-bytes-requires : tie.Need-compare-bytes-requires
+compare-bytes-requires c κs = search needs
 
 enum-told : tie.Need-enum-told
 enum-told c = search needs
@@ -76,25 +76,25 @@ enum-told-3 : tie.Need-enum-told-3
 enum-told-3 c = search needs
 
 returns-2 : tie.Need-returns-2
-returns-2 c = let a = start-from-compare (c .before .before) .args in
-    let p = start-from-compare (c .before .before) .pre in
-    let q = c .before .before .compare in
+returns-2 c = let a = start-from-compare-bytes (c .before .before) .args in
+    let p = start-from-compare-bytes (c .before .before) .pre in
+    let q = c .before .before .compare-bytes in
     above-less (now (a .buf)) (now (a .ib)) (a .front) (a .len) (a .at) (a .key) (p .0) (p .1) (p .2)
     (λ i. omega (arith, shared-slice-known-from-match-keys1 (c .before) .shared-slice-known .given i)) (a .first) (c .before .before .before .before .before .if1 .left)
     (q .result) (q .ensures) (c .enum-told .given .1)
 
 returns-3 : tie.Need-returns-3
-returns-3 c = let a = start-from-compare (c .before .before .before .before) .args in
-    let p = start-from-compare (c .before .before .before .before) .pre in
-    let q = c .before .before .before .before .compare in
+returns-3 c = let a = start-from-compare-bytes (c .before .before .before .before) .args in
+    let p = start-from-compare-bytes (c .before .before .before .before) .pre in
+    let q = c .before .before .before .before .compare-bytes in
     above-same (now (a .buf)) (now (a .ib)) (a .front) (a .len) (a .at) (a .key) (p .0) (p .1) (p .2)
     (λ i. omega (arith, shared-slice-known-from-match-keys2 (c .before .before .before) .shared-slice-known .given i)) (a .first)
     (else1-from-match-keys2 (c .before .before .before) .if1 .left) (q .result) (q .ensures) (c .before .before .enum-told2 .given .1) (c .some-low .result) (c .some-low .ensures)
 
 returns-4 : tie.Need-returns-4
-returns-4 c = let a = start-from-compare (c .before .before) .args in
-    let p = start-from-compare (c .before .before) .pre in
-    let q = c .before .before .compare in
+returns-4 c = let a = start-from-compare-bytes (c .before .before) .args in
+    let p = start-from-compare-bytes (c .before .before) .pre in
+    let q = c .before .before .compare-bytes in
     above-greater (now (a .buf)) (now (a .ib)) (a .front) (a .len) (a .at) (a .key) (p .0) (p .1) (p .2)
     (λ i. omega (arith, shared-slice-known-from-match-keys3 (c .before) .shared-slice-known .given i)) (a .first) (c .before .before .before .before .before .if1 .left)
     (q .result) (q .ensures) (c .enum-told3 .given .1)
@@ -106,13 +106,13 @@ ascends-spec =
     returns
     add-e
     add-z
-    sub-compare
-    part-compare-start
-    part-compare-end
-    sub-compare-2
-    part-compare-start-2
-    part-compare-end-2
-    compare-requires
+    sub-compare-bytes
+    part-compare-bytes-start
+    part-compare-bytes-end
+    sub-compare-bytes-2
+    part-compare-bytes-start-2
+    part-compare-bytes-end-2
+    compare-bytes-requires
     enum-told
     enum-told-2
     sub-some-low

@@ -4,8 +4,8 @@ use mathlib.Core.Path.{sym}
 use native.Mathlib.Omega.{arith}
 use borrow.Author.Needs.{needs}
 use Rattle.fields.proofs.Fronts.{order-ends, order-shorter, order-longer, order-lower, order-higher}
-use Rattle.fields.proofs.compare.Statement.{statement}
-use Rattle.fields.proofs.compare.Tie as tie
+use Rattle.fields.proofs.compare_bytes.Statement.{statement}
+use Rattle.fields.proofs.compare_bytes.Tie as tie
 
 -- The states that the proof looks back to, by their names.
 abbrev start-from-else3 : tie.Else3 → tie.Start
@@ -50,8 +50,8 @@ returns-5 c =
     let i = c .before .before .before .before .before .common-front in
     sym (order-higher (x .a .now) (x .b .now) (i .result) (i .ensures .0) (omega arith) (omega arith) (c .if4 .left))
 
-pub compare-spec : {M : Type 1} → statement M
-compare-spec =
+pub compare-bytes-spec : {M : Type 1} → statement M
+compare-bytes-spec =
     tie.close
     (tie.spec
     common-front-requires
