@@ -16,9 +16,13 @@ use Rattle.requests.specs.Changing.{Outcome}
 use Rattle.requests.specs.declared.Answer.{Answer}
 use Rattle.exports.specs.declared.Values.{Values}
 
+-- a number and two values
+abbrev pub values : ℕ → ℕ → ℕ → Values
+values number first second = record { number = number; first = first; second = second }
+
 -- the number, and the values in their order, 0 where there are fewer
 abbrev pub valuesTold : Answer → Values
-valuesTold a = record { number = numberOf a; first = getD (valuesOf a) 0 0; second = getD (valuesOf a) 1 0 }
+valuesTold a = values (numberOf a) (getD (valuesOf a) 0 0) (getD (valuesOf a) 1 0)
 
 -- what a check leaves: its number and both values
 pub record Told (a : Answer) (r first second : ℕ) : Type 0 where
@@ -40,8 +44,8 @@ pub record Made (o : Outcome) (r value : ℕ) (area : List ℕ) : Type 0 where
 
 -- a key's place: 1 for a record, 0 for a gap, with the ordinal and the start
 abbrev pub placeTold : Found → Values
-placeTold (At i start len) = record { number = 1; first = i; second = start }
-placeTold (Gap i start) = record { number = 0; first = i; second = start }
+placeTold (At i start len) = values 1 i start
+placeTold (Gap i start) = values 0 i start
 
 -- that of a key among the records of an interval
 abbrev pub placeIn : List ℕ → ℕ → ℕ → ℕ → List ℕ → Values
@@ -49,5 +53,5 @@ placeIn ci offset key most wanted = placeTold (placeOf (measures (length ci) off
 
 -- a record's verdict: 1 with its free numbers and entries, or 0
 abbrev pub indexTold : Index → Values
-indexTold (Sound free entries) = record { number = 1; first = free; second = entries }
-indexTold Unsound = record { number = 0; first = 0; second = 0 }
+indexTold (Sound free entries) = values 1 free entries
+indexTold Unsound = values 0 0 0

@@ -9,7 +9,7 @@ ghost use Rattle.index_read.specs.Check.{indexOf};
 ghost use Rattle.index_find.specs.AidLocate.{Searchable, Leads};
 ghost use Rattle.requests.specs.Reading.{checkOf, getOf, getAtOf};
 ghost use Rattle.requests.specs.Changing.{insertOf, updateOf, eraseOf};
-ghost use Rattle.exports.specs.Values.{valuesTold, indexTold, Told, Given, Made, placeIn};
+ghost use Rattle.exports.specs.Values.{values, valuesTold, indexTold, Told, Given, Made, placeIn};
 use index_read::Index;
 use interval::Found;
 use measures::Measures;
@@ -55,7 +55,7 @@ pub(crate) fn told(answer: Answer) -> Values
 
 // An answer with at most one value.
 pub(crate) fn one(number: usize, value: usize) -> Values
-    ensures { λ r. ⌜ r ≡ record { number = number; first = value; second = 0 } ⌝ }
+    ensures { λ r. ⌜ r ≡ values number value 0 ⌝ }
 {
     Values {
         number,
@@ -189,7 +189,7 @@ pub extern "C" fn belquita_find(
     requires sound { ⌜ Readable (measures (length (now ci)) offset key most) (now ci) ⌝ }
     requires keyed { ⌜ length (now wanted) ≡ key ⌝ }
     requires small { ⌜ offset ≤ 32768 ⌝ }
-    ensures { λ r. ⌜ record { number = r; first = now (ordinal .exit); second = now (start .exit) } ≡ placeIn (now (ci .entry)) offset key most (now (wanted .entry)) ⌝ }
+    ensures { λ r. ⌜ values r (now (ordinal .exit)) (now (start .exit)) ≡ placeIn (now (ci .entry)) offset key most (now (wanted .entry)) ⌝ }
 {
     let m = Measures {
         size: ci.len(),
@@ -229,7 +229,7 @@ pub extern "C" fn belquita_index(
     entries: &mut usize,
 ) -> usize
     requires { ⌜ (31 ≤ length (now ib)) × (length (now ib) ≤ 32768) × (1 ≤ key) × (key ≤ 255) × (n ≤ 256) ⌝ }
-    ensures { λ r. ⌜ record { number = r; first = now (free .exit); second = now (entries .exit) } ≡ indexTold (indexOf key n (now (ib .entry))) ⌝ }
+    ensures { λ r. ⌜ values r (now (free .exit)) (now (entries .exit)) ≡ indexTold (indexOf key n (now (ib .entry))) ⌝ }
 {
     let Index::Sound {
         free: f,

@@ -16,51 +16,51 @@ use Rattle.index.specs.Meaning.{Entry, Meaning, numbers, named, count, b
 use Rattle.index.proofs.Counting.{count-same, count-other, count-none, count-cons, count-append, below-append, once-each}
 
 -- the counts of all numbers below n, added up
-unfoldable total : List ℕ → ℕ → ℕ
-total xs zero = 0
-total xs (suc k) = count k xs + total xs k
+unfoldable countTo : List ℕ → ℕ → ℕ
+countTo xs zero = 0
+countTo xs (suc k) = count k xs + countTo xs k
 
-total-nil : (n : ℕ) → total [] n ≡ 0
-unfolding total count
-total-nil zero = refl
-total-nil (suc n) = omega (arith, total-nil n)
+countTo-nil : (n : ℕ) → countTo [] n ≡ 0
+unfolding countTo count
+countTo-nil zero = refl
+countTo-nil (suc n) = omega (arith, countTo-nil n)
 
-total-out : (x : ℕ) (xs : List ℕ) (n : ℕ) → n ≤ x → total (x ∷ xs) n ≡ total xs n
-unfolding total
-total-out x xs zero h = refl
-total-out x xs (suc n) h = rw (total-out x xs n (omega arith), count-other n x xs (omega arith))
+countTo-out : (x : ℕ) (xs : List ℕ) (n : ℕ) → n ≤ x → countTo (x ∷ xs) n ≡ countTo xs n
+unfolding countTo
+countTo-out x xs zero h = refl
+countTo-out x xs (suc n) h = rw (countTo-out x xs n (omega arith), count-other n x xs (omega arith))
 
-total-cons : (x : ℕ) (xs : List ℕ) (n : ℕ) → x < n → total (x ∷ xs) n ≡ suc (total xs n)
-unfolding total
-total-cons x xs zero h = absurd (not-suc-le-zero h)
-total-cons x xs (suc n) h = ⊎-elim (λ (p : x ≡ n). same p) (λ (l : x < n). other l (total-cons x xs n l)) (eq-or-lt-of-le (le-of-suc-le-suc h))
+countTo-cons : (x : ℕ) (xs : List ℕ) (n : ℕ) → x < n → countTo (x ∷ xs) n ≡ suc (countTo xs n)
+unfolding countTo
+countTo-cons x xs zero h = absurd (not-suc-le-zero h)
+countTo-cons x xs (suc n) h = ⊎-elim (λ (p : x ≡ n). same p) (λ (l : x < n). other l (countTo-cons x xs n l)) (eq-or-lt-of-le (le-of-suc-le-suc h))
   where
-    same : x ≡ n → count n (x ∷ xs) + total (x ∷ xs) n ≡ suc (count n xs + total xs n)
-    same p = rw (count-same n x xs p, total-out x xs n (omega arith)) (omega arith)
+    same : x ≡ n → count n (x ∷ xs) + countTo (x ∷ xs) n ≡ suc (count n xs + countTo xs n)
+    same p = rw (count-same n x xs p, countTo-out x xs n (omega arith)) (omega arith)
 
-    other : x < n → total (x ∷ xs) n ≡ suc (total xs n) → count n (x ∷ xs) + total (x ∷ xs) n ≡ suc (count n xs + total xs n)
+    other : x < n → countTo (x ∷ xs) n ≡ suc (countTo xs n) → count n (x ∷ xs) + countTo (x ∷ xs) n ≡ suc (count n xs + countTo xs n)
     other l i = rw (count-other n x xs (omega arith), i) (omega arith)
 
-below-total : (n : ℕ) (xs : List ℕ) → below n xs ≡ true → total xs n ≡ length xs
+below-countTo : (n : ℕ) (xs : List ℕ) → below n xs ≡ true → countTo xs n ≡ length xs
 unfolding every
-below-total n [] e = total-nil n
-below-total n (x ∷ xs) e =
+below-countTo n [] e = countTo-nil n
+below-countTo n (x ∷ xs) e =
     let s = both-split (ltb x n) (below n xs) e in
-    total-cons x xs n (ltb-true x n (s .0)) ∙ rw (below-total n xs (s .1))
+    countTo-cons x xs n (ltb-true x n (s .0)) ∙ rw (below-countTo n xs (s .1))
 
-once-total : (xs : List ℕ) (n : ℕ) → once xs n ≡ true → total xs n ≡ n
-unfolding once total
-once-total xs zero e = refl
-once-total xs (suc n) e =
+once-countTo : (xs : List ℕ) (n : ℕ) → once xs n ≡ true → countTo xs n ≡ n
+unfolding once countTo
+once-countTo xs zero e = refl
+once-countTo xs (suc n) e =
     let s = both-split (eqb (count n xs) 1) (once xs n) e in
-    rw (once-total xs n (s .1), eqb-true (count n xs) 1 (s .0)) (omega arith)
+    rw (once-countTo xs n (s .1), eqb-true (count n xs) 1 (s .0)) (omega arith)
 
 -- Where each number below n is named once, and no other, as many numbers occur as there are intervals.
 pub named-length : (n : ℕ) (xs : List ℕ) → namedOnce n xs ≡ true → length xs ≡ n
 unfolding namedOnce
 named-length n xs e =
     let s = both-split (below n xs) (once xs n) e in
-    sym (below-total n xs (s .0)) ∙ once-total xs n (s .1)
+    sym (below-countTo n xs (s .0)) ∙ once-countTo xs n (s .1)
 
 pub length-numbers : (es : List Entry) → length (numbers es) ≡ length es
 length-numbers [] = refl

@@ -1,10 +1,10 @@
 -- Aids: a change of an interval's records, laid out in two flat buffers. Contracts between crates cite them.
 use Prim.Native.Nat.{ℕ, _+_, _≤_}
 use mathlib.Core.Path.{_≡_}
-use mathlib.Core.List.{List, map}
+use mathlib.Core.List.{List, [], _∷_, map}
 use lib.ListN.{length, take, drop}
 use Rattle.fields.specs.Bytes.{splice}
-use Rattle.fields.specs.Lists.{concat}
+use Rattle.fields.specs.Lists.{concat, swap}
 use Rattle.measures.specs.declared.Measures.{Measures}
 use Rattle.interval.specs.Search.{startOf}
 use Rattle.interval.specs.Reading.{displacement, recordsIn, Readable}
@@ -25,6 +25,10 @@ pub record Changed (bytes₀ lens₀ bytes lens : List ℕ) (rs : List (List ℕ
   pub many : r .count ≡ length rs
   pub total-most : r .bytes ≤ 65536
   pub many-most : r .count ≤ 32768
+
+-- so lie the interval's records with a new one in place of the `gone` from that ordinal on
+abbrev pub PutIn : List ℕ → ℕ → ℕ → List ℕ → List ℕ → List ℕ → List ℕ → List ℕ → Extent → Type 0
+PutIn ci ordinal gone new bytes₀ lens₀ bytes lens r = Changed bytes₀ lens₀ bytes lens (swap ordinal gone (new ∷ []) (recordsIn ci)) r
 
 -- the span lies among the records' bytes, and the buffer is long enough for them with the new ones
 abbrev pub SpanLies : List ℕ → ℕ → ℕ → List ℕ → List ℕ → Type 0

@@ -7,7 +7,7 @@ ghost use lib.ListN.{length};
 ghost use Rattle.fields.specs.Bytes.{splice};
 ghost use Rattle.fields.specs.Lists.{swap};
 ghost use Rattle.interval.specs.Reading.{recordsIn, Readable, recordBytes};
-ghost use Rattle.interval_edit.specs.AidChanged.{Goes, Changed, CanPutIn, SpanLies};
+ghost use Rattle.interval_edit.specs.AidChanged.{Goes, Changed, PutIn, CanPutIn, SpanLies};
 use measures::Measures;
 
 // How many bytes of the one buffer, and how many lengths of the other, are the records'.
@@ -88,7 +88,7 @@ pub fn put_in(
     lens: &mut [u16],
 ) -> Extent
     requires { ⌜ CanPutIn m (now ci) ordinal start gone span (now new) (now bytes) (now lens) ⌝ }
-    ensures { λ r. ⌜ Changed (now (bytes .entry)) (now (lens .entry)) (now (bytes .exit)) (now (lens .exit)) (swap ordinal gone (now (new .entry) ∷ []) (recordsIn (now (ci .entry)))) r ⌝ }
+    ensures { λ r. ⌜ PutIn (now (ci .entry)) ordinal gone (now (new .entry)) (now (bytes .entry)) (now (lens .entry)) (now (bytes .exit)) (now (lens .exit)) r ⌝ }
 {
     let one = [new.len() as u16; 1];
     let total = change_bytes(ci, start, span, new, bytes);

@@ -18,7 +18,8 @@ use Rattle.change.specs.Plan.{planOf}
 use Rattle.requests.specs.Answers.{numberOf}
 use Rattle.requests.specs.Records.{withKey, lyingAt}
 use Rattle.requests.specs.Reading.{Given, refused, handOut, getRead, getJudged, getOf, getAtRead, getAtJudged, getAtOf, Gives}
-use Rattle.requests.specs.Changing.{Outcome, kept, editFor, insertNew, insertRead, insertJudged, insertOf, updateOld, updateRead, updateJudged, updateOf, eraseOld, eraseRead, eraseJudged, eraseOf, Makes}
+use Rattle.requests.specs.Changing.{Outcome, kept, editFor, Makes, insertNew, insertRead, insertJudged, insertOf}
+use Rattle.requests.specs.Changing.{updateOld, updateRead, updateJudged, updateOf, eraseOld, eraseRead, eraseJudged, eraseOf}
 use Rattle.requests.specs.declared.Answer.{Answer}
 use Rattle.requests.specs.declared.Answer.the-variants.{Found, Damaged, Short, Outside, WrongLength, Present, Absent, NoRecord}
 use Rattle.requests.proofs.Order.{refused-spares as carry-spares}

@@ -38,7 +38,8 @@ use Rattle.requests.proofs.Making.{count-add}
 use Rattle.promises.specs.Trace.{Request, check, get, changes, Step, Allowed, Trace, acceptedIn, Sound, Stands}
 use Rattle.promises.specs.Changes.{CountsTrue}
 use Rattle.promises.specs.Tables.{First, Holding, Crowded, changed, tableFor}
-use Rattle.promises.specs.Wrong.{run, Breaks, refusesAll, callsDamaged, alwaysFull, inventsCounts, untouchedDone, sameRecord, constantBytes, third, together, inventsWritten, without, losesLast, keepsRevoked}
+use Rattle.promises.specs.Wrong.{run, Breaks, refusesAll, callsDamaged, alwaysFull, inventsCounts, untouchedDone, sameRecord}
+use Rattle.promises.specs.Wrong.{constantBytes, third, together, inventsWritten, without, losesLast, keepsRevoked}
 use Rattle.promises.proofs.History.{history, get-finds}
 use Rattle.promises.proofs.Changes.{check-true, counts-true}
 use Rattle.promises.proofs.Exact.{refusals-exact}

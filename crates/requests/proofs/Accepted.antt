@@ -21,7 +21,8 @@ use Rattle.change.specs.Fitting.{Proper}
 use Rattle.requests.specs.Answers.{numberOf}
 use Rattle.requests.specs.Records.{withKey}
 use Rattle.requests.specs.Model.{Change, insert, update, erase, makeChange, Legal}
-use Rattle.requests.specs.Changing.{kept, editFor, carryOut, insertNew, insertRead, insertJudged, insertOf, updateOld, updateRead, updateJudged, updateOf, eraseOld, eraseRead, eraseJudged, eraseOf}
+use Rattle.requests.specs.Changing.{kept, editFor, carryOut, insertNew, insertRead, insertJudged, insertOf}
+use Rattle.requests.specs.Changing.{updateOld, updateRead, updateJudged, updateOf, eraseOld, eraseRead, eraseJudged, eraseOf}
 use Rattle.requests.specs.Accepted.{remade, changeOf, bytesOf, editOf, Accepted}
 use Rattle.requests.specs.declared.Answer.the-variants.{WrongLength}
 use Rattle.requests.proofs.Edits.{insert-proper, insert-adds, update-proper, update-replaces, erase-proper, erase-removes}

@@ -120,9 +120,9 @@ returns-3 c =
     let o = c .before .before .before .before in
     let a = start-from-loop o .args in
     let i = o .loop .i in
-    c .compare-bytes .ensures
-    ∙ rw (take-all (length (a .a .now) - i) (drop i (a .a .now)) (omega (arith, length-drop i (a .a .now))), take-all (length (a .b .now) - i) (drop i (a .b .now)) (omega (arith, length-drop i (a .b .now))))
-    (sym (o .loop .inv .3))
+    let left = take-all (length (a .a .now) - i) (drop i (a .a .now)) (omega (arith, length-drop i (a .a .now))) in
+    let right = take-all (length (a .b .now) - i) (drop i (a .b .now)) (omega (arith, length-drop i (a .b .now))) in
+    c .compare-bytes .ensures ∙ rw (left, right) (sym (o .loop .inv .3))
 
 pub compare-words-spec : {M : Type 1} → statement M
 compare-words-spec =

@@ -30,11 +30,13 @@ enum-told c = search needs
 
 returns : tie.Need-returns
 returns c = let a = c .before .before .before .before .before .before .args in
-    below-is (take (a .len) (now (a .buf))) (take (a .len) (now (a .key))) (c .before .compare-bytes .result) false (c .before .compare-bytes .ensures) (not-less (c .before .compare-bytes .result) (c .match .keys2))
+    let o = c .before .compare-bytes in
+    below-is (take (a .len) (now (a .buf))) (take (a .len) (now (a .key))) (o .result) false (o .ensures) (not-less (o .result) (c .match .keys2))
 
 returns-2 : tie.Need-returns-2
 returns-2 c = let a = start-from-match-keys1 (c .before) .args in
-    below-is (take (a .len) (now (a .buf))) (take (a .len) (now (a .key))) (c .before .before .compare-bytes .result) true (c .before .before .compare-bytes .ensures) (ap isLess (c .enum-told .given .1))
+    let o = c .before .before .compare-bytes in
+    below-is (take (a .len) (now (a .buf))) (take (a .len) (now (a .key))) (o .result) true (o .ensures) (ap isLess (c .enum-told .given .1))
 
 pub is-below-spec : {M : Type 1} → statement M
 is-below-spec =

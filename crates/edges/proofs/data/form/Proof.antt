@@ -10,6 +10,10 @@ use Rattle.room.proofs.Steps.{room-of-bytes}
 use Rattle.edges.proofs.data.form.Statement.{statement}
 use Rattle.edges.proofs.data.form.Tie as tie
 
+-- A state that the proof looks back to, by its name.
+abbrev room-of-from-fill : tie.After-fill-records → tie.After-room-of
+room-of-from-fill k = k .before .before .before .before .before
+
 returns : tie.Need-returns
 returns c = search needs
 
@@ -54,16 +58,24 @@ array-share-prefix-records c = search needs
 
 slice-aggregate-write-2 : tie.Need-slice-aggregate-write-2
 slice-aggregate-write-2 c =
-    let n : length (c .before .before .before .fill-records .last .0) ≡ 512 = c .before .before .before .fill-records .kept .0 in
-    sym (length-take-le (c .before .before .before .before .before .before .before .before .room-of .result .bytes) (c .before .before .before .fill-records .last .0) (omega arith))
+    let filled = c .before .before .before .fill-records in
+    let n : length (filled .last .0) ≡ 512 = filled .kept .0 in
+    sym (length-take-le (room-of-from-fill (c .before .before .before) .room-of .result .bytes) (filled .last .0) (omega arith))
 
 write-requires : tie.Need-write-requires
 write-requires c κs =
-    let lens = c .before .before .before .before .before .before .before .before .before .before .before .args .lens .now in
-    let k = c .before .before .before .before .before .before .before .before .room-of in
-    let n : length (c .before .before .before .fill-records .last .0) ≡ 512 = c .before .before .before .fill-records .kept .0 in
-    let s : sum lens ≡ k .result .bytes = sym (ap (λ (r : Room). r .bytes) (k .ensures .0) ∙ room-of-bytes lens) in
-    (omega (arith, c .before .before .before .before .before .before .before .need-of-lengths .ensures), omega arith, s ∙ sym (length-take-le (k .result .bytes) (c .before .before .before .fill-records .last .0) (omega arith)), omega arith)
+    let filling = c .before .before .before in
+    let filled = filling .fill-records in
+    let roomy = room-of-from-fill filling in
+    let lens = roomy .before .before .before .args .lens .now in
+    let k = roomy .room-of in
+    let n : length (filled .last .0) ≡ 512 = filled .kept .0 in
+    let s : sum lens ≡ k .result .bytes = sym (ap (λ (r : Room). r .bytes) (k .ensures .0) ∙ room-of-bytes lens) in (
+      omega (arith, filling .before .before .before .before .need-of-lengths .ensures),
+      omega arith,
+      s ∙ sym (length-take-le (k .result .bytes) (filled .last .0) (omega arith)),
+      omega arith,
+    )
 
 slice-aggregate-shown : tie.Need-slice-aggregate-shown
 slice-aggregate-shown c = search needs

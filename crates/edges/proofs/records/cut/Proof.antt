@@ -15,7 +15,9 @@ words-requires : tie.Need-words-requires
 words-requires c κs = search needs
 
 slice-aggregate-words-2 : tie.Need-slice-aggregate-words-2
-slice-aggregate-words-2 c = sym (length-take-le (c .before .before .before .cut-length .result) (c .before .before .before .before .before .before .args .left .now) (c .before .before .before .cut-length .ensures .2))
+slice-aggregate-words-2 c =
+    let cut = c .before .before .before in
+    sym (length-take-le (cut .cut-length .result) (cut .before .before .before .args .left .now) (cut .cut-length .ensures .2))
 
 words-requires-2 : tie.Need-words-requires-2
 words-requires-2 c κs = search needs
