@@ -50,7 +50,8 @@ pub empty-highest : (K : ℕ) (key : List ℕ) → length key ≡ K → Octets k
 unfolding bound
 empty-highest K key h o = let e : K - 0 ≡ length key = omega arith in rw e (top-not-less key o)
 
-less-then : (o p : Order) → isLess p ≡ false → isLess (andThen o p) ≡ isLess o
+-- what follows decides nothing where it isn't below
+pub less-then : (o p : Order) → isLess p ≡ false → isLess (andThen o p) ≡ isLess o
 less-then Less p h = refl
 less-then Same p h = h
 less-then Greater p h = refl

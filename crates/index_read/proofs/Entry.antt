@@ -1,29 +1,22 @@
--- Laws of one entry: how it is taken apart, and the buffer that holds its bound.
+-- Laws of one entry: how it is taken apart, and the buffer that holds its separator or its bound.
 use Prim.Native.Nat.{ℕ, suc, _+_, _-_, _≤_, _<_, min}
 use mathlib.Core.Path.{_≡_, refl, _∙_, sym, ap}
 use mathlib.Core.Bool.{Bool, true, false}
-use mathlib.Core.List.{List, [], _∷_, _++_, append-assoc}
-use lib.ListN.{length, getD, take, drop, replicate, length-append, length-replicate, length-take, length-drop, drop-of-length-le}
-use lib.Seq.{length-take-le, take-add, drop-drop, take-take, take-at, take-append-le, getD-take, drop-cons}
-use lib.Dec.{leb, ltb}
+use mathlib.Core.List.{List, _∷_, _++_, append-assoc}
+use lib.ListN.{length, getD, take, drop, replicate, length-append, length-replicate, length-take, length-drop}
+use lib.Seq.{length-take-le, take-take, take-at, take-append-le, getD-take}
+use lib.Dec.{leb}
 use native.Mathlib.Omega.{arith}
-use native.Mathlib.Numerals.{add-one}
-use borrow.Author.Tests.{le-leb, lt-leb, leb-true, leb-false, lt-ltb, le-ltb}
+use borrow.Author.Tests.{le-leb, lt-leb, leb-true, leb-false}
 use Rattle.fields.specs.Choice.{pick, both}
-use Rattle.fields.specs.Bytes.{Octets, part, number, splice}
-use Rattle.fields.specs.Order.{orderOf, isLess, less}
-use Rattle.fields.specs.declared.Order.{Order}
-use Rattle.fields.specs.declared.Order.the-variants.{Less, Same, Greater}
+use Rattle.fields.specs.Bytes.{part, number, splice}
 use Rattle.fields.proofs.Choices.{both-split, off}
-use Rattle.fields.proofs.Splices.{splice-after, length-mid}
-use Rattle.fields.proofs.Orders.{andThen, order-prefix, order-front}
-use Rattle.fields.proofs.Octets.{octets-take, octets-drop}
+use Rattle.fields.proofs.Splices.{splice-after, length-splice, length-mid}
 use Rattle.index.specs.Bounds.{bound}
 use Rattle.index.specs.Pieces.{Piece, pieceSize}
 use Rattle.index.specs.Reading.{lengthAt, pieceAt, piecesAt}
 use Rattle.index.proofs.Bounds.{length-bound}
 use Rattle.index_read.specs.AidParsing.{frontAt, charsAt, parses, parsedOf}
-use Rattle.index_read.specs.AidWalk.{boundRises, someLow}
 use Rattle.index_read.specs.declared.Parsed.the-variants.{Of, Bad}
 
 -- ---- an entry taken apart
@@ -162,104 +155,35 @@ module _ (K : ℕ) (buf chars new : List ℕ) (f l : ℕ) (fits : f + l ≤ K) (
   pub renewed-held : take K new ≡ bound K (take f buf ++ chars)
   renewed-held = rw is (take-at (bound K (take f buf ++ chars)) (drop K buf) K bound-length)
 
-  pub renewed-front : take (f + l) new ≡ take f buf ++ chars
-  unfolding bound
-  renewed-front =
-      rw is
-      (ap (λ (x : List ℕ). take (f + l) x) (append-assoc (take f buf ++ chars) _ (drop K buf)) ∙ take-at (take f buf ++ chars) _ (f + l) next-length)
-
   pub renewed-length : length new ≡ length buf
   renewed-length = ap length is ∙ omega (arith, length-append (bound K (take f buf ++ chars)) (drop K buf), bound-length, length-drop K buf)
 
+-- A buffer that was extended begins with the new separator, and is as long as before.
+module _ (buf chars new : List ℕ) (f l : ℕ) (fits : f + l ≤ length buf) (long : length chars ≡ l) (is : new ≡ splice buf f chars) where
+  pub extended-front : take (f + l) new ≡ take f buf ++ chars
+  unfolding splice
+  extended-front =
+      let e : length (take f buf ++ chars) ≡ f + l = omega (arith, length-append (take f buf) chars, length-take-le f buf (omega arith), long) in
+      rw is (ap (λ (x : List ℕ). take (f + l) x) (sym (append-assoc (take f buf) chars _)) ∙ take-at (take f buf ++ chars) _ (f + l) e)
+
+  pub extended-length : length new ≡ length buf
+  extended-length = ap length is ∙ length-splice buf f chars (omega arith)
+
 -- The two stores that renew it.
-pub renewed-by : (buf ib b1 b2 : List ℕ) (f l at K : ℕ) → f + l ≤ K → K ≤ length buf → at + l ≤ length ib → b1 ≡ splice buf f (take (at + l - at) (drop at ib))
+pub renewed-by : (buf ib b1 b2 : List ℕ) (f l at K : ℕ) → f + l ≤ K → K ≤ length buf → at + l ≤ length ib → b1 ≡ splice buf f (part ib at l)
     → b2 ≡ splice b1 (f + l) (replicate (K - (f + l)) 255) → b2 ≡ bound K (take f buf ++ part ib at l) ++ drop K buf
 unfolding bound splice
 renewed-by buf ib b1 b2 f l at K h i j e g =
-    let z : at + l - at ≡ l = omega arith in
     let n : length (part ib at l) ≡ l = length-mid ib at l j in
     let m : length {A = ℕ} (replicate (K - (f + l)) 255) ≡ K - (f + l) = length-replicate (K - (f + l)) 255 in
     let t : length (take f buf) ≡ f = length-take-le f buf (omega arith) in
     let x : List ℕ = part ib at l ++ replicate (K - (f + l)) 255 in
-    let s : b2 ≡ splice buf f x = g ∙ rw (e, z) (splice-after buf f (f + l) (part ib at l) (replicate (K - (f + l)) 255) (omega arith) (omega arith)) in
+    let s : b2 ≡ splice buf f x = g ∙ rw e (splice-after buf f (f + l) (part ib at l) (replicate (K - (f + l)) 255) (omega arith) (omega arith)) in
     let k : f + length x ≡ K = omega (arith, length-append (part ib at l) (replicate (K - (f + l)) 255)) in
     let v : length (take f buf ++ part ib at l) ≡ f + l = omega (arith, length-append (take f buf) (part ib at l)) in
     s ∙ rw (k, v) (simp append-assoc)
 
--- ---- the order of the next bound
-
--- X'FF' all the way is above whatever has a lower byte, and above nothing else.
-order-top : (t : List ℕ) → Octets t → orderOf t (replicate (length t) 255) ≡ pick (someLow t) Less Same
-unfolding orderOf someLow
-order-top [] o = refl
-order-top (x ∷ xs) o = go (ltb x 255) refl (order-top xs (λ i. o (suc i)))
-  where
-    go : (s : Bool) → ltb x 255 ≡ s → orderOf xs (replicate (length xs) 255) ≡ pick (someLow xs) Less Same
-        → pick s Less (pick (ltb 255 x) Greater (orderOf xs (replicate (length xs) 255))) ≡ pick (pick s true (someLow xs)) Less Same
-    go true e i = refl
-    go false e i = rw (le-ltb 255 x (omega (arith, o 0)), i)
-
-module _ (buf ib : List ℕ) (f l at K : ℕ) (h : f + l ≤ K) (i : K ≤ length buf) (j : at + l ≤ length ib) (o : Octets buf) where
-  abbrev tail : List ℕ
-  tail = part buf (f + l) (K - (f + l))
-
-  old : take K buf ≡ take f buf ++ (part buf f l ++ tail)
-  old =
-      let e : K ≡ f + (l + (K - (f + l))) = omega arith in
-      ap (λ (z : ℕ). take z buf) e ∙ take-add f (l + (K - (f + l))) buf ∙ ap (λ (z : List ℕ). take f buf ++ z) (take-add l (K - (f + l)) (drop f buf) ∙ rw drop-drop)
-
-  new : bound K (take f buf ++ part ib at l) ≡ take f buf ++ (part ib at l ++ replicate (length tail) 255)
-  unfolding bound
-  new =
-      let e1 : length (take f buf) ≡ f = length-take-le f buf (omega arith) in
-      let e2 : length (part ib at l) ≡ l = length-mid ib at l j in
-      let e3 : length tail ≡ K - (f + l) = length-mid buf (f + l) (K - (f + l)) (omega arith) in
-      rw (length-append, e1, e2, e3, append-assoc)
-
-  rising : less (take K buf) (bound K (take f buf ++ part ib at l)) ≡ isLess (andThen (orderOf (part buf f l) (part ib at l)) (pick (someLow tail) Less Same))
-  rising =
-      let e2 : length (part buf f l) ≡ length (part ib at l) = length-mid buf f l (omega arith) ∙ sym (length-mid ib at l j) in
-      rw (
-        old,
-        new,
-        order-prefix (take f buf),
-        order-front (part buf f l) (part ib at l) tail (replicate (length tail) 255) e2,
-        order-top tail
-            (octets-take (K - (f + l)) (drop (f + l) buf) (octets-drop (f + l) buf o)),
-      )
-
-  module _ (first : Bool) (no-first : first ≡ false) (x : Order) (is : x ≡ orderOf (take (f + l - f) (drop f buf)) (take (at + l - at) (drop at ib))) where
-    above-by : boundRises first K buf (take f buf ++ part ib at l) ≡ isLess (andThen x (pick (someLow tail) Less Same))
-    above-by =
-        let e1 : f + l - f ≡ l = omega arith in
-        let e2 : at + l - at ≡ l = omega arith in
-        rw (no-first, rising, is, e1, e2)
-
-    pub above-less : x ≡ Less → true ≡ boundRises first K buf (take f buf ++ part ib at l)
-    above-less e = sym (above-by ∙ rw e)
-
-    pub above-greater : x ≡ Greater → false ≡ boundRises first K buf (take f buf ++ part ib at l)
-    above-greater e = sym (above-by ∙ rw e)
-
-    pub above-same : x ≡ Same → (t : Bool) → t ≡ someLow (take (K - (f + l)) (drop (f + l) buf)) → t ≡ boundRises first K buf (take f buf ++ part ib at l)
-    above-same e t q = q ∙ sym (above-by ∙ rw e (go (someLow tail)))
-      where
-        go : (u : Bool) → isLess (pick u Less Same) ≡ u
-        go true = refl
-        go false = refl
+-- ---- the last byte
 
 pub last-is : (P : List ℕ) (len : ℕ) → (len ≡ 0 → ⊥) → getD P (len - 1) 0 ≡ getD (take len P) (len - 1) 0
 last-is P len h = sym (getD-take len P (len - 1) 0 (omega arith))
-
--- some byte below X'FF' in the bytes from place i on
-pub low-here : (t : List ℕ) (i : ℕ) → i < length t → getD t i 0 < 255 → someLow (drop i t) ≡ true
-unfolding someLow
-low-here t i h l = rw (drop-cons t i 0 h, lt-ltb (getD t i 0) 255 l)
-
-pub low-on : (t : List ℕ) (i : ℕ) → i < length t → 255 ≤ getD t i 0 → someLow (drop i t) ≡ someLow (drop (i + 1) t)
-unfolding someLow
-low-on t i h l = rw (add-one i, drop-cons t i 0 h, le-ltb (getD t i 0) 255 l)
-
-pub low-none : (t : List ℕ) (i : ℕ) → length t ≤ i → someLow (drop i t) ≡ false
-unfolding someLow
-low-none t i h = rw (drop-of-length-le t h)

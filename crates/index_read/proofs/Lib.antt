@@ -1,4 +1,5 @@
 pub mod Entry
+pub mod Rising
 pub mod Header
 pub mod Next
 pub mod Chain

@@ -3,13 +3,13 @@ use Prim.Native.Nat.{ℕ, suc, _+_, _-_, _≤_, _<_, _^_}
 use mathlib.Core.Path.{_≡_, refl, _∙_, sym, ap}
 use mathlib.Core.Bool.{Bool, true, false}
 use mathlib.Core.List.{List, [], _∷_, _++_}
-use lib.ListN.{length, getD, take, drop, set, replicate, length-append, length-replicate}
-use lib.Seq.{length-take-le}
+use lib.ListN.{length, getD, take, set, replicate, length-append, length-replicate}
+use lib.Seq.{length-take-le, take-take}
 use lib.Dec.{eqb, leb, ltb}
 use native.Mathlib.Omega.{arith}
 use borrow.Author.Tests.{lt-ltb, eq-eqb, ne-eqb, le-leb, ltb-true, eqb-true}
-use Rattle.fields.specs.Choice.{pick, both}
-use Rattle.fields.specs.Bytes.{part, number}
+use Rattle.fields.specs.Choice.{pick, both, no}
+use Rattle.fields.specs.Bytes.{part, number, splice}
 use Rattle.fields.specs.Order.{orderOf, less}
 use Rattle.fields.proofs.Choices.{false-true, both-split, both-join, off, both-none, both-true}
 use Rattle.index.specs.Bounds.{empty, bound, separator}
@@ -19,9 +19,9 @@ use Rattle.index_read.specs.AidParsing.{frontAt, charsAt, parsedOf}
 use Rattle.index_read.specs.AidWalk.{boundRises, nextIn, entryOf, chain, pieceNumbers, marking, seenAfter, usedAll, fineFrom}
 use Rattle.index_read.specs.declared.Marks.{Marks}
 use Rattle.index_read.specs.declared.Parsed.the-variants.{Of, Bad}
-use Rattle.index_read.proofs.Entry.{Good, good, parses-joined, pieces-next, size-is, place-is, chars-inside, chars-length, held-front}
+use Rattle.index_read.proofs.Entry.{Good, good, parses-joined, pieces-next, size-is, place-is, chars-length, extended-front, extended-length}
 use Rattle.index_read.proofs.Next.{entry-good, entry-bad}
-use Rattle.index_read.proofs.Stepping.{Link, link, Holding, holding-start, holding-step}
+use Rattle.index_read.proofs.Stepping.{Link, link}
 
 -- ---- the tests, entry by entry
 
@@ -69,29 +69,31 @@ fine-apart w K n e ib seen low ref r left more h =
 
 -- the bound before the next entry; there is none before the first
 abbrev lowOf : Bool → ℕ → List ℕ → List ℕ
-lowOf first K buf = pick first [] (take K buf)
+lowOf first K ref = pick first [] (bound K ref)
 
 pub record State (w K n e : ℕ) (ib : List ℕ) (count : ℕ) (m₀ m : Marks) (buf : List ℕ) (len r left : ℕ) : Type 0 where
   pub ref : List ℕ
   pub long : length ref ≡ len
   pub short : len ≤ K
   pub whole : length buf ≡ 255
-  pub holds : Holding K ref buf
+  pub held : take len buf ≡ ref
+  pub fine : separator len ref ≡ true
   pub inside : r ≤ length ib
   pub few : left ≤ count
   pub counts : m .used + left < 2 ^ 64
-  pub same : fineFrom w K n e ib (m₀ .seen) [] [] (length ib - 7) count ≡ fineFrom w K n e ib (m .seen) (lowOf (eqb left count) K buf) ref r left
+  pub same : fineFrom w K n e ib (m₀ .seen) [] [] (length ib - 7) count ≡ fineFrom w K n e ib (m .seen) (lowOf (eqb left count) K ref) ref r left
   pub marks : usedAll m₀ (pieceNumbers (piecesAt w ib (length ib - 7) count)) ≡ usedAll m (pieceNumbers (piecesAt w ib r left))
 
 pub start : (w K n e : ℕ) (ib : List ℕ) (count : ℕ) (m₀ : Marks) → K ≤ 255 → m₀ .used + count < 2 ^ 64
-    → State w K n e ib count m₀ m₀ (replicate 255 255) 0 (length ib - 7) count
+    → State w K n e ib count m₀ m₀ (replicate 255 0) 0 (length ib - 7) count
 start w K n e ib count m₀ h g =
     record {
       ref = [];
       long = refl;
       short = omega arith;
-      whole = length-replicate {A = ℕ} 255 255;
-      holds = holding-start K 255 h;
+      whole = length-replicate {A = ℕ} 255 0;
+      held = refl;
+      fine = unfold separator in refl;
       inside = omega arith;
       few = omega arith;
       counts = g;
@@ -99,12 +101,19 @@ start w K n e ib count m₀ h g =
       marks = refl;
     }
 
+-- a separator for keys of one length is one for any length that it fits in
+separator-own : (K : ℕ) (s : List ℕ) (n : ℕ) → length s ≡ n → separator K s ≡ true → separator n s ≡ true
+unfolding separator
+separator-own K s n e h =
+    let b = both-split (leb (length s) K) (no (eqb (getD s (length s - 1) 0) 255)) h in
+    both-join (leb (length s) n) (no (eqb (getD s (length s - 1) 0) 255)) (le-leb (length s) n (omega arith)) (b .1)
+
 -- a bound isn't empty, so it is above no bound at all
-less-low : (t : Bool) (K : ℕ) (buf sep : List ℕ) → 1 ≤ K → less (lowOf t K buf) (bound K sep) ≡ boundRises t K buf sep
+less-low : (t : Bool) (K : ℕ) (ref sep : List ℕ) → 1 ≤ K → less (lowOf t K ref) (bound K sep) ≡ boundRises t K ref sep
 unfolding bound
-less-low t K buf sep h = go t (bound K sep) (omega (arith, length-append sep (replicate (K - length sep) 255), length-replicate {A = ℕ} (K - length sep) 255))
+less-low t K ref sep h = go t (bound K sep) (omega (arith, length-append sep (replicate (K - length sep) 255), length-replicate {A = ℕ} (K - length sep) 255))
   where
-    go : (t : Bool) (x : List ℕ) → 0 < length x → less (lowOf t K buf) x ≡ pick t true (less (take K buf) x)
+    go : (t : Bool) (x : List ℕ) → 0 < length x → less (lowOf t K ref) x ≡ pick t true (less (bound K ref) x)
     go true [] h = absurd (omega arith)
     go true (y ∷ ys) h = unfold orderOf in refl
     go false x h = refl
@@ -115,7 +124,7 @@ module _ (w K n e : ℕ) (ib : List ℕ) (count : ℕ) (m₀ m : Marks) (buf : L
   all = fineFrom w K n e ib (m₀ .seen) [] [] (length ib - 7) count
 
   abbrev low : List ℕ
-  low = lowOf (eqb left count) K buf
+  low = lowOf (eqb left count) K (st .ref)
 
   abbrev here : Bool
   here = fineFrom w K n e ib (m .seen) low (st .ref) r left
@@ -126,9 +135,13 @@ module _ (w K n e : ℕ) (ib : List ℕ) (count : ℕ) (m₀ m : Marks) (buf : L
   apart : here ≡ true → (chain w K e r low (st .ref) (piecesAt w ib r left) ≡ true) × (number w ib (r - w) < n) × (getD (m .seen) (number w ib (r - w)) 0 ≡ 0)
   apart = fine-apart w K n e ib (m .seen) low (st .ref) r left more
 
+  -- the buffer begins with ref, so a front of it is a front of ref
+  front-held : (f : ℕ) → f ≤ len → take f buf ≡ take f (st .ref)
+  front-held f h = sym (take-take f len buf h) ∙ ap (λ (x : List ℕ). take f x) (st .held)
+
   -- the separator by the buffer is the one by ref
   next-is : frontAt w ib r ≤ len → nextIn w ib r buf ≡ spelt (st .ref) (pieceAt w ib r)
-  next-is h = rw (held-front K buf (st .ref) (frontAt w ib r) (st .holds .held) (omega (arith, st .long, st .short)) (omega (arith, st .long)))
+  next-is h = rw (front-held (frontAt w ib r) h)
 
   pub bad-entry : entryOf w ib r e len K (eqb left count) buf ≡ Bad → false ≡ all
   bad-entry h = not-all (λ p. no (link w K ib e r low (st .ref) left (st .inside) more (apart p .0)))
@@ -138,14 +151,14 @@ module _ (w K n e : ℕ) (ib : List ℕ) (count : ℕ) (m₀ m : Marks) (buf : L
           let g : Good w ib r e (length (st .ref)) K (frontAt w ib r) (lengthAt w ib r) (charsAt w ib r) (number w ib (r - w)) =
           good w ib r e (length (st .ref)) K (frontAt w ib r) (lengthAt w ib r) (charsAt w ib r) (number w ib (r - w)) (k .parsed) in
           let f : frontAt w ib r ≤ len = omega (arith, g .front, st .long) in
-          let a : boundRises (eqb left count) K buf (nextIn w ib r buf) ≡ true =
-          rw (next-is f) (sym (less-low (eqb left count) K buf (spelt (st .ref) (pieceAt w ib r)) least) ∙ k .rising) in
+          let a : boundRises (eqb left count) K (take len buf) (nextIn w ib r buf) ≡ true =
+          rw (next-is f, st .held) (sym (less-low (eqb left count) K (st .ref) (spelt (st .ref) (pieceAt w ib r)) least) ∙ k .rising) in
           let b : separator K (nextIn w ib r buf) ≡ true = rw (next-is f) (k .fine) in
           false-true (sym (entry-bad w ib r e len K (eqb left count) buf h (parses-joined w ib r e len K (g .room) f (g .fits))) ∙ both-join
-          (boundRises (eqb left count) K buf (nextIn w ib r buf)) (separator K (nextIn w ib r buf)) a b)
+          (boundRises (eqb left count) K (take len buf) (nextIn w ib r buf)) (separator K (nextIn w ib r buf)) a b)
 
   module _ (f l at num : ℕ) (entry : entryOf w ib r e len K (eqb left count) buf ≡ Of f l at num) where
-    told : (parsedOf w ib r e len K ≡ Of f l at num) × (boundRises (eqb left count) K buf (nextIn w ib r buf) ≡ true) × (separator K (nextIn w ib r buf) ≡ true)
+    told : (parsedOf w ib r e len K ≡ Of f l at num) × (boundRises (eqb left count) K (take len buf) (nextIn w ib r buf) ≡ true) × (separator K (nextIn w ib r buf) ≡ true)
     told = entry-good w ib r e len K (eqb left count) buf f l at num entry
 
     pub fits : Good w ib r e len K f l at num
@@ -179,7 +192,7 @@ module _ (w K n e : ℕ) (ib : List ℕ) (count : ℕ) (m₀ m : Marks) (buf : L
     t3 = ap (λ (x : List ℕ). separator K x) (sym next-sep) ∙ told .2
 
     t4 : less low (bound K sep) ≡ true
-    t4 = less-low (eqb left count) K buf sep least ∙ ap (λ (x : List ℕ). boundRises (eqb left count) K buf x) (sym next-sep) ∙ told .1
+    t4 = less-low (eqb left count) K (st .ref) sep least ∙ rw (← next-sep, ← st .held) (told .1)
 
     same-on : num < n → getD (m .seen) num 0 ≡ 0 → all ≡ fineFrom w K n e ib (set (m .seen) num 1) (bound K sep) sep at (left - 1)
     same-on h z =
@@ -201,14 +214,15 @@ module _ (w K n e : ℕ) (ib : List ℕ) (count : ℕ) (m₀ m : Marks) (buf : L
         let a : m .used + suc (length xs) ≡ m .used + 1 + length xs = omega arith in
         rw (pieces-next w ib r left more, place, ← fits .num-is, a)
 
-    module _ (new : List ℕ) (is : new ≡ bound K (take f buf ++ part ib at l) ++ drop K buf) where
-      held : Holding K sep new × (length new ≡ length buf)
-      held =
-          holding-step K (st .ref) buf ib new f l at (st .holds) (omega (arith, st .long, st .short)) (omega (arith, st .long, fits .front)) (fits .fits)
-          (chars-inside w ib r e len K f l at num fits (st .inside)) is
+    module _ (new : List ℕ) (is : new ≡ splice buf f (part ib at l)) (most : K ≤ 255) where
+      inside-buf : f + l ≤ length buf
+      inside-buf = omega (arith, fits .fits, st .whole)
 
-      pub whole-on : length new ≡ 255
-      whole-on = held .1 ∙ st .whole
+      chars-long : length (part ib at l) ≡ l
+      chars-long = chars-length w ib r e len K f l at num fits (st .inside)
+
+      held-on : take (f + l) new ≡ sep
+      held-on = extended-front buf (part ib at l) new f l inside-buf chars-long is ∙ rw (front-held f (fits .front))
 
       pub onward : num < n → getD (m .seen) num 0 ≡ 0 → State w K n e ib count m₀ m' new (f + l) at (left - 1)
       onward h z =
@@ -217,12 +231,13 @@ module _ (w K n e : ℕ) (ib : List ℕ) (count : ℕ) (m₀ m : Marks) (buf : L
             ref = sep;
             long = sep-long;
             short = fits .fits;
-            whole = whole-on;
-            holds = held .0;
+            whole = extended-length buf (part ib at l) new f l inside-buf chars-long is ∙ st .whole;
+            held = held-on;
+            fine = separator-own K sep (f + l) sep-long t3;
             inside = omega (arith, fits .at-is, st .inside);
             few = omega (arith, st .few);
             counts = omega (arith, st .counts);
-            same = same-on h z ∙ rw (k, ← held .0 .held);
+            same = same-on h z ∙ rw k;
             marks = st .marks ∙ marks-on;
           }
 
@@ -236,8 +251,8 @@ module _ (w K n e : ℕ) (ib : List ℕ) (count : ℕ) (m₀ m : Marks) (buf : L
     (st : State w K n e ib count m₀ m buf len r left) (done : left ≡ 0) where
   last : fineFrom w K n e ib (m₀ .seen) [] [] (length ib - 7) count ≡ both (eqb r e) (eqb len 0)
   last =
-      let a : fineFrom w K n e ib (m .seen) (lowOf (eqb left count) K buf) (st .ref) r left ≡ both (eqb r e) (empty (st .ref)) =
-      rw done (fine-end w K n e ib (m .seen) (lowOf (eqb 0 count) K buf) (st .ref) r) in
+      let a : fineFrom w K n e ib (m .seen) (lowOf (eqb left count) K (st .ref)) (st .ref) r left ≡ both (eqb r e) (empty (st .ref)) =
+      rw done (fine-end w K n e ib (m .seen) (lowOf (eqb 0 count) K (st .ref)) (st .ref) r) in
       st .same ∙ a ∙ rw (empty-is (st .ref), st .long)
 
   pub not-there : (r ≡ e → ⊥) → false ≡ fineFrom w K n e ib (m₀ .seen) [] [] (length ib - 7) count

@@ -4,15 +4,15 @@ use Prim.Native.Nat.{ℕ, zero, suc, _+_, _-_, _*_, _≤_, _<_, _^_}
 use mathlib.Core.Path.{_≡_}
 use mathlib.Core.Bool.{Bool, true, false}
 use mathlib.Core.List.{List, [], _∷_, _++_, map}
-use lib.ListN.{length, getD, take, drop, set, replicate}
+use lib.ListN.{length, getD, take, set, replicate}
 use lib.Dec.{eqb, leb, ltb}
 use Rattle.fields.specs.Choice.{pick, both}
-use Rattle.fields.specs.Bytes.{part}
+use Rattle.fields.specs.Bytes.{part, splice}
 use Rattle.fields.specs.Order.{less}
 use Rattle.index.specs.Bounds.{empty, bound, separator}
 use Rattle.index.specs.Pieces.{Piece, spelt, pieceSize}
 use Rattle.index.specs.Reading.{unusedAt, lastAt, sectionAt, freeCount, lengthAt, piecesAt}
-use Rattle.index_read.specs.AidParsing.{frontAt, charsAt, parsedOf}
+use Rattle.index_read.specs.AidParsing.{frontAt, charsAt, parsedOf, joinedOf}
 use Rattle.index_read.specs.declared.Marks.{Marks}
 use Rattle.index_read.specs.declared.Parsed.{Parsed}
 use Rattle.index_read.specs.declared.Parsed.the-variants.{Of, Bad}
@@ -33,14 +33,13 @@ placesOf w n ib = pick (liesWell w n ib) (At (freeCount w ib) (lastAt ib)) Nowhe
 
 -- ---- one entry
 
--- some byte is below X'FF'
-unfoldable pub someLow : List ℕ → Bool
-someLow [] = false
-someLow (x ∷ xs) = pick (ltb x 255) true (someLow xs)
-
--- the bound of sep is above the one that the first K bytes of buf hold; before the first entry there is none
+-- the bound of sep is above that of ref, the separator before; before the first entry there is none
 abbrev pub boundRises : Bool → ℕ → List ℕ → List ℕ → Bool
-boundRises first K buf sep = pick first true (less (take K buf) (bound K sep))
+boundRises first K ref sep = pick first true (less (bound K ref) (bound K sep))
+
+-- so it is for the first len bytes of buf and the separator that follows it, whatever a key's length
+abbrev pub Ascends : Bool → ℕ → ℕ → List ℕ → List ℕ → ℕ → ℕ → Bool → Type 0
+Ascends first front len buf ib at l r = (K : ℕ) → len ≤ K → front + l ≤ K → r ≡ boundRises first K (take len buf) (joinedOf front buf ib at l)
 
 -- the separator of the entry that ends at place r, if buf begins with the separator before
 abbrev pub nextIn : ℕ → List ℕ → ℕ → List ℕ → List ℕ
@@ -48,12 +47,12 @@ nextIn w ib r buf = take (frontAt w ib r) buf ++ part ib (charsAt w ib r) (lengt
 
 unfoldable pub entryOf : ℕ → List ℕ → ℕ → ℕ → ℕ → ℕ → Bool → List ℕ → Parsed
 entryOf w ib r edge len K first buf =
-    pick (both (boundRises first K buf (nextIn w ib r buf)) (separator K (nextIn w ib r buf))) (parsedOf w ib r edge len K) Bad
+    pick (both (boundRises first K (take len buf) (nextIn w ib r buf)) (separator K (nextIn w ib r buf))) (parsedOf w ib r edge len K) Bad
 
--- after a good entry the buffer holds its bound
-abbrev pub Renewed : ℕ → List ℕ → List ℕ → List ℕ → Parsed → Type 0
-Renewed K ib old new Bad = Unit {0}
-Renewed K ib old new (Of f l at number) = new ≡ bound K (take f old ++ part ib at l) ++ drop K old
+-- after a good entry the buffer begins with its separator
+abbrev pub Renewed : List ℕ → List ℕ → List ℕ → Parsed → Type 0
+Renewed ib old new Bad = Unit {0}
+Renewed ib old new (Of f l at number) = new ≡ splice old f (part ib at l)
 
 -- ---- all entries
 

@@ -4,13 +4,13 @@ ghost use mathlib.Core.Path.{_≡_};
 ghost use mathlib.Core.Bool.{true};
 ghost use mathlib.Core.List.{[], _++_};
 ghost use lib.ListN.{length, getD, take, drop};
-ghost use Rattle.fields.specs.Bytes.{part, number};
-ghost use Rattle.index.specs.Bounds.{bound};
+ghost use Rattle.fields.specs.Bytes.{part, number, splice};
+ghost use Rattle.index.specs.Bounds.{bound, separator};
 ghost use Rattle.index.specs.Rules.{baseFine};
 ghost use Rattle.index.specs.Reading.{numbersAt, piecesAt, frame};
 ghost use Rattle.index_read.specs.Check.{indexOf};
 ghost use Rattle.index_read.specs.AidParsing.{parsedOf, joinedOf};
-ghost use Rattle.index_read.specs.AidWalk.{boundRises, placesOf, someLow, entryOf, Renewed, marking};
+ghost use Rattle.index_read.specs.AidWalk.{Ascends, placesOf, entryOf, Renewed, marking};
 ghost use Rattle.index_read.specs.AidWalk.{allSeen, fineFrom, pieceNumbers, emptyMarks, freeAll, usedAll, Walkable};
 use fields::Order;
 
@@ -91,55 +91,51 @@ pub fn piece_at(ib: &[u8], w: usize, r: usize, edge: usize, len: usize, key: usi
     }
 }
 
-// Puts the bound of the next separator into the first `key` bytes of buf: F bytes stay, L characters are copied over
-// what follows them, X'FF' after.
+// Puts the next separator into buf, which begins with the one before: F bytes stay, L characters are copied over what follows them.
+pub(crate) fn extend(buf: &mut [u8], front: usize, ib: &[u8], at: usize, len: usize)
+    requires { ⌜ (front + len ≤ length (now buf)) × (at + len ≤ length (now ib)) ⌝ }
+    ensures { λ _. ⌜ now (buf .exit) ≡ splice (now (buf .entry)) front (part (now (ib .entry)) at len) ⌝ }
+{
+    let z = at + len;
+    fields::copy(buf, front, &ib[at..z]);
+}
+
+// Puts the bound of the next separator into the first `key` bytes of buf: X'FF' after the separator.
 pub fn renew(buf: &mut [u8], front: usize, ib: &[u8], at: usize, len: usize, key: usize)
     requires { ⌜ (front + len ≤ key) × (key ≤ length (now buf)) × (at + len ≤ length (now ib)) ⌝ }
     ensures { λ _. ⌜ now (buf .exit) ≡ bound key (joinedOf front (now (buf .entry)) (now (ib .entry)) at len) ++ drop key (now (buf .entry)) ⌝ }
 {
-    let z = at + len;
-    fields::copy(buf, front, &ib[at..z]);
+    extend(buf, front, ib, at, len);
     let e = front + len;
     fields::fill(buf, e, key, 255);
 }
 
-// Whether some byte is below X'FF'.
-pub(crate) fn some_low(t: &[u8]) -> bool
-    ensures { λ r. ⌜ r ≡ someLow (now (t .entry)) ⌝ }
-{
-    let mut i = 0;
-    while i < t.len() {
-        if t[i] < 255 {
-            return true;
-        }
-        i += 1;
-    }
-    false
-}
-
-// Whether the bound of the next separator is above the one in buf. They begin with the same F bytes; where the L characters
-// are the same too, X'FF' follows in the new bound, and any lower byte in the old one makes that the smaller.
+// Whether the bound of the next separator is above that of the one before, the first `len` bytes of buf. Both begin with the same F
+// bytes, and the byte after decides. Where no byte does: what the separator before has left ends below X'FF', and X'FF' stands there
+// in the new bound; and where it has nothing left, nothing is above its own X'FF'.
 pub(crate) fn ascends(
     buf: &[u8],
     first: bool,
     front: usize,
+    len: usize,
     ib: &[u8],
     at: usize,
-    len: usize,
-    key: usize,
+    l: usize,
 ) -> bool
-    requires { ⌜ (front + len ≤ key) × (key ≤ length (now buf)) × (at + len ≤ length (now ib)) ⌝ }
-    ensures { λ r. ⌜ r ≡ boundRises first key (now (buf .entry)) (joinedOf front (now (buf .entry)) (now (ib .entry)) at len) ⌝ }
+    requires { ⌜ (front ≤ len) × (len ≤ length (now buf)) × (at + l ≤ length (now ib)) × (separator len (take len (now buf)) ≡ true) ⌝ }
+    ensures { λ r. ⌜ Ascends first front len (now (buf .entry)) (now (ib .entry)) at l r ⌝ }
 {
     if first {
         return true;
     }
-    let e = front + len;
-    let z = at + len;
+    let rest = len - front;
+    let m = if l < rest { l } else { rest };
+    let e = front + m;
+    let z = at + m;
     let o = fields::compare_bytes(&buf[front..e], &ib[at..z]);
     match o {
         Order::Less => true,
-        Order::Same => some_low(&buf[e..key]),
+        Order::Same => l < rest,
         Order::Greater => false,
     }
 }
@@ -156,7 +152,7 @@ pub(crate) fn last_of(buf: &[u8], len: usize) -> u8
 }
 
 // The entry that ends at place r, with every rule on its separator: the place, F, the length, the order of the bounds, the
-// last byte. buf holds the bound before it and then its own.
+// last byte. buf begins with the separator before it, and then with its own.
 pub(crate) fn next_entry(
     buf: &mut [u8],
     first: bool,
@@ -166,23 +162,23 @@ pub(crate) fn next_entry(
     by: Limits,
 ) -> Parsed
     requires { ⌜ (1 ≤ by .width) × (by .width ≤ 4) × (r ≤ length (now ib)) × (by .edge < 65536) × (by .key ≤ length (now buf)) ⌝ }
+    requires held { ⌜ (len ≤ by .key) × (separator len (take len (now buf)) ≡ true) ⌝ }
     ensures is { λ x. ⌜ x ≡ entryOf (by .width) (now (ib .entry)) r (by .edge) len (by .key) first (now (buf .entry)) ⌝ }
-    ensures renewed { λ x. ⌜ Renewed (by .key) (now (ib .entry)) (now (buf .entry)) (now (buf .exit)) x ⌝ }
+    ensures renewed { λ x. ⌜ Renewed (now (ib .entry)) (now (buf .entry)) (now (buf .exit)) x ⌝ }
 {
-    let key = by.key;
     let Parsed::Of {
         front,
         len: l,
         at,
         number,
-    } = piece_at(ib, by.width, r, by.edge, len, key)
+    } = piece_at(ib, by.width, r, by.edge, len, by.key)
     else {
         return Parsed::Bad;
     };
-    if !ascends(buf, first, front, ib, at, l, key) {
+    if !ascends(buf, first, front, len, ib, at, l) {
         return Parsed::Bad;
     }
-    renew(buf, front, ib, at, l, key);
+    extend(buf, front, ib, at, l);
     if last_of(buf, front + l) == 255 {
         return Parsed::Bad;
     }
@@ -248,7 +244,7 @@ pub(crate) fn walk_entries(marks: Marks, ib: &[u8], count: usize, by: Limits) ->
     ensures marks { λ r. ⌜ (r .ok ≡ true → r .marks ≡ usedAll marks (pieceNumbers (piecesAt (by .width) (now (ib .entry)) (length (now (ib .entry)) - 7) count))) ⌝ }
 {
     let mut m = marks;
-    let mut buf = [255u8; 255];
+    let mut buf = [0u8; 255];
     let mut len = 0;
     let mut r = ib.len() - 7;
     let mut left = count;

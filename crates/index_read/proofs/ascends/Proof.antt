@@ -1,37 +1,44 @@
--- Both bounds begin with the same F bytes, so the L bytes after them decide (order-prefix, order-front, in the law rising).
--- Where those are the same, X'FF' follows in the new bound: it is above exactly where the old one has a lower byte there (order-top).
--- order-top needs that the buffer holds bytes, so that none is above X'FF'. above-less, above-same, above-greater are the three ways out.
+-- Both bounds begin with the same F bytes, so what follows decides: m bytes of each, as many as the characters and the rest of the separator
+-- before both have (least). Where those are the same, the bound rises exactly where that rest is longer (told, in Rising).
+-- That law needs bytes, so that none is above X'FF', and that the separator before doesn't end with X'FF'.
+use Prim.Native.Nat.{_-_, _≤_, _<_}
+use mathlib.Core.Path.{_≡_, sym}
+use mathlib.Core.Logic.{_⊎_, inl, inr, ⊎-elim}
 use native.Mathlib.Omega.{arith}
 use denote.Ref.{now}
 use borrow.Author.Needs.{needs}
-use Rattle.index_read.proofs.Entry.{above-less, above-same, above-greater}
+use Rattle.index_read.proofs.Rising.{above-less, above-same, above-greater}
 use Rattle.index_read.proofs.ascends.Statement.{statement}
 use Rattle.index_read.proofs.ascends.Tie as tie
 
 -- The states that the proof looks back to, by their names.
-abbrev start-from-compare-bytes : tie.After-compare-bytes → tie.Start
-start-from-compare-bytes k = k .before .before .before .before .before .before
+abbrev start-from-joined : tie.Joined2 → tie.Start
+start-from-joined k = k .before .before .before .before
 
-abbrev shared-slice-known-from-match-keys1 : tie.At-match-keys1 → tie.After-shared-slice-known
-shared-slice-known-from-match-keys1 k = k .before .before .before .before .before .before
+abbrev joined-from-compare : tie.After-compare-bytes → tie.Joined2
+joined-from-compare k = k .before .before .before .before
 
-abbrev shared-slice-known-from-match-keys2 : tie.At-match-keys2 → tie.After-shared-slice-known
-shared-slice-known-from-match-keys2 k = k .before .before .before .before .before .before
+-- how many bytes are compared
+least : (c : tie.Joined2)
+    → ((start-from-joined c .args .l < start-from-joined c .args .len - start-from-joined c .args .front) × (c .if2 .m ≡ start-from-joined c .args .l))
+    ⊎ ((start-from-joined c .args .len - start-from-joined c .args .front ≤ start-from-joined c .args .l)
+    × (c .if2 .m ≡ start-from-joined c .args .len - start-from-joined c .args .front))
+least c = ⊎-elim (λ p. inl (p .0 .taken, p .1)) (λ p. inr (p .0 .left, p .1)) (c .if2 .came)
 
-abbrev else1-from-match-keys2 : tie.At-match-keys2 → tie.Else1
-else1-from-match-keys2 k = k .before .before .before .before
-
-abbrev shared-slice-known-from-match-keys3 : tie.At-match-keys3 → tie.After-shared-slice-known
-shared-slice-known-from-match-keys3 k = k .before .before .before .before .before .before
+both-have : (c : tie.Joined2) → (c .if2 .m ≤ start-from-joined c .args .l) × (c .if2 .m ≤ start-from-joined c .args .len - start-from-joined c .args .front)
+both-have c = ⊎-elim (λ p. (omega (arith, p .0, p .1), omega (arith, p .0, p .1))) (λ p. (omega (arith, p .0, p .1), omega (arith, p .0, p .1))) (least c)
 
 returns : tie.Need-returns
-returns c = search needs
+returns c = λ K k1 k2. sym (rw (c .if1 .taken))
+
+sub-rest : tie.Need-sub-rest
+sub-rest c = search needs
 
 add-e : tie.Need-add-e
-add-e c = search needs
+add-e c = let p = start-from-joined (c .before) .pre in omega (arith, both-have (c .before) .1, p .0, p .1)
 
 add-z : tie.Need-add-z
-add-z c = search needs
+add-z c = omega (arith, both-have (c .before) .0, start-from-joined (c .before) .pre .2)
 
 sub-compare-bytes : tie.Need-sub-compare-bytes
 sub-compare-bytes c = search needs
@@ -40,7 +47,7 @@ part-compare-bytes-start : tie.Need-part-compare-bytes-start
 part-compare-bytes-start c = search needs
 
 part-compare-bytes-end : tie.Need-part-compare-bytes-end
-part-compare-bytes-end c = search needs
+part-compare-bytes-end c = let p = start-from-joined (c .before) .pre in omega (arith, both-have (c .before) .1, p .0, p .1)
 
 sub-compare-bytes-2 : tie.Need-sub-compare-bytes-2
 sub-compare-bytes-2 c = search needs
@@ -49,7 +56,7 @@ part-compare-bytes-start-2 : tie.Need-part-compare-bytes-start-2
 part-compare-bytes-start-2 c = search needs
 
 part-compare-bytes-end-2 : tie.Need-part-compare-bytes-end-2
-part-compare-bytes-end-2 c = search needs
+part-compare-bytes-end-2 c = omega (arith, both-have (c .before .before) .0, start-from-joined (c .before .before) .pre .2)
 
 compare-bytes-requires : tie.Need-compare-bytes-requires
 compare-bytes-requires c κs = search needs
@@ -60,50 +67,45 @@ enum-told c = search needs
 enum-told-2 : tie.Need-enum-told-2
 enum-told-2 c = search needs
 
-sub-some-low : tie.Need-sub-some-low
-sub-some-low c = search needs
-
-part-some-low-start : tie.Need-part-some-low-start
-part-some-low-start c = search needs
-
-part-some-low-end : tie.Need-part-some-low-end
-part-some-low-end c = search needs
-
-some-low-requires : tie.Need-some-low-requires
-some-low-requires c κs = search needs
-
 enum-told-3 : tie.Need-enum-told-3
 enum-told-3 c = search needs
 
 returns-2 : tie.Need-returns-2
-returns-2 c = let a = start-from-compare-bytes (c .before .before) .args in
-    let p = start-from-compare-bytes (c .before .before) .pre in
+returns-2 c = λ K k1 k2.
+    let j = joined-from-compare (c .before .before) in
     let q = c .before .before .compare-bytes in
-    above-less (now (a .buf)) (now (a .ib)) (a .front) (a .len) (a .at) (a .key) (p .0) (p .1) (p .2)
-    (λ i. omega (arith, shared-slice-known-from-match-keys1 (c .before) .shared-slice-known .given i)) (a .first) (c .before .before .before .before .before .if1 .left)
-    (q .result) (q .ensures) (c .enum-told .given .1)
+    let a = start-from-joined j .args in
+    let p = start-from-joined j .pre in
+    above-less (now (a .buf)) (now (a .ib)) (a .front) (a .len) (a .at) (a .l) (p .0) (p .1) (p .2) (p .3)
+    (λ i. omega (arith, j .before .before .before .shared-slice-known .given i)) (λ i. omega (arith, j .before .before .shared-slice-known2 .given i)) K k1 k2 (a .first)
+    (j .before .if1 .left) (j .if2 .m) (least j) (q .result) (q .ensures) (c .enum-told .given .1)
 
 returns-3 : tie.Need-returns-3
-returns-3 c = let a = start-from-compare-bytes (c .before .before .before .before) .args in
-    let p = start-from-compare-bytes (c .before .before .before .before) .pre in
-    let q = c .before .before .before .before .compare-bytes in
-    above-same (now (a .buf)) (now (a .ib)) (a .front) (a .len) (a .at) (a .key) (p .0) (p .1) (p .2)
-    (λ i. omega (arith, shared-slice-known-from-match-keys2 (c .before .before .before) .shared-slice-known .given i)) (a .first)
-    (else1-from-match-keys2 (c .before .before .before) .if1 .left) (q .result) (q .ensures) (c .before .before .enum-told2 .given .1) (c .some-low .result) (c .some-low .ensures)
+returns-3 c = λ K k1 k2.
+    let j = joined-from-compare (c .before .before) in
+    let q = c .before .before .compare-bytes in
+    let a = start-from-joined j .args in
+    let p = start-from-joined j .pre in
+    above-same (now (a .buf)) (now (a .ib)) (a .front) (a .len) (a .at) (a .l) (p .0) (p .1) (p .2) (p .3)
+    (λ i. omega (arith, j .before .before .before .shared-slice-known .given i)) (λ i. omega (arith, j .before .before .shared-slice-known2 .given i)) K k1 k2 (a .first)
+    (j .before .if1 .left) (j .if2 .m) (least j) (q .result) (q .ensures) (c .enum-told2 .given .1)
 
 returns-4 : tie.Need-returns-4
-returns-4 c = let a = start-from-compare-bytes (c .before .before) .args in
-    let p = start-from-compare-bytes (c .before .before) .pre in
+returns-4 c = λ K k1 k2.
+    let j = joined-from-compare (c .before .before) in
     let q = c .before .before .compare-bytes in
-    above-greater (now (a .buf)) (now (a .ib)) (a .front) (a .len) (a .at) (a .key) (p .0) (p .1) (p .2)
-    (λ i. omega (arith, shared-slice-known-from-match-keys3 (c .before) .shared-slice-known .given i)) (a .first) (c .before .before .before .before .before .if1 .left)
-    (q .result) (q .ensures) (c .enum-told3 .given .1)
+    let a = start-from-joined j .args in
+    let p = start-from-joined j .pre in
+    above-greater (now (a .buf)) (now (a .ib)) (a .front) (a .len) (a .at) (a .l) (p .0) (p .1) (p .2) (p .3)
+    (λ i. omega (arith, j .before .before .before .shared-slice-known .given i)) (λ i. omega (arith, j .before .before .shared-slice-known2 .given i)) K k1 k2 (a .first)
+    (j .before .if1 .left) (j .if2 .m) (least j) (q .result) (q .ensures) (c .enum-told3 .given .1)
 
 pub ascends-spec : {M : Type 1} → statement M
 ascends-spec =
     tie.close
     (tie.spec
     returns
+    sub-rest
     add-e
     add-z
     sub-compare-bytes
@@ -115,10 +117,6 @@ ascends-spec =
     compare-bytes-requires
     enum-told
     enum-told-2
-    sub-some-low
-    part-some-low-start
-    part-some-low-end
-    some-low-requires
     enum-told-3
     returns-2
     returns-3

@@ -1,6 +1,6 @@
 -- No loop. Each way out has a law in Next: entry-unparsed, entry-low (bound not above the one before), entry-high (last byte X'FF'), entry-on.
--- After renew the first F + L bytes of the buffer are the new separator (renewed-front), so its last byte can be read from the buffer.
--- An entry that was taken apart has its characters within the record (chars-inside), and F + L is at most a key's length: ascends and renew ask that.
+-- After extend the first F + L bytes of the buffer are the new separator (extended-front), so its last byte can be read from the buffer.
+-- An entry that was taken apart has its characters within the record (chars-inside), and F + L is at most a key's length: ascends and extend ask that.
 use Prim.Native.Nat.{_+_, _≤_}
 use mathlib.Core.Path.{_≡_, sym, _∙_}
 use lib.ListN.{length}
@@ -22,11 +22,11 @@ start-from-front k = k .before .before .before .before .before
 abbrev known-told-from-buf : tie.After-buf → tie.After-known-told
 known-told-from-buf k = k .before .before .before .before .before .before
 
-abbrev start-from-renew : tie.After-renew → tie.Start
-start-from-renew k = start-from-front (k .before .before .before .before .before .before)
+abbrev start-from-extend : tie.After-extend → tie.Start
+start-from-extend k = start-from-front (k .before .before .before .before .before .before)
 
-abbrev front-from-renew : tie.After-renew → tie.After-front
-front-from-renew k = k .before .before .before .before .before .before
+abbrev front-from-extend : tie.After-extend → tie.After-front
+front-from-extend k = k .before .before .before .before .before .before
 
 abbrev else1-from-last-of : tie.After-last-of → tie.Else1
 else1-from-last-of k = k .before .before .before .before .before .before
@@ -50,7 +50,7 @@ goods : (c : tie.After-known-told)
 goods c = good _ _ _ _ _ _ _ _ _ _ (parsed c)
 
 insides : (c : tie.After-known-told) → c .before .front .given .0 .1 .1 .0 + c .before .front .given .0 .1 .0 ≤ length (now (c .before .before .before .before .before .before .args .ib))
-insides c = chars-inside _ _ _ _ _ _ _ _ _ _ (goods c) (c .before .before .before .before .before .before .pre .2)
+insides c = chars-inside _ _ _ _ _ _ _ _ _ _ (goods c) (c .before .before .before .before .before .before .pre .0 .2)
 
 piece-at-requires : tie.Need-piece-at-requires
 piece-at-requires c κs = search needs
@@ -67,7 +67,8 @@ returns c = let a = c .before .before .before .before .before .args in
 
 ascends-requires : tie.Need-ascends-requires
 ascends-requires c κs = let q = c .before in
-    (goods q .fits, start-from-front (c .before .before) .pre .4, insides q)
+    let p = start-from-front (c .before .before) .pre in
+    (goods q .front, omega (arith, p .1 .0, p .0 .4), insides q, p .1 .1)
 
 same-length : tie.Need-same-length
 same-length c = search needs
@@ -78,30 +79,31 @@ returns-2 c = let a = start-from-front (c .before .before .before .before) .args
     let q = c .before .before .before in
     let h = c .before .before .before .before .front .given .0 in (
       entry-low (a .by .width) (now (a .ib)) (a .r) (a .by .edge) (a .len) (a .by .key) (a .first) (now (a .buf)) (h .0) (h .1 .0) (h .1 .1 .0) (h .1 .1 .1 .0) (parsed q)
-          (p .2) (p .4) (sym (not-true _ (c .if1 .taken)) ∙ c .before .ascends .ensures),
+          (p .0 .2) (p .0 .4) (sym (not-true _ (c .if1 .taken)) ∙ c .before .ascends .ensures _ (p .1 .0) (goods q .fits)),
       tt,
     )
 
-renew-requires : tie.Need-renew-requires
-renew-requires c κs = let q = c .before .before .before .before in
-    (goods q .fits, start-from-front (c .before .before .before .before .before) .pre .4, insides q)
+extend-requires : tie.Need-extend-requires
+extend-requires c κs = let q = c .before .before .before .before in
+    (omega (arith, goods q .fits, start-from-front (c .before .before .before .before .before) .pre .0 .4), insides q)
 
 add-last-of : tie.Need-add-last-of
 add-last-of c = omega (arith, goods (known-told-from-buf (c .before .before)) .fits)
 
 last-of-requires : tie.Need-last-of-requires
-last-of-requires c κs = omega (arith, goods (known-told-from-buf (c .before .before)) .fits, start-from-renew (c .before .before .before) .pre .4, c .before .before .before .renew .kept .0)
+last-of-requires c κs = omega (arith, goods (known-told-from-buf (c .before .before)) .fits, start-from-extend (c .before .before .before) .pre .0 .4, c .before .before .before .extend .kept .0)
 
 same-length-2 : tie.Need-same-length-2
 same-length-2 c = search needs
 
 returns-3 : tie.Need-returns-3
-returns-3 c = let a = start-from-renew (c .before .before .before .before .before) .args in
-    let p = start-from-renew (c .before .before .before .before .before) .pre in
+returns-3 c = let a = start-from-extend (c .before .before .before .before .before) .args in
+    let p = start-from-extend (c .before .before .before .before .before) .pre in
     let q = known-told-from-buf (c .before .before .before .before) in
-    let h = front-from-renew (c .before .before .before .before .before) .front .given .0 in (
+    let h = front-from-extend (c .before .before .before .before .before) .front .given .0 in (
       entry-high (a .by .width) (now (a .ib)) (a .r) (a .by .edge) (a .len) (a .by .key) (a .first) (now (a .buf)) (h .0) (h .1 .0) (h .1 .1 .0) (h .1 .1 .1 .0) (parsed q)
-          (p .2) (p .4) (c .before .before .before .before .before .renew .last .0) (c .before .before .before .before .before .renew .ensures) (sym (c .before .last-of .ensures) ∙ c .if2 .taken),
+          (p .0 .2) (p .0 .4) (c .before .before .before .before .before .extend .last .0) (c .before .before .before .before .before .extend .ensures)
+          (sym (c .before .last-of .ensures) ∙ c .if2 .taken),
       tt,
     )
 
@@ -109,15 +111,15 @@ same-length-3 : tie.Need-same-length-3
 same-length-3 c = search needs
 
 returns-4 : tie.Need-returns-4
-returns-4 c = let a = start-from-renew (c .before .before .before .before .before) .args in
-    let p = start-from-renew (c .before .before .before .before .before) .pre in
+returns-4 c = let a = start-from-extend (c .before .before .before .before .before) .args in
+    let p = start-from-extend (c .before .before .before .before .before) .pre in
     let q = known-told-from-buf (c .before .before .before .before) in
-    let h = front-from-renew (c .before .before .before .before .before) .front .given .0 in (
+    let h = front-from-extend (c .before .before .before .before .before) .front .given .0 in (
       entry-on (a .by .width) (now (a .ib)) (a .r) (a .by .edge) (a .len) (a .by .key) (a .first) (now (a .buf)) (h .0) (h .1 .0) (h .1 .1 .0) (h .1 .1 .1 .0) (parsed q)
-          (p .2) (p .4) (c .before .before .before .before .before .renew .last .0) (c .before .before .before .before .before .renew .ensures)
-          (sym (not-false _ (else1-from-last-of (c .before) .if1 .left)) ∙ ascends-from-buf (c .before .before .before .before) .ascends .ensures)
+          (p .0 .2) (p .0 .4) (c .before .before .before .before .before .extend .last .0) (c .before .before .before .before .before .extend .ensures)
+          (sym (not-false _ (else1-from-last-of (c .before) .if1 .left)) ∙ ascends-from-buf (c .before .before .before .before) .ascends .ensures _ (p .1 .0) (goods q .fits))
           (λ z. c .if2 .left (c .before .last-of .ensures ∙ z)),
-      c .before .before .before .before .before .renew .ensures,
+      c .before .before .before .before .before .extend .ensures,
     )
 
 pub next-entry-spec : {M : Type 1} → statement M
@@ -131,7 +133,7 @@ next-entry-spec =
     ascends-requires
     same-length
     returns-2
-    renew-requires
+    extend-requires
     add-last-of
     last-of-requires
     same-length-2

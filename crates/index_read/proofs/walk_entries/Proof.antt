@@ -1,18 +1,15 @@
 -- Invariant (State): the next entry ends at place r, within the record. The separator before it has len bytes, at most a key's length, and
--- buf begins with its bound. At most count entries are left, and counting them can't overflow.
+-- buf begins with it; its last byte isn't X'FF'. At most count entries are left, and counting them can't overflow.
 -- The whole record is fine exactly where the entries from r on are fine after that separator, with the marks made so far;
 -- and the marks at the end are those so far with the numbers of the entries from r on added.
 -- Measure: the entries left.
 use mathlib.Core.Path.{_≡_, sym, _∙_}
-use mathlib.Core.List.{_++_}
-use lib.ListN.{take, drop}
 use lib.Dec.{eqb}
 use native.Mathlib.Omega.{arith}
 use denote.Ref.{now}
 use borrow.Author.Needs.{needs}
-use Rattle.fields.specs.Bytes.{part}
+use Rattle.fields.specs.Bytes.{part, splice}
 use Rattle.fields.proofs.Choices.{false-true}
-use Rattle.index.specs.Bounds.{bound}
 use Rattle.index_read.specs.AidWalk.{entryOf}
 use Rattle.index_read.specs.declared.Parsed.the-variants.{Of}
 use Rattle.index_read.proofs.Entry.{Good}
@@ -65,9 +62,8 @@ goods c =
     (c .before .before .before .before .before .before .loop-test .taken) (start-from-buf2 (c .before .before .before) .pre .4) (h .0) (h .1 .0) (h .1 .1 .0) (h .1 .1 .1 .0) (entry c)
 
 renewed : (c : tie.After-known-told Inv-loop μ-loop)
-    → c .before .before .before .before .next-entry .last .0 ≡ bound (start-from-buf2 (c .before .before .before) .args .by .key)
-    (take (c .before .front .given .0 .0) (loop-from-front (c .before) .loop .buf) ++ part (now (start-from-buf2 (c .before .before .before) .args .ib))
-    (c .before .front .given .0 .1 .1 .0) (c .before .front .given .0 .1 .0)) ++ drop (start-from-buf2 (c .before .before .before) .args .by .key) (loop-from-front (c .before) .loop .buf)
+    → c .before .before .before .before .next-entry .last .0 ≡ splice (loop-from-front (c .before) .loop .buf) (c .before .front .given .0 .0)
+    (part (now (start-from-buf2 (c .before .before .before) .args .ib)) (c .before .front .given .0 .1 .1 .0) (c .before .front .given .0 .1 .0))
 renewed c = rw (c .before .front .given .1) at (c .before .before .before .before .next-entry .ensures .1)
 
 sub-r : tie.Need-sub-r Inv-loop μ-loop
@@ -83,7 +79,8 @@ slice-aggregate-next-entry c = sym (c .before .before .loop .inv .whole)
 
 next-entry-requires : tie.Need-next-entry-requires Inv-loop μ-loop
 next-entry-requires c κs = let p = c .before .before .before .before .pre in
-    (p .0, p .1, c .before .before .loop .inv .inside, p .3, c .before .before .loop .inv .holds .whole)
+    let v = c .before .before .loop .inv in
+    ((p .0, p .1, v .inside, p .3, omega (arith, p .5, v .whole)), (v .short, rw (v .held) (v .fine)))
 
 enum-known-front : tie.Need-enum-known-front Inv-loop μ-loop
 enum-known-front c = search needs
@@ -156,7 +153,7 @@ loop-again c = let a = start-from-if22 (c .before) .args in
     let h = c .before .before .before .before .before .front .given .0 in
     onward (a .by .width) (a .by .key) (a .by .n) (a .by .edge) (now (a .ib)) (a .count) (a .marks) (o .m) (o .buf) (o .len) (o .r) (o .left) (o .inv)
     (loop-from-front-2 (c .before .before .before .before .before) .loop-test .taken) (start-from-if22 (c .before) .pre .4) (h .0) (h .1 .0) (h .1 .1 .0) (h .1 .1 .1 .0)
-    (entry (c .before .before .before .before)) (next-entry-from-else1 (c .before .before) .next-entry .last .0) (renewed (c .before .before .before .before))
+    (entry (c .before .before .before .before)) (next-entry-from-else1 (c .before .before) .next-entry .last .0) (renewed (c .before .before .before .before)) (start-from-if22 (c .before) .pre .5)
     (c .before .before .if1 .left) (c .if2 .left)
 
 judged-requires-4 : tie.Need-judged-requires-4 Inv-loop μ-loop
