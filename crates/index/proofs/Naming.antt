@@ -8,7 +8,7 @@ use lib.ListN.{length, length-append}
 use lib.Dec.{eqb, ltb}
 use native.Mathlib.Omega.{arith}
 use native.Mathlib.Nat.{not-suc-le-zero, le-of-suc-le-suc, eq-or-lt-of-le}
-use borrow.Author.Tests.{eqb-true, ltb-true}
+use borrow.Author.Tests.{eqb-true, eq-eqb, ltb-true}
 use Rattle.fields.specs.Choice.{both}
 use Rattle.fields.specs.Lists.{every}
 use Rattle.fields.proofs.Choices.{both-split}
@@ -54,6 +54,23 @@ once-countTo xs zero e = refl
 once-countTo xs (suc n) e =
     let s = both-split (eqb (count n xs) 1) (once xs n) e in
     rw (once-countTo xs n (s .1), eqb-true (count n xs) 1 (s .0)) (omega arith)
+
+countTo-most : (xs : List ℕ) (n : ℕ) → ((k : ℕ) → count k xs ≤ 1) → countTo xs n ≤ n
+unfolding countTo
+countTo-most xs zero h = omega arith
+countTo-most xs (suc n) h = omega (arith, h n, countTo-most xs n h)
+
+once-by : (xs : List ℕ) (n : ℕ) → ((k : ℕ) → count k xs ≤ 1) → countTo xs n ≡ n → once xs n ≡ true
+unfolding once countTo
+once-by xs zero h e = refl
+once-by xs (suc n) h e =
+    let most : countTo xs n ≤ n = countTo-most xs n h in
+    let one : count n xs ≡ 1 = omega (arith, h n) in
+    rw (eq-eqb (count n xs) 1 one, once-by xs n h (omega arith))
+
+-- THE PIGEONHOLE: of n numbers below n, none of which stands there twice, each stands there once.
+pub all-named : (n : ℕ) (xs : List ℕ) → below n xs ≡ true → length xs ≡ n → ((k : ℕ) → count k xs ≤ 1) → once xs n ≡ true
+all-named n xs b e h = once-by xs n h (below-countTo n xs b ∙ e)
 
 -- Where each number below n is named once, and no other, as many numbers occur as there are intervals.
 pub named-length : (n : ℕ) (xs : List ℕ) → namedOnce n xs ≡ true → length xs ≡ n

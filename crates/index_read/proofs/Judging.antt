@@ -3,7 +3,7 @@ use Prim.Native.Nat.{ℕ, _+_, _-_, _*_, _≤_, _<_}
 use mathlib.Core.Path.{_≡_, refl, _∙_, sym, ap}
 use mathlib.Core.Bool.{Bool, true, false}
 use mathlib.Core.List.{List, [], _∷_, _++_}
-use lib.ListN.{length, replicate}
+use lib.ListN.{length, replicate, length-append, length-map}
 use lib.Dec.{eqb}
 use native.Mathlib.Omega.{arith}
 use borrow.Author.Tests.{eq-eqb, le-leb}
@@ -17,26 +17,25 @@ use Rattle.index.specs.Reading.{unusedAt, lastAt, sectionAt, freeCount, numbers
 use Rattle.index.proofs.Sounding.{sound-apart}
 use Rattle.index.proofs.Keeping.{Keeps, rules-apart}
 use Rattle.index.proofs.Closing.{closed-last, basePlaces, sound-base}
-use Rattle.index.proofs.Apart.{entries-are}
+use Rattle.index.proofs.Apart.{length-numbersAt, length-piecesAt, entries-are}
 use Rattle.index_read.specs.Check.{width, indexOf}
-use Rattle.index_read.specs.AidWalk.{placesOf, chain, pieceNumbers, marking, seenAfter, allSeen, emptyMarks, freeAll, usedAll, fineFrom}
+use Rattle.index_read.specs.AidWalk.{placesOf, chain, pieceNumbers, marking, seenAfter, emptyMarks, freeAll, usedAll, fineFrom}
 use Rattle.index_read.specs.declared.Marks.{Marks}
 use Rattle.index_read.specs.declared.Index.the-variants.{Sound, Unsound}
 use Rattle.index_read.specs.declared.Places.the-variants.{At, Nowhere}
 use Rattle.index_read.proofs.Entry.{pieces-next}
 use Rattle.index_read.proofs.Header.{Lies, place-good, place-bad}
 use Rattle.index_read.proofs.Chain.{chain-is, numbers-spelt, length-spelt}
-use Rattle.index_read.proofs.Marking.{named-by-marks, marking-append, seen-append}
+use Rattle.index_read.proofs.Marking.{named-by-marks, marking-append}
 use Rattle.index_read.proofs.Stepping.{entries-count}
 
 -- the tests in the walk's order
-arrange : (p f r c m₁ m₂ a : Bool) → both p (both f (both r (both c (both (both m₁ m₂) a)))) ≡ both m₁ (both (both (both p (both f (both r c))) m₂) a)
-arrange true true true true true m₂ a = refl
-arrange true true true true false m₂ a = refl
-arrange true true true false m₁ m₂ a = sym (both-false m₁)
-arrange true true false c m₁ m₂ a = sym (both-false m₁)
-arrange true false r c m₁ m₂ a = sym (both-false m₁)
-arrange false f r c m₁ m₂ a = sym (both-false m₁)
+arrange : (p f r c m₁ m₂ : Bool) → both p (both f (both r (both c (both m₁ m₂)))) ≡ both m₁ (both (both p (both f (both r c))) m₂)
+arrange true true true true m₁ m₂ = refl
+arrange true true true false m₁ m₂ = sym (both-false m₁)
+arrange true true false c m₁ m₂ = sym (both-false m₁)
+arrange true false r c m₁ m₂ = sym (both-false m₁)
+arrange false f r c m₁ m₂ = sym (both-false m₁)
 
 closed-some : (end : List ℕ) (es : List Entry) → closed end es ≡ true → 0 < length es
 unfolding closed
@@ -99,15 +98,26 @@ module _ (w K n : ℕ) (ib : List ℕ) where
         let q : ps ≡ pieceAt w ib R ∷ piecesAt w ib (R - pieceSize w (pieceAt w ib R)) (cnt - 1) = pieces-next w ib R cnt (omega (arith, l .some)) in
         rw q (chain-is w K E R [] [] (pieceAt w ib R) (piecesAt w ib (R - pieceSize w (pieceAt w ib R)) (cnt - 1)))
 
-    -- Where frame, base and displacements are in order, the rest of the definition is what the two walks and the last loop test.
-    pub sound-by : soundIndex w K n [] [] ib
-        ≡ both (marking n zeros fr) (both (fineFrom w K n E ib (seenAfter zeros fr) [] [] R cnt) (allSeen (seenAfter (seenAfter zeros fr) (pieceNumbers ps)) n))
+    -- so many numbers stand there as there are intervals
+    many : length (fr ++ pieceNumbers ps) ≡ n
+    many =
+        omega (
+          arith,
+          length-append fr (pieceNumbers ps),
+          length-numbersAt w ib 24 (freeCount w ib),
+          length-map ps (λ (p : Piece). p .num),
+          length-piecesAt w ib R cnt,
+          l .some,
+        )
+
+    -- Where frame, base and displacements are in order, the rest of the definition is what the two walks test.
+    pub sound-by : soundIndex w K n [] [] ib ≡ both (marking n zeros fr) (fineFrom w K n E ib (seenAfter zeros fr) [] [] R cnt)
     unfolding keepsRules readIndex fineFrom
     sound-by =
         sound-base w K n [] ib
-        ∙ rw (f, places-are, pieces-are, b, numbers-spelt [] ps, ← named-by-marks n (fr ++ pieceNumbers ps) big, marking-append, seen-append, chain-are)
+        ∙ rw (f, places-are, pieces-are, b, numbers-spelt [] ps, ← named-by-marks n (fr ++ pieceNumbers ps) big many, marking-append, chain-are)
         (arrange (eqb (E + piecesSize w ps) R) (frontsFit [] ps) (rises K [] (spell [] ps)) (closed [] (spell [] ps)) (marking n zeros fr)
-        (marking n (seenAfter zeros fr) (pieceNumbers ps)) (allSeen (seenAfter (seenAfter zeros fr) (pieceNumbers ps)) n))
+        (marking n (seenAfter zeros fr) (pieceNumbers ps)))
 
 -- ---- the ways out
 
@@ -156,8 +166,7 @@ module _ (K n : ℕ) (ib : List ℕ) where
     abbrev none : List ℕ
     none = replicate 256 0
 
-    by : soundIndex width K n [] [] ib
-        ≡ both (marking n none free) (both (fineFrom width K n e ib (seenAfter none free) [] [] (length ib - 7) (n - c)) (allSeen (seenAfter (seenAfter none free) used) n))
+    by : soundIndex width K n [] [] ib ≡ both (marking n none free) (fineFrom width K n e ib (seenAfter none free) [] [] (length ib - 7) (n - c))
     by = rw (c-is, e-is) (sound-by width K n ib (sym f) (sym b) l big)
 
     module _ (m₀ : Marks) (em : m₀ ≡ emptyMarks) where
@@ -174,23 +183,17 @@ module _ (K n : ℕ) (ib : List ℕ) where
         marks-on : marking n none free ≡ true
         marks-on = ap (λ (m : Marks). marking n (m .seen) free) (sym em) ∙ sym ok₁
 
-        by-walk : soundIndex width K n [] [] ib ≡ both (fineFrom width K n e ib (m₁ .seen) [] [] (length ib - 7) (n - c)) (allSeen (seenAfter (m₁ .seen) used) n)
+        by-walk : soundIndex width K n [] [] ib ≡ fineFrom width K n e ib (m₁ .seen) [] [] (length ib - 7) (n - c)
         by-walk = by ∙ rw (marks-on, ← seen₁)
 
         pub no-chain : false ≡ fineFrom width K n e ib (m₁ .seen) [] [] (length ib - 7) (n - c) → Unsound ≡ indexOf K n ib
-        no-chain h = unsound (λ p. false-true (h ∙ both-split (fineFrom width K n e ib (m₁ .seen) [] [] (length ib - 7) (n - c)) _ (sym by-walk ∙ p) .0))
+        no-chain h = unsound (λ p. false-true (h ∙ sym by-walk ∙ p))
 
         module _ (ok₂ : true ≡ fineFrom width K n e ib (m₁ .seen) [] [] (length ib - 7) (n - c)) (m₂ : Marks) (um : m₂ ≡ usedAll m₁ used) where
-          by-seen : soundIndex width K n [] [] ib ≡ allSeen (m₂ .seen) n
-          by-seen = by-walk ∙ rw (← ok₂, um)
-
-          pub no-all : false ≡ allSeen (m₂ .seen) n → Unsound ≡ indexOf K n ib
-          no-all h = unsound (λ p. false-true (h ∙ sym by-seen ∙ p))
-
-          pub all-fine : true ≡ allSeen (m₂ .seen) n → Sound (m₂ .free) (m₂ .used) ≡ indexOf K n ib
+          pub all-fine : Sound (m₂ .free) (m₂ .used) ≡ indexOf K n ib
           unfolding indexOf readIndex piecesIn
-          all-fine h =
-              let s : soundIndex width K n [] [] ib ≡ true = by-seen ∙ sym h in
+          all-fine =
+              let s : soundIndex width K n [] [] ib ≡ true = by-walk ∙ sym ok₂ in
               let a : m₂ .free ≡ length free = ap (λ (m : Marks). m .free) um ∙ ap (λ (m : Marks). m .free) fm ∙ ap (λ (m : Marks). m .free + length free) em ∙ omega arith in
               let d : m₂ .used ≡ length used = ap (λ (m : Marks). m .used) um ∙ rw counts (omega arith) in
               rw (a, d) (sym (rw (s, ← c-is, length-spelt [] (piecesAt width ib (length ib - 7) (n - c)))))

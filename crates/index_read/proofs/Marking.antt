@@ -8,18 +8,18 @@ use lib.ListN.{length, getD, set, length-set, length-replicate, replicate, getD-
 use lib.Seq.{getD-set-same, getD-set-other}
 use lib.Dec.{eqb, ltb}
 use native.Mathlib.Nat.{not-suc-le-zero, le-of-suc-le-suc, eq-or-lt-of-le}
-use native.Mathlib.Numerals.{add-one}
 use native.Mathlib.Decide.{ℕ-discrete, decLt}
 use native.Mathlib.Omega.{arith}
 use borrow.Author.Tests.{lt-ltb, le-ltb, eq-eqb, ne-eqb, ltb-true, ltb-false, eqb-true, eqb-false}
-use Rattle.fields.specs.Choice.{pick, both}
+use Rattle.fields.specs.Choice.{both}
 use Rattle.fields.specs.Bytes.{number}
 use Rattle.fields.specs.Lists.{every}
 use Rattle.fields.proofs.Choices.{false-true, both-false}
 use Rattle.index.specs.Meaning.{count, below, once, namedOnce}
 use Rattle.index.specs.Reading.{numbersAt}
 use Rattle.index.proofs.Counting.{count-same, count-other}
-use Rattle.index_read.specs.AidWalk.{marking, seenAfter, allSeen, freeAll}
+use Rattle.index.proofs.Naming.{all-named}
+use Rattle.index_read.specs.AidWalk.{marking, seenAfter, freeAll}
 use Rattle.index_read.specs.declared.Marks.{Marks}
 
 record Sane (m : List ℕ) : Type 0 where
@@ -107,27 +107,19 @@ once-not xs zero k h t = absurd (not-suc-le-zero h)
 once-not xs (suc n) k h t =
     ⊎-elim (λ (p : k ≡ n). rw (← p, ne-eqb (count k xs) 1 (omega arith))) (λ (l : k < n). rw (once-not xs n k l t) (both-false (eqb (count n xs) 1))) (eq-or-lt-of-le (le-of-suc-le-suc h))
 
-seen-once : (s xs : List ℕ) (n : ℕ) → ((k : ℕ) → getD s k 0 ≡ count k xs) → ((k : ℕ) → getD s k 0 ≤ 1) → allSeen s n ≡ once xs n
-unfolding allSeen once
-seen-once s xs zero e l = refl
-seen-once s xs (suc n) e l = rw (← e n, seen-once s xs n e l) (go (getD s n 0) (l n) (once xs n))
-  where
-    go : (v : ℕ) → v ≤ 1 → (b : Bool) → pick (eqb v 0) false b ≡ both (eqb v 1) b
-    go zero h b = refl
-    go (suc zero) h b = refl
-    go (suc (suc v)) h b = absurd (omega arith)
-
 from-empty : (k : ℕ) (v : ℕ) → getD zeros k 0 + v ≡ v
 from-empty k v = rw (zero-at k) (omega arith)
 
-pub named-by-marks : (n : ℕ) (xs : List ℕ) → n ≤ 256 → both (marking n (replicate 256 0) xs) (allSeen (seenAfter (replicate 256 0) xs) n) ≡ namedOnce n xs
+-- Where there are n numbers, marking them shows all: none is missing if none stands there twice.
+pub named-by-marks : (n : ℕ) (xs : List ℕ) → n ≤ 256 → length xs ≡ n → marking n (replicate 256 0) xs ≡ namedOnce n xs
 unfolding namedOnce
-named-by-marks n xs hn = go (marking n zeros xs) (says n zeros xs hn empty-sane)
+named-by-marks n xs hn many = go (marking n zeros xs) (says n zeros xs hn empty-sane)
   where
-    go : (t : Bool) → Says n zeros xs t (seenAfter zeros xs) → both t (allSeen (seenAfter zeros xs) n) ≡ both (below n xs) (once xs n)
+    go : (t : Bool) → Says n zeros xs t (seenAfter zeros xs) → t ≡ both (below n xs) (once xs n)
     go true s =
         let g = s .good refl in
-        rw (g .all) (seen-once (seenAfter zeros xs) xs n (λ k. g .sum k ∙ from-empty k (count k xs)) (g .sane .small))
+        let c : (k : ℕ) → count k xs ≤ 1 = λ k. omega (arith, g .sum k ∙ from-empty k (count k xs), g .sane .small k) in
+        sym (rw (g .all, all-named n xs (g .all) many c))
     go false s =
         ⊎-elim (λ (b : below n xs ≡ false). rw b)
         (λ (t : Twice n zeros xs). rw (once-not xs n (t .0) (t .1) (subst (λ (w : ℕ). 2 ≤ w) (from-empty (t .0) (count (t .0) xs)) (t .2)), both-false (below n xs)))
@@ -144,11 +136,6 @@ marking-append n m (x ∷ xs) ys = rw (marking-append n (set m x 1) xs ys) (go (
     go true true = refl
     go true false = refl
     go false b = refl
-
-pub seen-append : (m xs ys : List ℕ) → seenAfter m (xs ++ ys) ≡ seenAfter (seenAfter m xs) ys
-unfolding seenAfter
-seen-append m [] ys = refl
-seen-append m (x ∷ xs) ys = seen-append (set m x 1) xs ys
 
 -- ---- the walk over the free numbers
 
@@ -184,19 +171,3 @@ mark-end w n m ib at left h = sym (rw h)
 pub free-end : (w : ℕ) (m : Marks) (ib : List ℕ) (at left : ℕ) → left ≡ 0 → m ≡ freeAll m (numbersAt w ib at left)
 unfolding seenAfter numbersAt
 free-end w m ib at left h = let a : m .free + 0 ≡ m .free = omega arith in rw (h, a)
-
--- ---- the last loop
-
-pub seen-more : (s : List ℕ) (i : ℕ) → (getD s i 0 ≡ 0 → ⊥) → allSeen s i ≡ true → allSeen s (i + 1) ≡ true
-unfolding allSeen
-seen-more s i z h = rw (add-one i, ne-eqb (getD s i 0) 0 z, h)
-
-pub seen-not : (s : List ℕ) (i n : ℕ) → i < n → getD s i 0 ≡ 0 → allSeen s n ≡ false
-unfolding allSeen
-seen-not s i zero h z = absurd (not-suc-le-zero h)
-seen-not s i (suc n) h z =
-    ⊎-elim (λ (p : i ≡ n). rw (← p, eq-eqb (getD s i 0) 0 z)) (λ (l : i < n). rw (seen-not s i n l z) (two (eqb (getD s n 0) 0))) (eq-or-lt-of-le (le-of-suc-le-suc h))
-  where
-    two : (b : Bool) → pick b false false ≡ false
-    two true = refl
-    two false = refl

@@ -1,8 +1,8 @@
 -- What the walk's own functions answer. These are aids that follow the code's loops and steps; nothing here has to be believed, since the
 -- check's contract cites only specs/Check.antt, and proofs/ shows that the two are the same.
-use Prim.Native.Nat.{ℕ, zero, suc, _+_, _-_, _*_, _≤_, _<_, _^_}
+use Prim.Native.Nat.{ℕ, _+_, _-_, _*_, _≤_, _<_, _^_}
 use mathlib.Core.Path.{_≡_}
-use mathlib.Core.Bool.{Bool, true, false}
+use mathlib.Core.Bool.{Bool, true}
 use mathlib.Core.List.{List, [], _∷_, _++_, map}
 use lib.ListN.{length, getD, take, set, replicate}
 use lib.Dec.{eqb, leb, ltb}
@@ -79,11 +79,6 @@ marking n seen (x ∷ xs) = both (ltb x n) (both (eqb (getD seen x 0) 0) (markin
 unfoldable pub seenAfter : List ℕ → List ℕ → List ℕ
 seenAfter seen [] = seen
 seenAfter seen (x ∷ xs) = seenAfter (set seen x 1) xs
-
--- every number below k is marked
-unfoldable pub allSeen : List ℕ → ℕ → Bool
-allSeen seen zero = true
-allSeen seen (suc k) = pick (eqb (getD seen k 0) 0) false (allSeen seen k)
 
 abbrev pub emptyMarks : Marks
 emptyMarks = record { seen = replicate 256 0; used = 0; free = 0 }

@@ -11,7 +11,7 @@ ghost use Rattle.index.specs.Reading.{numbersAt, piecesAt, frame};
 ghost use Rattle.index_read.specs.Check.{indexOf};
 ghost use Rattle.index_read.specs.AidParsing.{parsedOf, joinedOf};
 ghost use Rattle.index_read.specs.AidWalk.{Ascends, placesOf, entryOf, Renewed, marking};
-ghost use Rattle.index_read.specs.AidWalk.{allSeen, fineFrom, pieceNumbers, emptyMarks, freeAll, usedAll, Walkable};
+ghost use Rattle.index_read.specs.AidWalk.{fineFrom, pieceNumbers, emptyMarks, freeAll, usedAll, Walkable};
 use fields::Order;
 
 // The bytes of a pointer and of a free number.
@@ -276,21 +276,6 @@ pub(crate) fn walk_entries(marks: Marks, ib: &[u8], count: usize, by: Limits) ->
     judged(len == 0, m)
 }
 
-// Whether each number below n is marked.
-pub(crate) fn all_seen(marks: Marks, n: usize) -> bool
-    requires { ⌜ n ≤ 256 ⌝ }
-    ensures { λ r. ⌜ r ≡ allSeen (marks .seen) n ⌝ }
-{
-    let mut i = 0;
-    while i < n {
-        if marks.seen[i] == 0 {
-            return false;
-        }
-        i += 1;
-    }
-    true
-}
-
 // Whether header values, RDF and CIDF are as they must be. The pointer indicator has a bit for each byte of a pointer.
 pub(crate) fn framed(ib: &[u8], w: usize) -> bool
     requires { ⌜ (31 ≤ length (now ib)) × (1 ≤ w) × (w ≤ 4) ⌝ }
@@ -400,9 +385,6 @@ pub fn check(ib: &[u8], key: usize, n: usize) -> Index
     }
     let spare = e.marks.free;
     let used = e.marks.used;
-    if !all_seen(e.marks, n) {
-        return Index::Unsound;
-    }
     Index::Sound {
         free: spare,
         entries: used,

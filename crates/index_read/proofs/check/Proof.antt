@@ -1,7 +1,7 @@
--- No loop. sound-by does the work: where frame, base and displacements are in order, soundness is what the two walks and the last loop test.
--- A mark is a count, 0 or 1: numbers unmarked when met, and all marked in the end, are named once each (named-by-marks).
+-- No loop. sound-by does the work: where frame, base and displacements are in order, soundness is what the two walks test.
+-- A mark is a count, 0 or 1: of n numbers below n, each unmarked when met, none is missing (named-by-marks, by the pigeonhole).
 -- The chain of entries passes the tests of the walk exactly where each rule holds of all the entries (chain-is).
--- Each refusal contradicts one part of soundness (no-frame to no-all); all-fine gives the counts of free intervals and of entries.
+-- Each refusal contradicts one part of soundness (no-frame to no-chain); all-fine gives the counts of free intervals and of entries.
 use mathlib.Core.Path.{_≡_, sym, _∙_}
 use mathlib.Core.Bool.{true}
 use lib.ListN.{length}
@@ -14,7 +14,7 @@ use Rattle.index.specs.Rules.{baseFine}
 use Rattle.index.specs.Reading.{frame}
 use Rattle.index_read.specs.AidWalk.{placesOf}
 use Rattle.index_read.specs.declared.Places.the-variants.{At}
-use Rattle.index_read.proofs.Judging.{no-frame, no-base, no-places, free-inside, free-few, last-small, no-free, counts, no-chain, no-all, all-fine}
+use Rattle.index_read.proofs.Judging.{no-frame, no-base, no-places, free-inside, free-few, last-small, no-free, counts, no-chain, all-fine}
 use Rattle.index_read.proofs.check.Statement.{statement}
 use Rattle.index_read.proofs.check.Tie as tie
 
@@ -33,15 +33,6 @@ known-told-from-walk-entries k = k .before .before .before .before .before
 
 abbrev free-from-walk-entries : tie.After-walk-entries → tie.After-free
 free-from-walk-entries k = k .before .before .before .before .before .before
-
-abbrev start-from-all-seen : tie.After-all-seen → tie.Start
-start-from-all-seen k = start-from-walk-free (k .before .before .before .before .before .before)
-
-abbrev walk-free-from-all-seen : tie.After-all-seen → tie.After-walk-free
-walk-free-from-all-seen k = k .before .before .before .before .before .before
-
-abbrev fresh-from-else4 : tie.Else4 → tie.After-fresh
-fresh-from-else4 k = k .before .before .before .before .before .before
 
 frames : (c : tie.After-known-told) → true ≡ frame 1 (now (start-from-placed (c .before .before .before) .args .ib))
 frames c = sym (not-false _ (c .before .before .before .before .before .before .if1 .left)) ∙ framed-from-free (c .before) .framed .ensures
@@ -141,34 +132,18 @@ returns-5 c = let a = start-from-walk-free (c .before .before .before .before .b
     no-chain (a .key) (a .n) (now (a .ib)) (frames q) (bases q) (p .4) (h .0) (h .1 .0) (places q) (c .before .before .before .before .before .before .fresh .result)
     (c .before .before .before .before .before .before .fresh .ensures) (sym ok ∙ w .ensures .0) (w .result .marks) (w .ensures .1 ok) (sym (not-true _ (c .if4 .taken)) ∙ v .ensures .0)
 
-all-seen-requires : tie.Need-all-seen-requires
-all-seen-requires c κs = start-from-walk-free (c .before .before .before .before .before) .pre .4
-
 returns-6 : tie.Need-returns-6
-returns-6 c = let a = start-from-all-seen (c .before) .args in
-    let p = start-from-all-seen (c .before) .pre in
-    let q = known-told-from-walk-entries (c .before .before .before .before) in
-    let h = free-from-walk-entries (c .before .before .before .before) .free .given .0 in
-    let w = walk-free-from-all-seen (c .before) .walk-free in
-    let v = c .before .before .before .before .walk-entries in
-    let ok : w .result .ok ≡ true = not-false _ (c .before .before .before .before .before .if3 .left) in
-    let fine : v .result .ok ≡ true = not-false _ (c .before .before .if4 .left) in
-    no-all (a .key) (a .n) (now (a .ib)) (frames q) (bases q) (p .4) (h .0) (h .1 .0) (places q) (fresh-from-else4 (c .before .before) .fresh .result)
-    (fresh-from-else4 (c .before .before) .fresh .ensures) (sym ok ∙ w .ensures .0) (w .result .marks) (w .ensures .1 ok) (sym fine ∙ v .ensures .0) (v .result .marks)
-    (v .ensures .1 fine) (sym (not-true _ (c .if5 .taken)) ∙ c .before .all-seen .ensures)
-
-returns-7 : tie.Need-returns-7
-returns-7 c = let a = start-from-all-seen (c .before) .args in
-    let p = start-from-all-seen (c .before) .pre in
-    let q = known-told-from-walk-entries (c .before .before .before .before) in
-    let h = free-from-walk-entries (c .before .before .before .before) .free .given .0 in
-    let w = walk-free-from-all-seen (c .before) .walk-free in
-    let v = c .before .before .before .before .walk-entries in
-    let ok : w .result .ok ≡ true = not-false _ (c .before .before .before .before .before .if3 .left) in
-    let fine : v .result .ok ≡ true = not-false _ (c .before .before .if4 .left) in
-    all-fine (a .key) (a .n) (now (a .ib)) (frames q) (bases q) (p .4) (h .0) (h .1 .0) (places q) (fresh-from-else4 (c .before .before) .fresh .result)
-    (fresh-from-else4 (c .before .before) .fresh .ensures) (sym ok ∙ w .ensures .0) (w .result .marks) (w .ensures .1 ok) (sym fine ∙ v .ensures .0) (v .result .marks)
-    (v .ensures .1 fine) (sym (not-false _ (c .if5 .left)) ∙ c .before .all-seen .ensures)
+returns-6 c = let a = start-from-walk-free (c .before .before .before .before .before) .args in
+    let p = start-from-walk-free (c .before .before .before .before .before) .pre in
+    let q = known-told-from-walk-entries (c .before .before) in
+    let h = free-from-walk-entries (c .before .before) .free .given .0 in
+    let w = c .before .before .before .before .before .walk-free in
+    let v = c .before .before .walk-entries in
+    let ok : w .result .ok ≡ true = not-false _ (c .before .before .before .if3 .left) in
+    let fine : v .result .ok ≡ true = not-false _ (c .if4 .left) in
+    all-fine (a .key) (a .n) (now (a .ib)) (frames q) (bases q) (p .4) (h .0) (h .1 .0) (places q) (c .before .before .before .before .before .before .fresh .result)
+    (c .before .before .before .before .before .before .fresh .ensures) (sym ok ∙ w .ensures .0) (w .result .marks) (w .ensures .1 ok) (sym fine ∙ v .ensures .0) (v .result .marks)
+    (v .ensures .1 fine)
 
 pub check-spec : {M : Type 1} → statement M
 check-spec =
@@ -188,6 +163,4 @@ check-spec =
     sub-walk-entries
     walk-entries-requires
     returns-5
-    all-seen-requires
-    returns-6
-    returns-7)
+    returns-6)
