@@ -1,4 +1,5 @@
--- The fewest intervals that hold some records: said over records and the grammar of an interval, and apart from the rules of division.
+-- The fewest intervals that hold some records: demand 3; document 01, 'Dividing an interval'. Said over records and the grammar of an interval, and
+-- apart from the rules of division.
 -- Each interval holds a stretch of the records in order, so records lie over k intervals as k parts one after another.
 use Prim.Native.Nat.{ℕ, _≤_}
 use mathlib.Core.Path.{_≡_}

@@ -1,4 +1,4 @@
--- A refusal leaves everything as it was: said of any result that a request's contract allows.
+-- A refusal leaves everything as it was: demand 1; document 01, 'How far each statement must reach'. Said of any result that a request's contract allows.
 use Prim.Native.Nat.{ℕ}
 use mathlib.Core.Path.{_≡_}
 use mathlib.Core.List.{List}

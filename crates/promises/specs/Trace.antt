@@ -1,5 +1,5 @@
--- Requests one after another on one area, each with a result that its contract allows; and what stands after them: demand 3. Nothing here searches or
--- writes.
+-- Requests one after another on one area, each with a result that its contract allows; and what stands after them: demand 3; document 01, 'How far each
+-- statement must reach'. Nothing here searches or writes.
 use Prim.Native.Nat.{ℕ, zero, suc}
 use mathlib.Core.Path.{_≡_}
 use mathlib.Core.Bool.{true}

@@ -1,4 +1,4 @@
--- What it is to find a record by its key or by its address: said over the reading, without a search.
+-- What it is to find a record by its key or by its address: document 01, 'What each number tells the depot'. Said over the reading, without a search.
 use Prim.Native.Nat.{ℕ, _+_, _*_, _≤_, _<_}
 use mathlib.Core.Path.{_≡_}
 use mathlib.Core.List.{List, [], _++_, List·Memᴰ}

@@ -1,5 +1,5 @@
--- The register as a plain list of records in key order, and the three changes of it by key alone: demand 3. No interval, index or byte of an area is
--- named here.
+-- The register as a plain list of records in key order, and the three changes of it by key alone: demand 3; document 01, 'How far each statement must
+-- reach'. No interval, index or byte of an area is named here.
 use Prim.Native.Nat.{ℕ, _+_}
 use mathlib.Core.Path.{_≡_}
 use mathlib.Core.List.{List, [], _∷_, map}

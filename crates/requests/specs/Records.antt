@@ -1,4 +1,4 @@
--- Records of an area by key and by address, said over its reading alone.
+-- Records of an area by key and by address: document 01, 'The area we lend'. Said over its reading alone.
 use Prim.Native.Nat.{ℕ, _+_, _*_}
 use mathlib.Core.List.{List, [], _∷_, _++_}
 use Rattle.fields.specs.Choice.{pick}
