@@ -97,9 +97,9 @@ key-in-one-entry m n area c w key some long o =
       place = length-fill m area (b .pre) ∙ b .place;
       holds = refl;
       stands = rw (entries-fill m area (b .pre)) (u .1 .0);
-      after = rw (entries-fill m area (b .pre)) (b .above);
+      after = rw (entries-fill m area (b .pre)) (b .beyond);
       within = b .within;
-      lower = all-lower m area key [] (b .pre) (r .0) (u .0) (b .above) .1;
+      lower = all-lower m area key [] (b .pre) (r .0) (u .0) (b .beyond) .1;
       higher = ascend-above (bound (m .key) (b .entry .sep)) key (keysOf m (recordsOf (fill m area (b .post))))
           (entries-ascend m area (bound (m .key) (b .entry .sep)) (b .post) (rises-apart (m .key) (boundBefore (m .key) [] (b .pre)) (b .entry) (b .post) (r .1) .2) (u .1 .1)) (b .within);
     }

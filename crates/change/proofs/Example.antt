@@ -34,8 +34,8 @@ use Rattle.change.proofs.Planning.{make-stores}
 use Rattle.change.proofs.Made.{made-whole}
 
 -- size 512, key of 8 bytes at the front, records of at most 505 bytes
-abbrev pub wide : Measures
-wide = measures 512 0 8 505
+abbrev pub sizes : Measures
+sizes = measures 512 0 8 505
 
 -- 500 bytes, with a key above those of the two
 abbrev pub large : List ℕ
@@ -48,8 +48,8 @@ insertion = record { entry = 0; ordinal = 2; gone = 0; fresh = large ∷ [] }
 large-octets : Octets large
 large-octets = octets-cons 0x42 (replicate 499 0) (omega arith) (octets-replicate 499 0 (omega arith))
 
-wide-lent : Lent wide 2 bytes
-wide-lent =
+sizes-lent : Lent sizes 2 bytes
+sizes-lent =
     let f = some-lent .fits in
     record {
       octets = some-lent .octets;
@@ -67,9 +67,9 @@ wide-lent =
           };
     }
 
-wide-laid : AreaLaidOut wide 2 bytes held
+sizes-laid : AreaLaidOut sizes 2 bytes held
 unfolding every
-wide-laid =
+sizes-laid =
     let u = some-laid-out .used .0 in
     record {
       index = record { laid = some-laid-out .index .laid; rules = some-laid-out .index .rules };
@@ -78,12 +78,12 @@ wide-laid =
     }
 
 -- There is a fitting edit.
-pub some-fitting : Fitting wide 2 bytes held insertion
+pub some-fitting : Fitting sizes 2 bytes held insertion
 unfolding every swap boundBefore bound orderOf ascending ascendFrom
 some-fitting =
     record {
-      lent = wide-lent;
-      reads = area-never-damaged wide bytes (omega arith) (fits-small (wide-lent .fits)) 2 (wide-lent .fits .few) held wide-laid;
+      lent = sizes-lent;
+      reads = area-never-damaged sizes bytes (omega arith) (fits-small (sizes-lent .fits)) 2 (sizes-lent .fits .few) held sizes-laid;
       proper =
           record {
             entry = omega arith;
@@ -98,17 +98,17 @@ some-fitting =
     }
 
 -- It divides into two,
-pub some-divided : divided wide (held .filled) insertion ≡ (first ∷ second ∷ []) ∷ (large ∷ []) ∷ []
+pub some-divided : divided sizes (held .filled) insertion ≡ (first ∷ second ∷ []) ∷ (large ∷ []) ∷ []
 unfolding divided swap sum rdfCount push groups need fits difference fitting better bestTo bestCut byCut divisionOf counts parts pieces
 some-divided = refl
 
 -- and it is made.
-pub some-made : planOf wide held insertion ≡ stores (storesOf wide held insertion (divided wide (held .filled) insertion))
+pub some-made : planOf sizes held insertion ≡ stores (storesOf sizes held insertion (divided sizes (held .filled) insertion))
 unfolding separators partsOf dividedAt indexSize entriesSize entrySize common cutSeparator swap
 some-made =
-    make-stores wide held insertion
-    (rw some-divided (omega arith), λ (h : 1 < length (divided wide (held .filled) insertion)). rw some-divided (omega arith))
+    make-stores sizes held insertion
+    (rw some-divided (omega arith), λ (h : 1 < length (divided sizes (held .filled) insertion)). rw some-divided (omega arith))
 
 -- So the area after it is sound, with the new content.
-pub some-after : readArea wide 2 (stored 512 bytes (storesOf wide held insertion (divided wide (held .filled) insertion))) ≡ whole (contentAfter wide held insertion)
-some-after = made-whole wide 2 bytes held insertion some-fitting (storesOf wide held insertion (divided wide (held .filled) insertion)) some-made
+pub some-after : readArea sizes 2 (stored 512 bytes (storesOf sizes held insertion (divided sizes (held .filled) insertion))) ≡ whole (contentAfter sizes held insertion)
+some-after = made-whole sizes 2 bytes held insertion some-fitting (storesOf sizes held insertion (divided sizes (held .filled) insertion)) some-made

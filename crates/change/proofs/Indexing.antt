@@ -191,12 +191,12 @@ octets-trailer R =
 pub record MeansBytes (m : Meaning) : Type 0 where
   pub kept : Octets (m .kept)
   pub spare : m .spare < 256
-  pub separators : SeparatorsOctets (m .entries)
+  pub sep-bytes : SeparatorsOctets (m .entries)
 
 -- So it is of what is read from bytes,
 pub read-bytes : (w n : ℕ) (ib : List ℕ) → Octets ib → MeansBytes (readIndex w n ib)
 unfolding readIndex
-read-bytes w n ib o = record { kept = octets-part ib 4 12 o; spare = o 17; separators = read-octets w n ib o }
+read-bytes w n ib o = record { kept = octets-part ib 4 12 o; spare = o 17; sep-bytes = read-octets w n ib o }
 
 -- and then the writer's index record is bytes.
 pub index-octets : (S K : ℕ) (low : List ℕ) (m : Meaning) → K ≤ 255 → rises K low (m .entries) ≡ true → MeansBytes m → Octets (indexBytes 1 S m)
@@ -209,7 +209,7 @@ index-octets S K low m h r b =
     (octets-header m R (unusedPlace 1 m) (lastPlace 1 m unused (packed [] (m .entries))) (b .kept) (b .spare))
     (octets-append (freeBytes 1 (m .free)) (unused ++ (x ++ trailer R)) (octets-free 1 (m .free))
     (octets-append unused (x ++ trailer R) (octets-replicate (S - 7 - indexSize 1 m) 0 (omega arith))
-    (octets-append x (trailer R) (octets-pieces 1 K low [] (m .entries) h r (b .separators)) (octets-trailer R))))
+    (octets-append x (trailer R) (octets-pieces 1 K low [] (m .entries) h r (b .sep-bytes)) (octets-trailer R))))
 
 cut-octets : (left right : List ℕ) → Octets left → Octets (cutSeparator left right)
 unfolding cutSeparator
@@ -236,7 +236,7 @@ parted-bytes m c i h inside low high p ps o b =
     let old : Entry = entryOf (entryAt (c .filled) i) in
     let post : List Entry = entriesOf (drop (i + 1) (c .filled)) in
     let new : List Entry = partsOf (separators m (p ∷ ps)) (c .free) old in
-    let s = separators-append pre (old ∷ post) (rw (entries-around c i h) at (b .separators)) in
+    let s = separators-append pre (old ∷ post) (rw (entries-around c i h) at (b .sep-bytes)) in
     let t = parts-octets m low high inside (c .free) old p ps o (s .1 .0) in
     rw (meaning-parted m c i p ps, ← entries-take, ← entries-drop, entriesOf-at)
-    (record { kept = b .kept; spare = b .spare; separators = separators-join pre (new ++ post) (s .0) (separators-join new post t (s .1 .1)) })
+    (record { kept = b .kept; spare = b .spare; sep-bytes = separators-join pre (new ++ post) (s .0) (separators-join new post t (s .1 .1)) })

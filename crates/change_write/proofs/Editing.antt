@@ -46,7 +46,7 @@ entry-holds m n area c w i h =
 
 module _ (bytes₀ lens₀ bytes lens : List ℕ) (rs : List (List ℕ)) (f : Extent) (c : Changed bytes₀ lens₀ bytes lens rs f) where
   pub counted-bytes : f .bytes ≡ length (take (f .bytes) bytes)
-  counted-bytes = c .total ∙ sym (ap length (changed-flat bytes₀ lens₀ bytes lens rs f c .bytes-are))
+  counted-bytes = c .sums ∙ sym (ap length (changed-flat bytes₀ lens₀ bytes lens rs f c .bytes-are))
 
   pub counted-lens : f .count ≡ length (take (f .count) lens)
   counted-lens = c .many ∙ sym (ap length (changed-flat bytes₀ lens₀ bytes lens rs f c .lens-are) ∙ length-map rs length)

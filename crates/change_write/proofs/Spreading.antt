@@ -118,7 +118,7 @@ module _ (m : Measures) (n : ℕ) (area : List ℕ) (entry number at : ℕ) (byt
   pub two-divides : (k : ℕ) → divisionOf (m .size) lens ≡ Two k → Divides m n area entry number bytes lens false k k
   two-divides k d =
       let b = is-two (m .size) lens k d .1 in
-      let c = cuttable k (b .above) (b .below) in
+      let c = cuttable k (b .some) (b .below) in
       let f = two-fit (m .size) lens k d in
       record { entered = r .entered; before = c; after = c; order = omega arith; fit = (f .0, (f .1, tt)) }
 

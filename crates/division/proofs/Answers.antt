@@ -42,7 +42,7 @@ module _ (S : ℕ) (ls : List ℕ) where
       go false e false f = (e, best-cut S ls (eqb-false (bestCut S ls) 0 f))
 
   cut-or-none : (c : ℕ) → BestCut S ls c → NoCut S ls → ⊥
-  cut-or-none c b n = n c (b .above) (b .below) (b .fit)
+  cut-or-none c b n = n c (b .some) (b .below) (b .fit)
 
   fits-or-not : fits S ls ≡ true → fits S ls ≡ false → ⊥
   fits-or-not e f = false-true (sym f ∙ e)

@@ -16,7 +16,7 @@ use Rattle.division.specs.Division.{difference, fitting, better, bestTo,
 
 -- One of the cuts 1 to k that fits.
 pub record Cut (S : ℕ) (ls : List ℕ) (k d : ℕ) : Type 0 where
-  pub above : 0 < d
+  pub some : 0 < d
   pub below : d ≤ k
   pub fit : fitting S ls d ≡ true
 
@@ -38,7 +38,7 @@ module _ (S : ℕ) (ls : List ℕ) (k b : ℕ) (i : To S ls k b) where
     where
       go : Dec (k < d) → P
       go (yes l) = g (omega (arith, c .below))
-      go (no l) = f (record { above = c .above; below = omega arith; fit = c .fit })
+      go (no l) = f (record { some = c .some; below = omega arith; fit = c .fit })
 
   -- the cut at k + 1 does not fit
   kept-unfit : fitting S ls (suc k) ≡ false → To S ls (suc k) b
@@ -114,7 +114,7 @@ unfolding bestTo better
 best-to S ls zero =
     record {
       inside = omega arith;
-      none = λ (y : _≡_ {A = ℕ} 0 0) (d : ℕ) (c : Cut S ls 0 d). omega (arith, c .above, c .below);
+      none = λ (y : _≡_ {A = ℕ} 0 0) (d : ℕ) (c : Cut S ls 0 d). omega (arith, c .some, c .below);
       fit = λ (z : 0 < 0). absurd (omega arith);
       least = λ (z : 0 < 0) (d : ℕ) (c : Cut S ls 0 d). absurd (omega arith);
       tie = λ (z : 0 < 0) (d : ℕ) (c : Cut S ls 0 d) (g : difference ls d ≡ difference ls 0). absurd (omega arith);
@@ -125,7 +125,7 @@ best-to S ls (suc k) =
 
 -- one of all cuts into two parts that aren't empty
 among : (S : ℕ) (ls : List ℕ) (d : ℕ) → 0 < d → d < length ls → fitting S ls d ≡ true → Cut S ls (length ls - 1) d
-among S ls d p l f = record { above = p; below = omega arith; fit = f }
+among S ls d p l f = record { some = p; below = omega arith; fit = f }
 
 -- a cut that isn't 0 is the prescribed one
 pub best-cut : (S : ℕ) (ls : List ℕ) → (bestCut S ls ≡ 0 → ⊥) → BestCut S ls (bestCut S ls)
@@ -134,7 +134,7 @@ best-cut S ls n =
     let i = best-to S ls (length ls - 1) in
     let z : 0 < bestTo S ls (length ls - 1) = omega arith in
     record {
-      above = z;
+      some = z;
       below = omega (arith, i .inside);
       fit = i .fit z;
       least = λ (d : ℕ) (p : 0 < d) (l : d < length ls) (f : fitting S ls d ≡ true). i .least z d (among S ls d p l f);
@@ -151,11 +151,11 @@ no-cut S ls e d p l f = best-to S ls (length ls - 1) .none e d (among S ls d p l
 -- there is only one prescribed cut
 pub best-unique : (S : ℕ) (ls : List ℕ) (c d : ℕ) → BestCut S ls c → BestCut S ls d → c ≡ d
 best-unique S ls c d x y =
-    let p = x .least d (y .above) (y .below) (y .fit) in
-    let q = y .least c (x .above) (x .below) (x .fit) in
+    let p = x .least d (y .some) (y .below) (y .fit) in
+    let q = y .least c (x .some) (x .below) (x .fit) in
     let e : difference ls d ≡ difference ls c = omega arith in
-    let u = x .tie d (y .above) (y .below) (y .fit) e in
-    let v = y .tie c (x .above) (x .below) (x .fit) (sym e) in
+    let u = x .tie d (y .some) (y .below) (y .fit) e in
+    let v = y .tie c (x .some) (x .below) (x .fit) (sym e) in
     omega arith
 
 -- As no record is empty, a left part of fewer records is one of fewer bytes: "smaller" in rule 2 means either.

@@ -162,7 +162,7 @@ pub record LaidOver (S : ℕ) (rs : List (List ℕ)) (cs : List ℕ) : Type 0 wh
 -- the records, divided as their lengths are, lie over the fewest intervals
 pub laid-fewest : (S : ℕ) (rs : List (List ℕ)) (cs : List ℕ) → Divided S (map length rs) cs → LaidOver S rs cs
 laid-fewest S rs cs d =
-    let e : sum cs ≡ length rs = d .total ∙ length-map rs length in
+    let e : sum cs ≡ length rs = d .sums ∙ length-map rs length in
     record {
       whole = concat-pieces cs rs ∙ take-all (sum cs) rs (omega arith);
       sizes = sizes-pieces cs rs (omega arith);

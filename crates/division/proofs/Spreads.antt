@@ -133,7 +133,7 @@ module _ (S : ℕ) (ls : List ℕ) (large : fits S ls ≡ false) where
 -- What a division into parts of so many lengths must be.
 pub record Divided (S : ℕ) (ls cs : List ℕ) : Type 0 where
   pub whole : concat (pieces cs ls) ≡ ls
-  pub total : sum cs ≡ length ls
+  pub sums : sum cs ≡ length ls
   pub fit : allFit S (pieces cs ls) ≡ true
   pub fewest : FewestParts S ls (length cs)
   pub filled : (k : ℕ) → k < length cs → 0 < getD cs k 0
@@ -148,7 +148,7 @@ module _ (S : ℕ) (ls : List ℕ) where
   divided-1 e h =
       record {
         whole = rw (pieces-1 ls) (concat-one ls);
-        total = sum-1 (length ls);
+        sums = sum-1 (length ls);
         fit = rw (pieces-1 ls) (fits-1 S ls e);
         fewest = fewest-1 e;
         filled = filled;
@@ -163,7 +163,7 @@ module _ (S : ℕ) (ls : List ℕ) where
   divided-2 e c b =
       record {
         whole = rw (pieces-2 ls c) w;
-        total = omega (arith, sum-2 c (length ls - c), b .below);
+        sums = omega (arith, sum-2 c (length ls - c), b .below);
         fit = rw (pieces-2 ls c) f;
         fewest = record { parted = parted-of S ls (take c ls ∷ drop c ls ∷ []) w (omega arith) f; least = λ (j : ℕ) (s : Parted S ls j). not-one S ls e j s };
         filled = filled;
@@ -176,7 +176,7 @@ module _ (S : ℕ) (ls : List ℕ) where
       f = let t = fitting-is S ls c (b .fit) in fits-2 S (take c ls) (drop c ls) (t .0) (t .1)
 
       filled : (k : ℕ) → k < 2 → 0 < getD (c ∷ (length ls - c) ∷ []) k 0
-      filled zero l = b .above
+      filled zero l = b .some
       filled (suc zero) l = omega (arith, b .below)
       filled (suc (suc k)) l = absurd (omega arith)
 
@@ -237,7 +237,7 @@ module _ (S : ℕ) (ls : List ℕ) (at : ℕ) (w : Changing S ls at) where
   divided-3 e z =
       record {
         whole = rw (pieces-3 ls at 0 (w .inside)) together;
-        total = omega (arith, sum-3 at 1 (length ls - (at + 1)), w .inside);
+        sums = omega (arith, sum-3 at 1 (length ls - (at + 1)), w .inside);
         fit = rw (pieces-3 ls at 0 (w .inside)) f;
         fewest = record { parted = parted-of S ls three together (omega arith) f; least = λ (j : ℕ) (s : Parted S ls j). not-two S ls e z j s };
         filled = filled;

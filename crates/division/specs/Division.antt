@@ -68,7 +68,7 @@ pieces (c ∷ cs) xs = take c xs ∷ pieces cs (drop c xs)
 -- Rule 2. The cut at c makes two non-empty parts that fit; no fitting cut differs less; none that differs equally has the smaller left
 -- part. Smaller is fewer records, or fewer bytes: as no record is empty they are the same (proofs/Best.antt, `fewer-smaller`).
 pub record BestCut (S : ℕ) (ls : List ℕ) (c : ℕ) : Type 0 where
-  pub above : 0 < c
+  pub some : 0 < c
   pub below : c < length ls
   pub fit : fitting S ls c ≡ true
   pub least : (d : ℕ) → 0 < d → d < length ls → fitting S ls d ≡ true → difference ls c ≤ difference ls d

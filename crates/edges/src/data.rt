@@ -5,18 +5,12 @@ use interval_read::Verdict;
 use measures::Judged;
 use measures::Measures;
 
-fn wide(x: u16) -> usize
-    ensures { λ r. ⌜ r < 65536 ⌝ }
-{
-    x as usize
-}
-
 // Gives each record its ordinal as its key and filling, so that keys ascend.
 fn fill_records(records: &mut [u8], lens: &[u16]) {
     let mut at = 0;
     let mut i = 0;
     while i < lens.len() {
-        let end = at + wide(lens[i]);
+        let end = at + lens[i] as usize;
         if records.len() < end {
             return;
         }

@@ -20,7 +20,7 @@ fn add(area: &mut [u8], i: usize, length: usize) {
 fn load(area: &mut [u8], lens: &[u16]) {
     let mut i = 0;
     while i < lens.len() {
-        add(area, i, request::wide(lens[i]));
+        add(area, i, lens[i] as usize);
         i += 1;
     }
 }
@@ -46,7 +46,7 @@ fn case(free: &[u8], lens: &[u16], letter: u8, byte: u8, length: usize) {
 fn each(free: &[u8], lens: &[u16], letter: u8, byte: u8, lengths: &[u16]) {
     let mut i = 0;
     while i < lengths.len() {
-        case(free, lens, letter, byte, request::wide(lengths[i]));
+        case(free, lens, letter, byte, lengths[i] as usize);
         i += 1;
     }
 }

@@ -9,14 +9,10 @@ pub(crate) fn number(n: usize) {
     io::print_decimal(STDOUT_FILENO, n as u64);
 }
 
-fn wide(x: u8) -> u64 {
-    x as u64
-}
-
 // A byte as two small hexadecimal digits; where it stands more than once in a row, a star and how often.
 fn item(byte: u8, count: usize) {
     words(b" ");
-    io::print_hex(STDOUT_FILENO, wide(byte), 2);
+    io::print_hex(STDOUT_FILENO, byte as u64, 2);
     if 1 < count {
         words(b"*");
         number(count);

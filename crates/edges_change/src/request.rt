@@ -4,10 +4,6 @@ use crate::print;
 use fields::Order;
 use requests::Answer;
 
-pub(crate) fn wide(x: u16) -> usize {
-    x as usize
-}
-
 // The request of a letter with the front of some bytes, so long: I inserts, U updates, E erases.
 pub(crate) fn asked(
     area: &mut [u8],
@@ -166,7 +162,7 @@ fn step(area: &mut [u8], script: &[u8], i: usize, length: usize) {
 pub(crate) fn steps(area: &mut [u8], script: &[u8], lengths: &[u16]) {
     let mut i = 0;
     while i < lengths.len() {
-        step(area, script, i, wide(lengths[i]));
+        step(area, script, i, lengths[i] as usize);
         i += 1;
     }
     checked(area, 4);

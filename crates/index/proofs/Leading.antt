@@ -28,12 +28,12 @@ module _ (K : ℕ) (key : List ℕ) (long : length key ≡ K) (o : Octets key) w
 
   here : (low : List ℕ) (e : Entry) (es : List Entry) → less low key ≡ true → less (bound K (e .sep)) key ≡ false → Belongs K low key (e ∷ es) 0
   unfolding boundBefore
-  here low e es l h = record { pre = []; entry = e; post = es; split = refl; place = refl; above = l; within = h }
+  here low e es l h = record { pre = []; entry = e; post = es; split = refl; place = refl; beyond = l; within = h }
 
   later : (low : List ℕ) (e : Entry) (es : List Entry) (i : ℕ) → Belongs K (bound K (e .sep)) key es i → Belongs K low key (e ∷ es) (suc i)
   unfolding boundBefore
   later low e es i b =
-      record { pre = e ∷ b .pre; entry = b .entry; post = b .post; split = ap (λ (x : List Entry). e ∷ x) (b .split); place = ap suc (b .place); above = b .above; within = b .within }
+      record { pre = e ∷ b .pre; entry = b .entry; post = b .post; split = ap (λ (x : List Entry). e ∷ x) (b .split); place = ap suc (b .place); beyond = b .beyond; within = b .within }
 
   -- A key above low and at most the bound of end leads to an entry that holds its range.
   pub lead-belongs : (low end : List ℕ) (es : List Entry) → less low key ≡ true → less (bound K end) key ≡ false
@@ -86,7 +86,7 @@ module _ (K : ℕ) (key : List ℕ) (long : length key ≡ K) (o : Octets key) w
   pub lead-only : (low : List ℕ) (es : List Entry) (i : ℕ) → rises K low es ≡ true → Belongs K low key es i → leadsTo key es ≡ i
   lead-only low es i r b =
       let q : rises K low (b .pre ++ (b .entry ∷ b .post)) ≡ true = rw (b .split) at r in
-      ap (λ (x : List Entry). leadsTo key x) (b .split) ∙ only-here low (b .pre) (b .entry) (b .post) q (b .above) (b .within) ∙ b .place
+      ap (λ (x : List Entry). leadsTo key x) (b .split) ∙ only-here low (b .pre) (b .entry) (b .post) q (b .beyond) (b .within) ∙ b .place
 
 -- The entry that holds a key's range is one of the entries.
 pub belongs-inside : (K : ℕ) (low key : List ℕ) (es : List Entry) (i : ℕ) → Belongs K low key es i → i < length es

@@ -27,8 +27,8 @@ module _ (w S K n : ℕ) (low end : List ℕ) (m : Meaning) (ib : List ℕ) (wid
   used-below : below n (numbers (spell [] (laid .pieces))) ≡ true
   used-below = rw (laid .spells) (both-below n m (kept .naming) .1)
 
-  every : length (m .free) + length (laid .pieces) ≡ n
-  every =
+  count-all : length (m .free) + length (laid .pieces) ≡ n
+  count-all =
       omega (arith, free-and-used n m (kept .naming), ap (λ (es : List Entry). length es) (laid .spells), length-spell [] (laid .pieces))
 
   whole : S ≡ recordLength w m (laid .unused) (laid .pieces) + 7
@@ -40,7 +40,7 @@ module _ (w S K n : ℕ) (low end : List ℕ) (m : Meaning) (ib : List ℕ) (wid
   -- What was laid out is read as what it means, whatever the choice of F and the bytes in the unused space.
   pub index-reads : readIndex w n ib ≡ m
   index-reads =
-      rw (laid .bytes) (read-there w m (laid .unused) (laid .pieces) (laid .twelve) small n width wide (laid .spells) every free-below used-below)
+      rw (laid .bytes) (read-there w m (laid .unused) (laid .pieces) (laid .twelve) small n width wide (laid .spells) count-all free-below used-below)
 
   -- What was laid out and keeps the rules is never called damaged.
   pub index-never-damaged : soundIndex w K n low end ib ≡ true
@@ -53,8 +53,8 @@ module _ (w S K n : ℕ) (low end : List ℕ) (m : Meaning) (ib : List ℕ) (wid
         laid .bytes,
         frame-there w m (laid .unused) (laid .pieces) (laid .twelve) small,
         places-there w m (laid .unused) (laid .pieces)
-            (laid .twelve) small n width wide (laid .spells) every free-below used-below,
-        all-there w m (laid .unused) (laid .pieces) (laid .twelve) small n width wide (laid .spells) every free-below used-below,
+            (laid .twelve) small n width wide (laid .spells) count-all free-below used-below,
+        all-there w m (laid .unused) (laid .pieces) (laid .twelve) small n width wide (laid .spells) count-all free-below used-below,
         laid .fits,
       )
 

@@ -22,5 +22,5 @@ pub record Belongs (K : ℕ) (low key : List ℕ) (es : List Entry) (i : ℕ) : 
   pub post : List Entry
   pub split : es ≡ pre ++ (entry ∷ post)
   pub place : length pre ≡ i
-  pub above : less (boundBefore K low pre) key ≡ true
+  pub beyond : less (boundBefore K low pre) key ≡ true
   pub within : less (bound K (entry .sep)) key ≡ false

@@ -28,7 +28,7 @@ record Sane (m : List ℕ) : Type 0 where
 
 record Kept (n : ℕ) (m xs r : List ℕ) : Type 0 where
   all : below n xs ≡ true
-  sum : (k : ℕ) → getD r k 0 ≡ getD m k 0 + count k xs
+  counts : (k : ℕ) → getD r k 0 ≡ getD m k 0 + count k xs
   sane : Sane r
 
 abbrev Twice : ℕ → List ℕ → List ℕ → Type 0
@@ -74,7 +74,7 @@ step n m x xs ok r hn s true true e₁ e₂ ih =
     record {
       good = λ o.
           let g = ih l z .good o in
-          record { all = below-cons n x xs l ∙ g .all; sum = λ k. g .sum k ∙ mark-at m x xs s l′ z k; sane = g .sane };
+          record { all = below-cons n x xs l ∙ g .all; counts = λ k. g .counts k ∙ mark-at m x xs s l′ z k; sane = g .sane };
       bad = λ o. ⊎-elim (λ b. inl (below-cons n x xs l ∙ b)) (λ t. inr (t .0, t .1, subst (λ (w : ℕ). 2 ≤ w) (mark-at m x xs s l′ z (t .0)) (t .2))) (ih l z .bad o);
     }
 step n m x xs ok r hn s true false e₁ e₂ ih =
@@ -85,7 +85,7 @@ step n m x xs ok r hn s false b₂ e₁ e₂ ih = record { good = λ o. absurd (
 
 says : (n : ℕ) (m xs : List ℕ) → n ≤ 256 → Sane m → Says n m xs (marking n m xs) (seenAfter m xs)
 unfolding marking seenAfter every count
-says n m [] hn s = record { good = λ o. record { all = refl; sum = λ k. omega arith; sane = s }; bad = λ o. absurd (false-true (sym o)) }
+says n m [] hn s = record { good = λ o. record { all = refl; counts = λ k. omega arith; sane = s }; bad = λ o. absurd (false-true (sym o)) }
 says n m (x ∷ xs) hn s =
     step n m x xs (marking n (set m x 1) xs) (seenAfter (set m x 1) xs) hn s (ltb x n) (eqb (getD m x 0) 0) refl refl (λ l z. says n (set m x 1) xs hn (mark-sane m x s (omega arith)))
 
@@ -118,7 +118,7 @@ named-by-marks n xs hn many = go (marking n zeros xs) (says n zeros xs hn empty-
     go : (t : Bool) → Says n zeros xs t (seenAfter zeros xs) → t ≡ both (below n xs) (once xs n)
     go true s =
         let g = s .good refl in
-        let c : (k : ℕ) → count k xs ≤ 1 = λ k. omega (arith, g .sum k ∙ from-empty k (count k xs), g .sane .small k) in
+        let c : (k : ℕ) → count k xs ≤ 1 = λ k. omega (arith, g .counts k ∙ from-empty k (count k xs), g .sane .small k) in
         sym (rw (g .all, all-named n xs (g .all) many c))
     go false s =
         ⊎-elim (λ (b : below n xs ≡ false). rw b)

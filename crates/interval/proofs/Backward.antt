@@ -56,7 +56,7 @@ pub record Tests (m : Measures) (ci : List ℕ) : Type 0 where
   pub quiet : busy ci ≡ false
   pub adds-up : rdfsAt ci + 3 * rdfsMany ci + 4 ≡ length ci
   pub formed : wellFormed (m .least) (m .most) (rdfsIn ci) ≡ true
-  pub total : sum (lengths (rdfsIn ci)) ≡ displacement ci
+  pub sums : sum (lengths (rdfsIn ci)) ≡ displacement ci
 
 -- a sound form passes each of them
 pub form-tests : (m : Measures) (ci : List ℕ) → formSound m ci ≡ true → Tests m ci
@@ -65,7 +65,7 @@ form-tests m ci h =
     let a = both-split (no (busy ci)) _ h in
     let b = both-split (eqb (rdfsAt ci + 3 * rdfsMany ci + 4) (length ci)) _ (a .1) in
     let c = both-split (wellFormed (m .least) (m .most) (rdfsIn ci)) (eqb (sum (lengths (rdfsIn ci))) (displacement ci)) (b .1) in
-    record { quiet = no-true _ (a .0); adds-up = eqb-true _ _ (b .0); formed = c .0; total = eqb-true _ _ (c .1) }
+    record { quiet = no-true _ (a .0); adds-up = eqb-true _ _ (b .0); formed = c .0; sums = eqb-true _ _ (c .1) }
 
 module _ (m : Measures) (ci : List ℕ) (h : formSound m ci ≡ true) where
   tests : Tests m ci
@@ -75,7 +75,7 @@ module _ (m : Measures) (ci : List ℕ) (h : formSound m ci ≡ true) where
   legal = grouped (m .least) (m .most) (rdfsIn ci) (tests .formed)
 
   inside : sum (lengths (rdfsIn ci)) ≤ length ci
-  inside = omega (arith, tests .total, tests .adds-up)
+  inside = omega (arith, tests .sums, tests .adds-up)
 
   spelt-lengths : described (legal .grouping) ≡ lengths (rdfsIn ci)
   spelt-lengths = sym (lengths-rdfsOf (legal .grouping) (legal .counted)) ∙ ap lengths (legal .same)
@@ -87,7 +87,7 @@ module _ (m : Measures) (ci : List ℕ) (h : formSound m ci ≡ true) where
 
   -- take the bytes up to the unused space
   pub read-bytes : length (concat (recordsIn ci)) ≡ displacement ci
-  read-bytes = sym (sum-lengths (recordsIn ci)) ∙ ap sum read-lengths ∙ tests .total
+  read-bytes = sym (sum-lengths (recordsIn ci)) ∙ ap sum read-lengths ∙ tests .sums
 
   -- and each of them is one that the measures allow
   pub read-lengths-fine : lengthsFine m (recordsIn ci) ≡ true
@@ -96,7 +96,7 @@ module _ (m : Measures) (ci : List ℕ) (h : formSound m ci ≡ true) where
   -- the records that are read are the bytes up to the unused space
   pub read-concat : concat (recordsIn ci) ≡ take (displacement ci) ci
   unfolding recordsIn
-  read-concat = concat-cut ci (lengths (rdfsIn ci)) inside ∙ ap (λ (n : ℕ). take n ci) (tests .total)
+  read-concat = concat-cut ci (lengths (rdfsIn ci)) inside ∙ ap (λ (n : ℕ). take n ci) (tests .sums)
 
   module _ (o : Octets ci) where
     whole-field : unusedLength ci ≡ unusedField ci

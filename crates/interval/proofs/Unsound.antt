@@ -57,5 +57,5 @@ end-of-file-unsound m ci some long d u = go (formSound m ci) refl
         let t = form-tests m ci e in
         let g = grouped (m .least) (m .most) (rdfsIn ci) (t .formed) in
         let n : rdfCount (g .grouping) ≡ rdfsMany ci = sym (length-rdfsOf (g .grouping)) ∙ ap length (g .same) ∙ length-rdfs ci (rdfsAt ci) (rdfsMany ci) in
-        let z : sum (described (g .grouping)) ≡ displacement ci = ap sum (sym (lengths-rdfsOf (g .grouping) (g .counted)) ∙ ap lengths (g .same)) ∙ t .total in
+        let z : sum (described (g .grouping)) ≡ displacement ci = ap sum (sym (lengths-rdfsOf (g .grouping) (g .counted)) ∙ ap lengths (g .same)) ∙ t .sums in
         absurd (omega (arith, rdfs-most (m .least) (m .most) (g .grouping) some (g .counted) (g .fine), t .adds-up))

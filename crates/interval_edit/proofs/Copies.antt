@@ -103,7 +103,7 @@ module _ (m : Measures) (ci : List ℕ) (r : Readable m ci) (ordinal start gone 
         record {
           bytes-are = b ∙ ap (splice bytes₀ 0) swapped-bytes;
           lens-are = l ∙ ap (splice lens₀ 0) swapped-lens;
-          total = n ∙ ap length swapped-bytes;
+          sums = n ∙ ap length swapped-bytes;
           many = k ∙ ap length swapped-lens ∙ length-map (swap ordinal gone xs (recordsIn ci)) length;
           total-most = omega (arith, n, s, w, bytes-lie);
           many-most = omega (arith, k, t, q, records-few m ci r, r .small);
@@ -114,6 +114,6 @@ pub changed-flat : (bytes₀ lens₀ bytes lens : List ℕ) (rs : List (List ℕ
     → Flat (take (f .bytes) bytes) (take (f .count) lens) rs
 changed-flat bytes₀ lens₀ bytes lens rs f c =
     record {
-      bytes-are = rw (c .total, c .bytes-are) (take-front bytes₀ (concat rs) _ refl);
+      bytes-are = rw (c .sums, c .bytes-are) (take-front bytes₀ (concat rs) _ refl);
       lens-are = rw (c .many, c .lens-are, ← length-map rs length) (take-front lens₀ (map length rs) _ refl);
     }

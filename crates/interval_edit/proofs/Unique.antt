@@ -21,7 +21,7 @@ flat-same r s p q = ap (λ (b : ℕ). flat b (r .count)) p ∙ ap (flat (s .byte
 only : (bytes₀ lens₀ : List ℕ) (rs : List (List ℕ)) (b c l k : List ℕ) (r s : Extent) → Changed bytes₀ lens₀ b l rs r → Changed bytes₀ lens₀ c k rs s
     → (r ≡ s) × (b ≡ c) × (l ≡ k)
 only bytes₀ lens₀ rs b c l k r s p q =
-    (flat-same r s (agree (p .total) (q .total)) (agree (p .many) (q .many)), agree (p .bytes-are) (q .bytes-are), agree (p .lens-are) (q .lens-are))
+    (flat-same r s (agree (p .sums) (q .sums)) (agree (p .many) (q .many)), agree (p .bytes-are) (q .bytes-are), agree (p .lens-are) (q .lens-are))
 
 -- the two buffers are the eighth and the ninth parameter
 pub unique-put-in : (κs : _) (args : _) (r s : Extent) (e f : _) → put-in.Learnt κs args r e → put-in.Learnt κs args s f

@@ -21,7 +21,7 @@ pub record Goes (rs : List (List ℕ)) (ordinal start gone bytes : ℕ) : Type 0
 pub record Changed (bytes₀ lens₀ bytes lens : List ℕ) (rs : List (List ℕ)) (r : Extent) : Type 0 where
   pub bytes-are : bytes ≡ splice bytes₀ 0 (concat rs)
   pub lens-are : lens ≡ splice lens₀ 0 (map length rs)
-  pub total : r .bytes ≡ length (concat rs)
+  pub sums : r .bytes ≡ length (concat rs)
   pub many : r .count ≡ length rs
   pub total-most : r .bytes ≤ 65536
   pub many-most : r .count ≤ 32768

@@ -30,7 +30,7 @@ module _ (m : Measures) (ci : List ℕ) (r : Readable m ci) where
   pub ready-first : (p many : ℕ) → p ≡ rdfsAt ci → many ≡ rdfsMany ci → Ready (m .least) (m .most) ci p (record { at = 0; left = many; len = 0; more = 0 })
   unfolding rdfsIn
   ready-first p many e f =
-      let s : sum (lengths (rdfs ci (rdfsAt ci) (rdfsMany ci))) ≡ displacement ci = readable-tests m ci r .total in
+      let s : sum (lengths (rdfs ci (rdfsAt ci) (rdfsMany ci))) ≡ displacement ci = readable-tests m ci r .sums in
       let w : allWithin (m .least) (m .most) (lengths (rdfs ci (rdfsAt ci) (rdfsMany ci))) ≡ true =
       rw (read-lengths m ci (readable-form m ci r)) at (read-lengths-fine m ci (readable-form m ci r)) in
       rw (e, f) (record { room = omega (arith, readable-rdfs m ci r); formed = readable-formed m ci r; inside = omega (arith, readable-rdfs m ci r); fine = w })

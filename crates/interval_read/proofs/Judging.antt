@@ -114,7 +114,7 @@ module _ (m : Measures) (ci : List ℕ) (some : 1 ≤ m .key) (inside : m .offse
   decide h =
       let r : map length (recordsIn ci) ≡ lengths (rdfsIn ci) = read-lengths m ci h in
       record {
-        ascends = ascend-open m ci (lengths (rdfsIn ci)) some inside (rw r at (read-lengths-fine m ci h)) (omega (arith, form-tests m ci h .total, form-tests m ci h .adds-up));
+        ascends = ascend-open m ci (lengths (rdfsIn ci)) some inside (rw r at (read-lengths-fine m ci h)) (omega (arith, form-tests m ci h .sums, form-tests m ci h .adds-up));
         count = sym (ap length r) ∙ length-map (recordsIn ci) length;
         lens = sym r;
       }

@@ -84,8 +84,8 @@ module _ (m : Measures) (ci : List ℕ) (some : 1 ≤ m .key) (inside : m .offse
       let r = read-lengths m ci form in
       sym (rw r (keys-are m ci 0 (lengths (rdfsIn ci)) inside (rw r at (read-lengths-fine m ci form))))
 
-  total : sum (map length (recordsIn ci)) ≤ length ci
-  total = rw (read-lengths m ci form) (omega (arith, form-tests m ci form .total, form-tests m ci form .adds-up))
+  sums : sum (map length (recordsIn ci)) ≤ length ci
+  sums = rw (read-lengths m ci form) (omega (arith, form-tests m ci form .sums, form-tests m ci form .adds-up))
 
   rises-from : (k : List ℕ) (ks : List (List ℕ)) → ascending (k ∷ ks) ≡ true → ascendFrom k ks ≡ true
   unfolding ascending
@@ -109,7 +109,7 @@ module _ (m : Measures) (ci : List ℕ) (some : 1 ≤ m .key) (inside : m .offse
       go [] e = absurd (n (sym (length-map (recordsIn ci) length) ∙ ap length e))
       go (l ∷ ls) e =
           let w : allWithin (m .least) (m .most) (l ∷ ls) ≡ true = rw e at (read-lengths-fine m ci form) in
-          let s : sum (l ∷ ls) ≤ length ci = rw e at total in
+          let s : sum (l ∷ ls) ≤ length ci = rw e at sums in
           let k : keysOf m (recordsIn ci) ≡ part ci (0 + m .offset) (m .key) ∷ keysFrom (m .offset) (m .key) ci (0 + l) ls =
           keys-from ∙ rw e (from-more (m .offset) (m .key) ci 0 l ls) in
           let z : 0 + m .offset ≡ m .offset = omega arith in

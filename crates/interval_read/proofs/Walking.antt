@@ -142,7 +142,7 @@ module _ (m : Measures) (ci : List ℕ) (d : ℕ) (all : List Rdf) where
       unfolding judged
       too-long h =
           unsound
-          (rw (ne-eqb (at + sum (lengths (rdfs ci p n))) d (omega (arith, s .total)))
+          (rw (ne-eqb (at + sum (lengths (rdfs ci p n))) d (omega (arith, s .sums)))
           (both-false (wellFormed (m .least) (m .most) (rdfs ci p n))))
 
       ascends : ascendFrom (keyBefore (m .offset) (m .key) ci seen last) (keysFrom (m .offset) (m .key) ci at (lengths (rdfs ci p n)))
@@ -170,10 +170,10 @@ module _ (m : Measures) (ci : List ℕ) (d : ℕ) (all : List Rdf) where
       pub goes-on : at + l * c ≤ d → ascendFrom (keyBefore (m .offset) (m .key) ci seen last) (keysAt (m .key) ci (at + m .offset) l c) ≡ true
           → Come (m .offset) (m .key) (m .least) (m .most) ci d all (rdfs ci p (n - u)) (at + l * c) (seen + c) (at + l * c - l)
       goes-on h r =
-          let total : at + sum (lengths (rdfs ci p n)) ≡ at + l * c + sum (lengths (rdfs ci p (n - u))) = omega (arith, s .total) in
+          let sums : at + sum (lengths (rdfs ci p n)) ≡ at + l * c + sum (lengths (rdfs ci p (n - u))) = omega (arith, s .sums) in
           let one : c ≤ l * c = omega (arith, mul-le-mul-right c long, one-mul c) in
           record {
-            judges = k .judges ∙ passed r total;
+            judges = k .judges ∙ passed r sums;
             counts = omega (arith, k .counts, s .count);
             lasts = k .lasts ∙ rw (s .list) (last-runs last at l c (lengths (rdfs ci p (n - u))) (omega arith));
             inside = h;

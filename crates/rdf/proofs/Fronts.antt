@@ -58,14 +58,14 @@ module _ (b : List ℕ) (p n least most : ℕ) (some : 0 < n) where
   pub record Step (l c k : ℕ) : Type 0 where
     pub list : lengths (rdfs b p n) ≡ replicate c l ++ lengths (rdfs b p (n - k))
     pub formed : wellFormed least most (rdfs b p n) ≡ wellFormed least most (rdfs b p (n - k))
-    pub total : sum (lengths (rdfs b p n)) ≡ l * c + sum (lengths (rdfs b p (n - k)))
+    pub sums : sum (lengths (rdfs b p n)) ≡ l * c + sum (lengths (rdfs b p (n - k)))
     pub count : length (lengths (rdfs b p n)) ≡ c + length (lengths (rdfs b p (n - k)))
 
   pub steps : (l c k : ℕ) → Run l c k ≡ frontOf least most (rdfs b p n) → k ≤ n → Step l c k
   steps l c k e h =
       let f : FrontLaw least most (Run l c k) (rdfs b p n) = rw (sym e) at there in
       let g = rw (rdfs-drop b p n k h) at f in
-      record { list = g .1; formed = g .0; total = rw (g .1) (sum-run c l _); count = rw (g .1) (length-run c l _) }
+      record { list = g .1; formed = g .0; sums = rw (g .1) (sum-run c l _); count = rw (g .1) (length-run c l _) }
 
 run-len : (n l c u k : ℕ) (b : Bool) → Run l c u ≡ pick b (Run n k 2) Damaged → l ≡ n
 run-len n l c u k true e = cc

@@ -2,6 +2,7 @@
 -- Measure: the bytes left.
 use Prim.Native.Nat.{_≤_, _-_}
 use lib.ListN.{length}
+use native.Mathlib.Omega.{arith}
 use borrow.Author.Needs.{needs}
 use Rattle.edges.proofs.print.bytes.Statement.{statement}
 use Rattle.edges.proofs.print.bytes.Tie as tie
@@ -21,11 +22,11 @@ slice-aggregate-words c = search needs
 words-requires : tie.Need-words-requires Inv-loop μ-loop
 words-requires c κs = search needs
 
-shared-slice-read-wide : tie.Need-shared-slice-read-wide Inv-loop μ-loop
-shared-slice-read-wide c = search needs
+shared-slice-read-print-hex : tie.Need-shared-slice-read-print-hex Inv-loop μ-loop
+shared-slice-read-print-hex c = search needs
 
-wide-requires : tie.Need-wide-requires Inv-loop μ-loop
-wide-requires c κs = search needs
+cast-print-hex : tie.Need-cast-print-hex Inv-loop μ-loop
+cast-print-hex c = omega (arith, c .shared-slice-known2 .given (c .before .before .before .before .loop .i))
 
 print-hex-requires : tie.Need-print-hex-requires Inv-loop μ-loop
 print-hex-requires c κs = search needs
@@ -51,8 +52,8 @@ bytes-spec =
     loop-holds
     slice-aggregate-words
     words-requires
-    shared-slice-read-wide
-    wide-requires
+    shared-slice-read-print-hex
+    cast-print-hex
     print-hex-requires
     add-i
     loop-less

@@ -2,6 +2,7 @@
 -- Measure: the lengths left.
 use Prim.Native.Nat.{_≤_, _-_}
 use lib.ListN.{length}
+use native.Mathlib.Omega.{arith}
 use borrow.Author.Needs.{needs}
 use Rattle.edges_change.proofs.cases.each.Statement.{statement}
 use Rattle.edges_change.proofs.cases.each.Tie as tie
@@ -15,14 +16,14 @@ abbrev μ-loop : tie.MeasureT-loop
 loop-holds : tie.Need-loop-holds Inv-loop μ-loop
 loop-holds c = search needs
 
-mul-wide : tie.Need-mul-wide Inv-loop μ-loop
-mul-wide c = search needs
+mul-case : tie.Need-mul-case Inv-loop μ-loop
+mul-case c = search needs
 
-shared-slice-read-wide : tie.Need-shared-slice-read-wide Inv-loop μ-loop
-shared-slice-read-wide c = search needs
+shared-slice-read-case : tie.Need-shared-slice-read-case Inv-loop μ-loop
+shared-slice-read-case c = search needs
 
-wide-requires : tie.Need-wide-requires Inv-loop μ-loop
-wide-requires c κs = search needs
+cast-case : tie.Need-cast-case Inv-loop μ-loop
+cast-case c = omega (arith, c .shared-slice-known4 .given (c .before .before .loop .i))
 
 case-requires : tie.Need-case-requires Inv-loop μ-loop
 case-requires c κs = search needs
@@ -46,9 +47,9 @@ each-spec =
     Inv-loop
     μ-loop
     loop-holds
-    mul-wide
-    shared-slice-read-wide
-    wide-requires
+    mul-case
+    shared-slice-read-case
+    cast-case
     case-requires
     add-i
     loop-less
