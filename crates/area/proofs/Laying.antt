@@ -9,6 +9,7 @@ use native.Mathlib.Omega.{arith}
 use borrow.Author.Tests.{ltb-true}
 use Rattle.fields.specs.Lists.{every}
 use Rattle.fields.proofs.Choices.{both-split}
+use Rattle.measures.specs.Judgement.{widthFor}
 use Rattle.measures.specs.declared.Measures.{Measures}
 use Rattle.measures.proofs.Fine.{fits-large}
 use Rattle.index.specs.Bounds.{bound}
@@ -45,11 +46,11 @@ module _ (m : Measures) (area : List ℕ) (some : 1 ≤ m .least) (small : m .si
 
   module _ (n : ℕ) (few : n ≤ 256) where
     -- An index interval that is laid out is sound and is read as its meaning.
-    pub index-sound : (ix : Meaning) → IndexInterval m n ix (indexIn m area) → soundIndex 1 (m .key) n [] [] (indexIn m area) ≡ true
-    index-sound ix i = index-never-damaged 1 (m .size) (m .key) n [] [] ix (indexIn m area) (omega arith) few small (i .laid) (i .rules)
+    pub index-sound : (ix : Meaning) → IndexInterval m n ix (indexIn m area) → soundIndex (widthFor n) (m .key) n [] [] (indexIn m area) ≡ true
+    index-sound ix i = index-never-damaged (widthFor n) (m .size) (m .key) n [] [] ix (indexIn m area) (omega arith) few small (i .laid) (i .rules)
 
-    pub index-read : (ix : Meaning) → IndexInterval m n ix (indexIn m area) → readIndex 1 n (indexIn m area) ≡ ix
-    index-read ix i = index-reads 1 (m .size) (m .key) n [] [] ix (indexIn m area) (omega arith) few small (i .laid) (i .rules)
+    pub index-read : (ix : Meaning) → IndexInterval m n ix (indexIn m area) → readIndex (widthFor n) n (indexIn m area) ≡ ix
+    index-read ix i = index-reads (widthFor n) (m .size) (m .key) n [] [] ix (indexIn m area) (omega arith) few small (i .laid) (i .rules)
 
     -- An area whose index interval and data intervals are laid out as c, each by its grammar and in its role, is never called damaged, and is read as c.
     pub area-never-damaged : (c : Content) → AreaLaidOut m n area c → readArea m n area ≡ whole c
@@ -88,13 +89,13 @@ module _ (m : Measures) (n : ℕ) (area : List ℕ) (lent : Lent m n area) where
       )
 
   -- A sound index interval was laid out as what it is read as, and that keeps the rules.
-  pub index-laid : soundIndex 1 (m .key) n [] [] (indexIn m area) ≡ true → IndexInterval m n (readIndex 1 n (indexIn m area)) (indexIn m area)
+  pub index-laid : soundIndex (widthFor n) (m .key) n [] [] (indexIn m area) ≡ true → IndexInterval m n (readIndex (widthFor n) n (indexIn m area)) (indexIn m area)
   index-laid s =
       let l : length (indexIn m area) ≡ m .size = length-index m n area (lent .fits .bytes) in
       let o = octets-index m area (lent .octets) in
       let g : 31 ≤ length (indexIn m area) = omega (arith, fits-large (lent .fits)) in
       record {
-        laid = rw l at (index-only-laid-out 1 (m .key) n [] [] (indexIn m area) o g s);
+        laid = rw l at (index-only-laid-out (widthFor n) (m .key) n [] [] (indexIn m area) o g s);
         rules = rw l at (index-keeps-rules 1 (m .key) n [] [] (indexIn m area) o g s);
       }
 

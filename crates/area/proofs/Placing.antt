@@ -9,6 +9,7 @@ use native.Mathlib.Omega.{arith}
 use borrow.Author.Tests.{ltb-true, lt-ltb, leb-true, leb-false}
 use Rattle.fields.specs.Choice.{pick}
 use Rattle.fields.proofs.Choices.{false-true}
+use Rattle.measures.specs.Judgement.{widthFor}
 use Rattle.measures.specs.declared.Measures.{Measures}
 use Rattle.measures.proofs.Fine.{fits-small}
 use Rattle.index.specs.Meaning.{Meaning}
@@ -38,10 +39,10 @@ told-data false t l k w e = absurd (let z : 0 ≡ k + 1 = cc in omega arith)
 
 module _ (m : Measures) (n : ℕ) (area : List ℕ) where
   abbrev read : Meaning
-  read = readIndex 1 n (indexIn m area)
+  read = readIndex (widthFor n) n (indexIn m area)
 
   abbrev soundRecord : Bool
-  soundRecord = soundIndex 1 (m .key) n [] [] (indexIn m area)
+  soundRecord = soundIndex (widthFor n) (m .key) n [] [] (indexIn m area)
 
   abbrev low : Meaning → ℕ
   low ix = lowest n (unsoundData m [] area ix)

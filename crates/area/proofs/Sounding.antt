@@ -7,6 +7,7 @@ use lib.ListN.{length}
 use native.Mathlib.Omega.{arith}
 use borrow.Author.Tests.{ltb-false, le-ltb}
 use Rattle.fields.specs.Choice.{pick}
+use Rattle.measures.specs.Judgement.{widthFor}
 use Rattle.measures.specs.declared.Measures.{Measures}
 use Rattle.interval.specs.Role.{soundFree, soundUsed}
 use Rattle.index.specs.Bounds.{bound}
@@ -106,14 +107,14 @@ used-other m area area' low (e ∷ es) h a =
 
 -- The area is sound and holds c.
 pub record Sound (m : Measures) (n : ℕ) (area : List ℕ) (c : Content) : Type 0 where
-  pub index : soundIndex 1 (m .key) n [] [] (indexIn m area) ≡ true
-  pub content : c ≡ contentOf m area (readIndex 1 n (indexIn m area))
+  pub index : soundIndex (widthFor n) (m .key) n [] [] (indexIn m area) ≡ true
+  pub content : c ≡ contentOf m area (readIndex (widthFor n) n (indexIn m area))
   pub free : AllFree m area (c .free)
   pub used : AllUsed m area [] (entriesOf (c .filled))
 
 -- What a sound index record's meaning keeps.
-pub index-rules : (m : Measures) (n : ℕ) (ib : List ℕ) → soundIndex 1 (m .key) n [] [] ib ≡ true → Keeps (length ib) (m .key) n [] [] (readIndex 1 n ib)
-index-rules m n ib s = rules-apart (length ib) (m .key) n [] [] (readIndex 1 n ib) (record-apart 1 (m .key) n [] [] ib s .rules)
+pub index-rules : (m : Measures) (n : ℕ) (ib : List ℕ) → soundIndex (widthFor n) (m .key) n [] [] ib ≡ true → Keeps (length ib) (m .key) n [] [] (readIndex (widthFor n) n ib)
+index-rules m n ib s = rules-apart (length ib) (m .key) n [] [] (readIndex (widthFor n) n ib) (record-apart (widthFor n) (m .key) n [] [] ib s .rules)
 
 -- the three ways of a reading
 ways-whole : (s t : Bool) (p : ℕ) (w c : Content) → pick s (pick t (damaged p) (whole w)) (damaged 0) ≡ whole c → (s ≡ true) × (t ≡ false) × (c ≡ w)
@@ -133,8 +134,8 @@ append-none (x ∷ xs) ys e = absurd (cons-ne-nil _ _ e)
 pub sound-apart : (m : Measures) (n : ℕ) (area : List ℕ) (c : Content) → readArea m n area ≡ whole c → Sound m n area c
 unfolding readArea unsoundData
 sound-apart m n area c e =
-    let ix : Meaning = readIndex 1 n (indexIn m area) in
-    let w = ways-whole (soundIndex 1 (m .key) n [] [] (indexIn m area)) _ _ _ c e in
+    let ix : Meaning = readIndex (widthFor n) n (indexIn m area) in
+    let w = ways-whole (soundIndex (widthFor n) (m .key) n [] [] (indexIn m area)) _ _ _ c e in
     let z : unsoundFree m area (ix .free) ++ unsoundUsed m area [] (ix .entries) ≡ [] =
     none-listed n (unsoundData m [] area ix) (λ (k : ℕ). listed-below m n [] area ix k (index-rules m n (indexIn m area) (w .0) .naming)) (ltb-false _ n (w .1)) in
     let s = append-none (unsoundFree m area (ix .free)) (unsoundUsed m area [] (ix .entries)) z in
@@ -149,7 +150,7 @@ sound-apart m n area c e =
 pub sound-together : (m : Measures) (n : ℕ) (area : List ℕ) (c : Content) → Sound m n area c → readArea m n area ≡ whole c
 unfolding readArea unsoundData
 sound-together m n area c s =
-    let ix : Meaning = readIndex 1 n (indexIn m area) in
+    let ix : Meaning = readIndex (widthFor n) n (indexIn m area) in
     let f : AllFree m area (ix .free) = rw (s .content) at (s .free) in
     let u : AllUsed m area [] (ix .entries) = rw (s .content, entries-fill) at (s .used) in
     let z : lowest n (unsoundFree m area (ix .free) ++ unsoundUsed m area [] (ix .entries)) ≡ n =
@@ -159,8 +160,8 @@ sound-together m n area c s =
 -- What follows at once.
 module _ (m : Measures) (n : ℕ) (area : List ℕ) (c : Content) (s : Sound m n area c) where
   -- The index record is read as the meaning of what the area holds.
-  pub sound-reads : readIndex 1 n (indexIn m area) ≡ meaningOf c
-  sound-reads = sym (ap meaningOf (s .content) ∙ meaning-content m area (readIndex 1 n (indexIn m area)))
+  pub sound-reads : readIndex (widthFor n) n (indexIn m area) ≡ meaningOf c
+  sound-reads = sym (ap meaningOf (s .content) ∙ meaning-content m area (readIndex (widthFor n) n (indexIn m area)))
 
   -- That meaning keeps the rules.
   pub sound-rules : Keeps (length (indexIn m area)) (m .key) n [] [] (meaningOf c)

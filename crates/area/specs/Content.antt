@@ -1,7 +1,9 @@
 -- What a control area holds: document 01, 'The area we lend'.
 use Prim.Native.Nat.{ℕ, _+_, _*_}
 use mathlib.Core.List.{List, [], _∷_, _++_, map}
+use lib.ListN.{length}
 use Rattle.fields.specs.Bytes.{part, number}
+use Rattle.measures.specs.Judgement.{widthFor}
 use Rattle.measures.specs.declared.Measures.{Measures}
 use Rattle.interval.specs.Reading.{recordsIn}
 use Rattle.index.specs.Meaning.{Entry, Meaning}
@@ -49,3 +51,7 @@ meaningOf c = record { kept = c .kept; spare = c .spare; free = c .free; entries
 -- the base RBA
 abbrev pub baseOf : Content → ℕ
 baseOf c = number 4 (c .kept) 0
+
+-- the width of a pointer in an area that holds this: by the intervals that are free or in use
+abbrev pub widthIn : Content → ℕ
+widthIn c = widthFor (length (c .free) + length (c .filled))

@@ -3,7 +3,7 @@
 use Prim.Native.Nat.{ℕ}
 use mathlib.Core.List.{List, [], _∷_, _++_}
 use lib.ListN.{replicate}
-use Rattle.measures.specs.Judgement.{measures}
+use Rattle.measures.specs.Judgement.{measures, widthFor}
 use Rattle.measures.specs.declared.Measures.{Measures}
 use Rattle.interval.specs.Layout.{form}
 use Rattle.index.specs.Form.{indexBytes}
@@ -32,8 +32,8 @@ held =
 
 -- the writer's bytes of each interval, one after another
 unfoldable pub bytes : List ℕ
-bytes = indexBytes 1 512 (meaningOf held) ++ (form 512 (first ∷ second ∷ []) ++ form 512 [])
+bytes = indexBytes (widthFor 2) 512 (meaningOf held) ++ (form 512 (first ∷ second ∷ []) ++ form 512 [])
 
 -- the same with the two data intervals exchanged, so that the free one holds the records
 unfoldable pub exchanged : List ℕ
-exchanged = indexBytes 1 512 (meaningOf held) ++ (form 512 [] ++ form 512 (first ∷ second ∷ []))
+exchanged = indexBytes (widthFor 2) 512 (meaningOf held) ++ (form 512 [] ++ form 512 (first ∷ second ∷ []))

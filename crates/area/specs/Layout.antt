@@ -5,7 +5,7 @@ use mathlib.Core.Bool.{true}
 use mathlib.Core.List.{List, [], _∷_}
 use lib.ListN.{length}
 use Rattle.fields.specs.Bytes.{Octets}
-use Rattle.measures.specs.Judgement.{Fits}
+use Rattle.measures.specs.Judgement.{Fits, widthFor}
 use Rattle.measures.specs.declared.Measures.{Measures}
 use Rattle.interval.specs.Records.{keysOf, lengthsFine, ascending, above, upTo}
 use Rattle.interval.specs.Layout.{LaidOut as IntervalLaidOut}
@@ -14,7 +14,6 @@ use Rattle.index.specs.Meaning.{Meaning}
 use Rattle.index.specs.Rules.{keepsRules}
 use Rattle.index.specs.Layout.{LaidOut as IndexLaidOut}
 use Rattle.area.specs.Content.{Filled, Content, indexIn, dataIn, meaningOf}
-use Rattle.area.specs.Reading.{width}
 
 -- an area that is lent: bytes, with measures and a length that refusal 1 lets pass
 pub record Lent (m : Measures) (n : ℕ) (area : List ℕ) : Type 0 where
@@ -23,7 +22,7 @@ pub record Lent (m : Measures) (n : ℕ) (area : List ℕ) : Type 0 where
 
 -- the index interval is laid out with this meaning, which keeps all rules
 pub record IndexInterval (m : Measures) (n : ℕ) (ix : Meaning) (ib : List ℕ) : Type 0 where
-  pub laid : IndexLaidOut width (m .size) ix ib
+  pub laid : IndexLaidOut (widthFor n) (m .size) ix ib
   pub rules : keepsRules (m .size) (m .key) n [] [] ix ≡ true
 
 -- a free interval is laid out with no record

@@ -6,7 +6,7 @@ use mathlib.Core.List.{List, [], _∷_, List·Memᴰ, List·Memᴰ·not-nil, Lis
 use mathlib.Core.Logic.{⊎-elim}
 use lib.ListN.{length}
 use native.Mathlib.Omega.{arith}
-use Rattle.measures.specs.Judgement.{Fits}
+use Rattle.measures.specs.Judgement.{Fits, widthFor}
 use Rattle.measures.specs.declared.Measures.{Measures}
 use Rattle.measures.proofs.Fine.{fits-small, fits-large}
 use Rattle.interval.specs.Reading.{sound, Readable}
@@ -56,5 +56,5 @@ readable m n area o w k h =
       stands = each-sound m n area (w .content) (w .reads) k h;
     }
 
-pub index-readable : (m : Measures) (n : ℕ) (area : List ℕ) → Whole m n area → soundIndex 1 (m .key) n [] [] (indexIn m area) ≡ true
+pub index-readable : (m : Measures) (n : ℕ) (area : List ℕ) → Whole m n area → soundIndex (widthFor n) (m .key) n [] [] (indexIn m area) ≡ true
 index-readable m n area w = sound-apart m n area (w .content) (w .reads) .index

@@ -7,6 +7,7 @@ use lib.ListN.{length, getD}
 use lib.Dec.{ltb, leb}
 use Rattle.fields.specs.Choice.{pick}
 use Rattle.fields.specs.Bytes.{number}
+use Rattle.measures.specs.Judgement.{widthFor}
 use Rattle.measures.specs.declared.Measures.{Measures}
 use Rattle.interval.specs.Reading.{recordsIn, displacement}
 use Rattle.interval.specs.Search.{placeOf, Within, startingAt, startedOf}
@@ -28,9 +29,9 @@ pub record Whole (m : Measures) (n : ℕ) (area : List ℕ) : Type 0 where
 
 -- the entry that a key leads to, the number it names, and the key's place in that interval
 pub record Sought (m : Measures) (n : ℕ) (area key : List ℕ) (r : Spot) : Type 0 where
-  pub entry : r .entry ≡ leadsTo key (readIndex 1 n (indexIn m area) .entries)
-  pub number : r .number ≡ getD (numbers (readIndex 1 n (indexIn m area) .entries)) (leadsTo key (readIndex 1 n (indexIn m area) .entries)) 0
-  pub inside : r .entry < length (readIndex 1 n (indexIn m area) .entries)
+  pub entry : r .entry ≡ leadsTo key (readIndex (widthFor n) n (indexIn m area) .entries)
+  pub number : r .number ≡ getD (numbers (readIndex (widthFor n) n (indexIn m area) .entries)) (leadsTo key (readIndex (widthFor n) n (indexIn m area) .entries)) 0
+  pub inside : r .entry < length (readIndex (widthFor n) n (indexIn m area) .entries)
   pub within : r .number < n
   pub found : r .found ≡ placeOf m key (recordsIn (dataIn m area (r .number)))
   pub place : Within (length (recordsIn (dataIn m area (r .number)))) (displacement (dataIn m area (r .number))) (r .found)

@@ -1,19 +1,21 @@
 -- The walk over the entries: what is judged and counted at each.
-use Prim.Native.Nat.{ℕ, suc, _+_, _-_, _*_, _≤_, min}
+use Prim.Native.Nat.{ℕ, suc, _+_, _-_, _*_, _≤_, _<_, min}
 use mathlib.Core.Path.{_≡_, refl, _∙_, sym}
 use mathlib.Core.Bool.{Bool, true, false}
-use mathlib.Core.List.{List, [], _∷_, _++_, map}
-use lib.ListN.{length, take, drop, length-append, drop-of-length-le}
-use lib.Seq.{take-at, length-take-le}
+use mathlib.Core.List.{List, [], _∷_, map}
+use lib.ListN.{length, take, drop, replicate, length-append, length-replicate, drop-of-length-le}
+use lib.Seq.{take-length, take-take}
 use lib.Dec.{eqb}
 use native.Mathlib.Omega.{arith}
 use native.Mathlib.Numerals.{add-one}
 use borrow.Author.Tests.{ne-eqb}
 use Rattle.fields.specs.Choice.{pick, both}
-use Rattle.fields.specs.Bytes.{part}
+use Rattle.fields.specs.Bytes.{part, number, splice}
 use Rattle.fields.proofs.Choices.{both-split, false-true}
-use Rattle.fields.proofs.Splices.{length-mid}
+use Rattle.measures.specs.Judgement.{Fits, widthFor}
 use Rattle.measures.specs.declared.Measures.{Measures}
+use Rattle.measures.proofs.Fine.{fits-small, fits-large}
+use Rattle.measures.proofs.Width.{width-most}
 use Rattle.interval.specs.Records.{keysOf, above, upTo}
 use Rattle.interval.specs.Reading.{recordsIn, sound}
 use Rattle.interval.specs.Role.{soundUsed}
@@ -23,27 +25,25 @@ use Rattle.interval_read.specs.AidOpened.{openedOf}
 use Rattle.interval_read.specs.declared.Opened.{Opened}
 use Rattle.interval_read.specs.declared.Opened.the-variants as opened
 use Rattle.index.specs.Bounds.{bound}
-use Rattle.index.specs.Meaning.{Entry}
+use Rattle.index.specs.Meaning.{Entry, entry}
 use Rattle.index.specs.Rules.{boundBefore}
-use Rattle.index.specs.Reading.{readIndex}
-use Rattle.index.proofs.Bounds.{length-bound}
-use Rattle.index_read.proofs.Stepping.{Standing, Stepped, Holding, holding-step}
-use Rattle.index_read.proofs.Entry.{held-front}
+use Rattle.index.specs.Pieces.{spelt}
+use Rattle.index.specs.Reading.{lengthAt, pieceAt, readIndex, soundIndex}
+use Rattle.index_step.specs.declared.Step.{Step}
+use Rattle.index_step.specs.AidStep.{frontAt, charsAt, stepAt, joinedOf, Lies}
+use Rattle.index_step.proofs.Stepping.{Standing, Stepped, standing-start, standing-step, extended-front, extended-length}
 use Rattle.area.specs.Content.{dataIn, fill, recordsOf}
 use Rattle.area.specs.Soundness.{unsoundUsed, lowest}
-use Rattle.area_read.specs.AidEntries.{Closed, Counted}
+use Rattle.area.proofs.Places.{length-lent}
+use Rattle.area_read.specs.AidEntries.{Closed, Counted, EntryLies, lowIn, highIn}
 use Rattle.area_read.specs.declared.Seen.{Seen}
 use Rattle.area_read.proofs.Lows.{lowest-met}
 
 -- ---- one interval
 
--- after `renew` the first K bytes are the new bound
-pub new-bound : (K : ℕ) (buf ib new : List ℕ) (f l at : ℕ) → f + l ≤ K → K ≤ length buf → at + l ≤ length ib
-    → new ≡ bound K (take f buf ++ part ib at l) ++ drop K buf → take K new ≡ bound K (take f buf ++ part ib at l)
-new-bound K buf ib new f l at h k i e =
-    let c : length (part ib at l) ≡ l = length-mid ib at l i in
-    let s : length (take f buf ++ part ib at l) ≤ K = simp (length-append, length-take-le f buf (omega arith)) (omega arith) in
-    rw e (take-at (bound K (take f buf ++ part ib at l)) (drop K buf) K (length-bound K (take f buf ++ part ib at l) s))
+-- after `extend` the buffer begins with the separator that was put together
+pub joined : (buf ib new : List ℕ) (f l at : ℕ) → f + l ≤ length buf → at + l ≤ length ib → new ≡ splice buf f (part ib at l) → take (f + l) new ≡ joinedOf f buf ib at l
+joined buf ib new f l at h i e = extended-front ib buf new buf (length buf) f l at (take-length buf) (omega arith) h i e
 
 module _ (m : Measures) (ci low high : List ℕ) (small : length ci ≤ 32768) (sized : 4 ≤ length ci) (some : 1 ≤ m .key) (inside : m .offset + m .key ≤ m .least) where
   by-bound : (b : Bool) (o : Opened) → both (sound m ci) (above low (keysOf m (recordsIn ci))) ≡ b
@@ -91,25 +91,42 @@ pick-none : (b : Bool) (k : ℕ) (ks : List ℕ) → pick b ks (k ∷ ks) ≡ []
 pick-none true k ks e = (refl, e)
 pick-none false k ks e = absurd (let z : _≡_ {A = ℕ} 0 1 = cc in omega arith)
 
--- how far it has come
+-- How far it has come: it stands before entry i, and buf begins with the separator before. The lowest of `worst` and the unsound numbers of all entries
+-- is the lowest of `low` and those of the entries from i on. Where all intervals in use are sound, `records` and the records of the entries from i on
+-- make up all of them. At most 32768 records were counted for each entry passed.
 pub record Going (m : Measures) (n : ℕ) (area ib : List ℕ) (worst : ℕ) (buf : List ℕ) (right before i low records : ℕ) : Type 0 where
   pub ref : List ℕ
-  pub standing : Standing 1 (m .key) n ib i right before ref
-  pub holding : Holding (m .key) ref buf
-  pub lowers : lowest worst (unsoundUsed m area [] (readIndex 1 n ib .entries))
-      ≡ lowest low (unsoundUsed m area (boundBefore (m .key) [] (take i (readIndex 1 n ib .entries))) (drop i (readIndex 1 n ib .entries)))
-  pub clean : unsoundUsed m area [] (readIndex 1 n ib .entries) ≡ [] → unsoundUsed m area (boundBefore (m .key) [] (take i (readIndex 1 n ib .entries))) (drop i (readIndex 1 n ib .entries)) ≡ []
-  pub counts : unsoundUsed m area [] (readIndex 1 n ib .entries) ≡ []
-      → length (recordsOf (fill m area (readIndex 1 n ib .entries))) ≡ records + length (recordsOf (fill m area (drop i (readIndex 1 n ib .entries))))
+  pub standing : Standing (widthFor n) (m .key) n ib i right before ref
+  pub whole : length buf ≡ 255
+  pub front : take before buf ≡ ref
+  pub lowers : lowest worst (unsoundUsed m area [] (readIndex (widthFor n) n ib .entries))
+      ≡ lowest low (unsoundUsed m area (boundBefore (m .key) [] (take i (readIndex (widthFor n) n ib .entries))) (drop i (readIndex (widthFor n) n ib .entries)))
+  pub clean : unsoundUsed m area [] (readIndex (widthFor n) n ib .entries) ≡ []
+      → unsoundUsed m area (boundBefore (m .key) [] (take i (readIndex (widthFor n) n ib .entries))) (drop i (readIndex (widthFor n) n ib .entries)) ≡ []
+  pub counts : unsoundUsed m area [] (readIndex (widthFor n) n ib .entries) ≡ []
+      → length (recordsOf (fill m area (readIndex (widthFor n) n ib .entries))) ≡ records + length (recordsOf (fill m area (drop i (readIndex (widthFor n) n ib .entries))))
   pub few : records ≤ 32768 * i
 
 module _ (m : Measures) (n : ℕ) (area ib : List ℕ) (worst : ℕ) where
-  abbrev es : List Entry
-  es = readIndex 1 n ib .entries
+  abbrev w : ℕ
+  w = widthFor n
 
-  pub setting-out : (buf : List ℕ) → Standing 1 (m .key) n ib 0 (length ib - 7) 0 [] → Holding (m .key) [] buf → Going m n area ib worst buf (length ib - 7) 0 0 worst 0
+  abbrev es : List Entry
+  es = readIndex (widthFor n) n ib .entries
+
+  pub setting-out : m .key ≤ 255 → soundIndex (widthFor n) (m .key) n [] [] ib ≡ true → Going m n area ib worst (replicate 255 0) (length ib - 7) 0 0 worst 0
   unfolding boundBefore
-  setting-out buf s h = record { ref = []; standing = s; holding = h; lowers = refl; clean = λ z. z; counts = λ z. omega arith; few = omega arith }
+  setting-out k h =
+      record {
+        ref = [];
+        standing = standing-start w (m .key) n ib k h;
+        whole = length-replicate {A = ℕ} 255 0;
+        front = refl;
+        lowers = refl;
+        clean = λ z. z;
+        counts = λ z. omega arith;
+        few = omega arith;
+      }
 
   -- all entries seen
   pub arrived : (buf : List ℕ) (right before i low records : ℕ) → Going m n area ib worst buf right before i low records → length es ≤ i
@@ -119,48 +136,90 @@ module _ (m : Measures) (n : ℕ) (area ib : List ℕ) (worst : ℕ) where
       (sym (g .lowers ∙ rw (drop-of-length-le es)), λ (z : unsoundUsed m area [] es ≡ []). sym (g .counts z ∙ rw (drop-of-length-le es) (omega arith)))
 
   -- one entry more
-  module _ (buf : List ℕ) (right before i low records : ℕ) (g : Going m n area ib worst buf right before i low records) (f l at num : ℕ)
-      (s : Stepped 1 (m .key) n ib i right before (g .ref) f l at num) where
+  module _ (buf : List ℕ) (right before i low records : ℕ) (g : Going m n area ib worst buf right before i low records) (more : i < length es) where
+    step : Stepped w (m .key) n ib i right before (g .ref)
+    step = standing-step w (m .key) n ib i right before (g .ref) (g .standing) more
+
+    abbrev F : ℕ
+    F = frontAt (widthFor n) ib right
+
+    abbrev L : ℕ
+    L = lengthAt (widthFor n) ib right
+
+    abbrev num : ℕ
+    num = number (widthFor n) ib (right - widthFor n)
+
     abbrev sep : List ℕ
-    sep = take f (g .ref) ++ part ib at l
+    sep = spelt (g .ref) (pieceAt (widthFor n) ib right)
 
-    -- the buffer's front is the separator's
-    pub front-held : take f buf ≡ take f (g .ref)
-    front-held = held-front (m .key) buf (g .ref) f (g .holding .held) (omega (arith, g .standing .long, g .standing .short)) (omega (arith, g .standing .long, s .good .front))
+    -- for the call that takes it apart
+    pub entry-lies : Lies (widthFor n) ib right
+    entry-lies = (width-most n, g .standing .lie .inside, step .room)
 
-    pub low-held : pick (eqb i 0) [] (take (m .key) buf) ≡ boundBefore (m .key) [] (take i es)
-    low-held = rw (g .holding .held) (sym (g .standing .low))
+    -- what is in the buffer, in the definition's words
+    low-held : lowIn m (eqb i 0) before buf ≡ boundBefore (m .key) [] (take i es)
+    low-held = rw (g .front) (sym (g .standing .low))
 
-    pub onward : (new : List ℕ) (ok : Bool) (count : ℕ)
-        → ok ≡ soundUsed m (boundBefore (m .key) [] (take i es)) (bound (m .key) sep) (dataIn m area num)
-        → (ok ≡ true → count ≡ length (recordsIn (dataIn m area num))) → count ≤ 32768
-        → new ≡ bound (m .key) (take f buf ++ part ib at l) ++ drop (m .key) buf
-        → Going m n area ib worst new at (f + l) (i + 1) (pick ok low (min num low)) (records + count) × (length new ≡ length buf)
-    onward new ok count e k c r =
-        let h = holding-step (m .key) (g .ref) buf ib new f l at (g .holding) (omega (arith, g .standing .long, g .standing .short)) (omega (arith, g .standing .long, s .good .front))
-        (s .good .fits) (s .inside) r in (
-          record {
+    front-held : take F buf ≡ take F (g .ref)
+    front-held = sym (take-take F before buf (step .front)) ∙ rw (g .front)
+
+    high-held : highIn m buf ib (stepAt (widthFor n) ib right) ≡ bound (m .key) sep
+    high-held = rw front-held
+
+    module _ (s : Step) (e : s ≡ stepAt (widthFor n) ib right) where
+      -- for the other calls
+      pub within : s .number < n
+      within = rw e (step .within)
+
+      pub fits : s .front + s .len ≤ m .key
+      fits = rw e (step .fits)
+
+      inside : s .at + s .len ≤ length ib
+      inside = rw e (step .inside)
+
+      pub entry-fits : Fits m n (length area)
+          → EntryLies m (take ((s .number + 1) * m .size + m .size - (s .number + 1) * m .size) (drop ((s .number + 1) * m .size) area)) buf before ib s
+      entry-fits f =
+          let z = length-lent m n area f (s .number) within in
+          (omega (arith, z, fits-large f), omega (arith, z, fits-small f), f .key-some, f .key-inside, g .standing .short, omega (arith, f .key-most, g .whole), fits, inside)
+
+      pub onward : (new : List ℕ) (ok : Bool) (count : ℕ) → m .key ≤ 255 → ok ≡ soundUsed m (lowIn m (eqb i 0) before buf) (highIn m buf ib s) (dataIn m area (s .number))
+          → (ok ≡ true → count ≡ length (recordsIn (dataIn m area (s .number)))) → count ≤ 32768 → new ≡ splice buf (s .front) (part ib (s .at) (s .len))
+          → Going m n area ib worst new (s .at) (s .front + s .len) (i + 1) (pick ok low (min (s .number) low)) (records + count)
+      onward new ok count key j k c is =
+          rw (e, add-one i)
+          (record {
             ref = sep;
-            standing = rw (add-one i) (s .next);
-            holding = h .0;
-            lowers = g .lowers ∙ rw (split, add-one i) (lowest-pick ok low num (unsoundUsed m area (bound (m .key) sep) (drop (suc i) es)) ∙ rw bounds);
-            clean = λ (z : unsoundUsed m area [] es ≡ []). rw (add-one i, bounds) (none z .1);
-            counts = λ (z : unsoundUsed m area [] es ≡ []). g .counts z ∙ rw (s .entry, add-one i)
-                (omega (arith, records-cons m area (record { sep = sep; num = num }) (drop (suc i) es), k (none z .0)));
+            standing = step .next;
+            whole = extended-length ib buf new (g .ref) before F L (charsAt w ib right) (g .front) (step .front) room (step .inside) is' ∙ g .whole;
+            front = extended-front ib buf new (g .ref) before F L (charsAt w ib right) (g .front) (step .front) room (step .inside) is';
+            lowers = g .lowers ∙ rw split (lowest-pick ok low num (unsoundUsed m area (bound (m .key) sep) (drop (suc i) es)) ∙ rw bounds);
+            clean = λ (z : unsoundUsed m area [] es ≡ []). rw bounds (none z .1);
+            counts = λ (z : unsoundUsed m area [] es ≡ []). g .counts z ∙ rw (step .here) (omega (arith, records-cons m area (entry sep num) (drop (suc i) es), k' (none z .0)));
             few = omega (arith, g .few, one-more);
-          },
-          h .1,
-        )
-      where
-        split : unsoundUsed m area (boundBefore (m .key) [] (take i es)) (drop i es)
-            ≡ pick ok (unsoundUsed m area (bound (m .key) sep) (drop (suc i) es)) (num ∷ unsoundUsed m area (bound (m .key) sep) (drop (suc i) es))
-        split = rw (s .entry, e) (used-cons m area (boundBefore (m .key) [] (take i es)) (record { sep = sep; num = num }) (drop (suc i) es))
+          })
+        where
+          room : F + L ≤ length buf
+          room = omega (arith, step .fits, g .whole, key)
 
-        bounds : boundBefore (m .key) [] (take (suc i) es) ≡ bound (m .key) sep
-        bounds = s .next .low ∙ rw (ne-eqb (suc i) 0 (omega arith))
+          is' : new ≡ splice buf F (part ib (charsAt w ib right) L)
+          is' = rw e at is
 
-        none : unsoundUsed m area [] es ≡ [] → (ok ≡ true) × (unsoundUsed m area (bound (m .key) sep) (drop (suc i) es) ≡ [])
-        none z = pick-none ok num (unsoundUsed m area (bound (m .key) sep) (drop (suc i) es)) (sym split ∙ g .clean z)
+          j' : ok ≡ soundUsed m (boundBefore (m .key) [] (take i es)) (bound (m .key) sep) (dataIn m area num)
+          j' = (rw e at j) ∙ rw (low-held, high-held)
 
-        one-more : 32768 * (i + 1) ≡ 32768 * i + 32768
-        one-more = omega arith
+          k' : ok ≡ true → count ≡ length (recordsIn (dataIn m area num))
+          k' = rw e at k
+
+          split : unsoundUsed m area (boundBefore (m .key) [] (take i es)) (drop i es)
+              ≡ pick ok (unsoundUsed m area (bound (m .key) sep) (drop (suc i) es)) (num ∷ unsoundUsed m area (bound (m .key) sep) (drop (suc i) es))
+          split = rw (step .here, j') (used-cons m area (boundBefore (m .key) [] (take i es)) (entry sep num) (drop (suc i) es))
+
+          bounds : boundBefore (m .key) [] (take (suc i) es) ≡ bound (m .key) sep
+          bounds = step .next .low ∙ rw (ne-eqb (suc i) 0 (omega arith))
+
+          none : unsoundUsed m area [] es ≡ [] → (ok ≡ true) × (unsoundUsed m area (bound (m .key) sep) (drop (suc i) es) ≡ [])
+          none z = pick-none ok num (unsoundUsed m area (bound (m .key) sep) (drop (suc i) es)) (sym split ∙ g .clean z)
+
+          one-more : 32768 * suc i ≡ 32768 * i + 32768
+          one-more = omega arith

@@ -1,8 +1,9 @@
 -- The lowest unsound number, met one after another.
-use Prim.Native.Nat.{ℕ, zero, suc, _+_, _-_, _≤_, _<_, min}
+use Prim.Native.Nat.{ℕ, zero, suc, _+_, _-_, _*_, _≤_, _<_, min}
 use mathlib.Core.Path.{_≡_, refl, _∙_, sym, ap}
 use mathlib.Core.Bool.{Bool, true, false}
 use mathlib.Core.List.{List, [], _∷_, _++_}
+use lib.ListN.{length}
 use lib.Dec.{ltb}
 use native.Mathlib.Omega.{arith}
 use borrow.Author.Tests.{ltb-true}
@@ -10,6 +11,7 @@ use Rattle.fields.specs.Choice.{pick}
 use Rattle.fields.specs.Bytes.{number}
 use Rattle.fields.specs.Lists.{every}
 use Rattle.fields.proofs.Choices.{both-split}
+use Rattle.fields.proofs.Numbers.{one-less}
 use Rattle.measures.specs.declared.Measures.{Measures}
 use Rattle.interval.specs.Role.{soundFree}
 use Rattle.index.specs.Meaning.{below}
@@ -50,27 +52,49 @@ free-cons m area worst k ks = go (soundFree m (dataIn m area k))
     go true = refl
     go false = lowest-met worst k (unsoundFree m area ks)
 
-pub numbers-more : (ib : List ℕ) (at left : ℕ) → 0 < left → numbersAt 1 ib at left ≡ number 1 ib at ∷ numbersAt 1 ib (at + 1) (left - 1)
+-- ---- the free numbers, of w bytes each
+
+numbers-more : (w : ℕ) (ib : List ℕ) (at left : ℕ) → 0 < left → numbersAt w ib at left ≡ number w ib at ∷ numbersAt w ib (at + w) (left - 1)
 unfolding numbersAt
-numbers-more ib at zero h = absurd (omega arith)
-numbers-more ib at (suc left) h = let e : suc left - 1 ≡ left = omega arith in rw e
+numbers-more w ib at zero h = absurd (omega arith)
+numbers-more w ib at (suc left) h = let e : suc left - 1 ≡ left = omega arith in rw e
 
-pub numbers-none : (ib : List ℕ) (at : ℕ) → numbersAt 1 ib at 0 ≡ []
-unfolding numbersAt
-numbers-none ib at = refl
+-- How far the look at the free intervals has come: the numbers left lie from place `at` on, within the record, and each is below n. The lowest of n and
+-- the unsound ones of all the free numbers is the lowest of `worst` and the unsound ones of those left.
+pub record Looking (m : Measures) (n : ℕ) (area ib : List ℕ) (w free worst at left : ℕ) : Type 0 where
+  pub lie : at + w * left ≤ length ib
+  pub small : below n (numbersAt w ib at left) ≡ true
+  pub same : lowest n (unsoundFree m area (numbersAt w ib 24 free)) ≡ lowest worst (unsoundFree m area (numbersAt w ib at left))
 
-pub free-more : (m : Measures) (area ib : List ℕ) (worst at left : ℕ) → 0 < left
-    → lowest worst (unsoundFree m area (numbersAt 1 ib at left))
-    ≡ lowest (pick (soundFree m (dataIn m area (number 1 ib at))) worst (min (number 1 ib at) worst)) (unsoundFree m area (numbersAt 1 ib (at + 1) (left - 1)))
-free-more m area ib worst at left h = rw (numbers-more ib at left h) (free-cons m area worst (number 1 ib at) (numbersAt 1 ib (at + 1) (left - 1)))
+module _ (m : Measures) (n : ℕ) (area ib : List ℕ) (w free : ℕ) where
+  pub look-start : 24 + w * free ≤ length ib → below n (numbersAt w ib 24 free) ≡ true → Looking m n area ib w free n 24 free
+  look-start l b = record { lie = l; small = b; same = refl }
 
-pub free-none : (m : Measures) (area ib : List ℕ) (worst at : ℕ) → lowest worst (unsoundFree m area (numbersAt 1 ib at 0)) ≡ worst
-free-none m area ib worst at = rw (numbers-none ib at) (unfold lowest unsoundFree in refl)
+  -- all were looked at
+  pub looked : (worst at left : ℕ) → Looking m n area ib w free worst at left → left ≡ 0 → worst ≡ lowest n (unsoundFree m area (numbersAt w ib 24 free))
+  unfolding numbersAt lowest unsoundFree
+  looked worst at left s e = sym (s .same ∙ rw e)
 
--- the numbers that are left are below n
-pub below-first : (n : ℕ) (ib : List ℕ) (at left : ℕ) → 0 < left → below n (numbersAt 1 ib at left) ≡ true
-    → (number 1 ib at < n) × (below n (numbersAt 1 ib (at + 1) (left - 1)) ≡ true)
-unfolding every
-below-first n ib at left h b =
-    let s = both-split (ltb (number 1 ib at) n) (below n (numbersAt 1 ib (at + 1) (left - 1))) (rw (numbers-more ib at left h) at b) in
-    (ltb-true (number 1 ib at) n (s .0), s .1)
+  -- one number more
+  module _ (worst at left : ℕ) (s : Looking m n area ib w free worst at left) (more : 0 < left) where
+    pub look-room : at + w ≤ length ib
+    look-room = omega (arith, s .lie, one-less w left more)
+
+    apart : (ltb (number w ib at) n ≡ true) × (below n (numbersAt w ib (at + w) (left - 1)) ≡ true)
+    unfolding every
+    apart = both-split (ltb (number w ib at) n) (below n (numbersAt w ib (at + w) (left - 1))) (rw (numbers-more w ib at left more) at (s .small))
+
+    -- it is one of the area's
+    pub look-here : number w ib at < n
+    look-here = ltb-true (number w ib at) n (apart .0)
+
+    -- the number k was read, its interval judged; the next number stands v places on
+    pub look-on : (v k low : ℕ) (ok : Bool) → v ≡ w → k ≡ number w ib at → ok ≡ soundFree m (dataIn m area k) → low ≡ pick ok worst (min k worst)
+        → Looking m n area ib w free low (at + v) (left - 1)
+    look-on v k low ok e r j l =
+        rw (e, l, j, r)
+        (record {
+          lie = omega (arith, s .lie, one-less w left more);
+          small = apart .1;
+          same = s .same ∙ rw (numbers-more w ib at left more) (free-cons m area worst (number w ib at) (numbersAt w ib (at + w) (left - 1)));
+        })

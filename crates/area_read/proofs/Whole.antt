@@ -1,5 +1,5 @@
 -- The check's ways out, against the reading of the whole area.
-use Prim.Native.Nat.{ℕ, _+_, _≤_, _<_}
+use Prim.Native.Nat.{ℕ, _+_, _*_, _≤_, _<_}
 use mathlib.Core.Path.{_≡_, refl, _∙_, sym}
 use mathlib.Core.Bool.{Bool, true, false}
 use mathlib.Core.List.{List, [], _∷_}
@@ -10,6 +10,7 @@ use borrow.Author.Tests.{lt-ltb, le-ltb}
 use Rattle.fields.specs.Choice.{pick}
 use Rattle.fields.specs.Lists.{every}
 use Rattle.fields.proofs.Choices.{both-split}
+use Rattle.measures.specs.Judgement.{widthFor}
 use Rattle.measures.specs.declared.Measures.{Measures}
 use Rattle.interval.specs.Role.{soundUsed}
 use Rattle.index.specs.Meaning.{Entry, Meaning, numbers, below}
@@ -27,23 +28,23 @@ use Rattle.area_read.specs.AidEntries.{Counted}
 use Rattle.area_read.proofs.Lows.{lowest-append, none-low}
 
 -- the numbers of a sound record are below n
-module _ (K n : ℕ) (ib : List ℕ) (h : soundIndex 1 K n [] [] ib ≡ true) where
-  numbers-below : (below n (readIndex 1 n ib .free) ≡ true) × (below n (numbers (readIndex 1 n ib .entries)) ≡ true)
-  numbers-below = sound-below 1 K n [] [] ib h
+module _ (w K n : ℕ) (ib : List ℕ) (h : soundIndex w K n [] [] ib ≡ true) where
+  numbers-below : (below n (readIndex w n ib .free) ≡ true) × (below n (numbers (readIndex w n ib .entries)) ≡ true)
+  numbers-below = sound-below w K n [] [] ib h
 
   -- the free ones, as they are read and as the walk asks them
   pub record Frees (free : ℕ) : Type 0 where
-    pub lie : 24 + free ≤ length ib
-    pub small : below n (numbersAt 1 ib 24 free) ≡ true
-    pub are : numbersAt 1 ib 24 free ≡ readIndex 1 n ib .free
+    pub lie : 24 + w * free ≤ length ib
+    pub small : below n (numbersAt w ib 24 free) ≡ true
+    pub are : numbersAt w ib 24 free ≡ readIndex w n ib .free
 
-  pub frees : (free : ℕ) → free ≡ length (readIndex 1 n ib .free) → Frees free
+  pub frees : (free : ℕ) → free ≡ length (readIndex w n ib .free) → Frees free
   frees free e =
-      let q : free ≡ freeCount 1 ib = e ∙ free-many 1 n ib in
+      let q : free ≡ freeCount w ib = e ∙ free-many w n ib in
       record {
-        lie = omega (arith, free-lie 1 K n [] [] ib h);
-        small = rw (q, ← free-are 1 n ib) (numbers-below .0);
-        are = rw q (sym (free-are 1 n ib));
+        lie = rw q (free-lie w K n [] [] ib h);
+        small = rw (q, ← free-are w n ib) (numbers-below .0);
+        are = rw q (sym (free-are w n ib));
       }
 
 unsound-below : (m : Measures) (area low : List ℕ) (n : ℕ) (es : List Entry) → below n (numbers es) ≡ true → below n (unsoundUsed m area low es) ≡ true
@@ -60,14 +61,14 @@ unsound-below m area low n (e ∷ es) h =
 
 module _ (m : Measures) (n : ℕ) (area : List ℕ) where
   abbrev ix : Meaning
-  ix = readIndex 1 n (indexIn m area)
+  ix = readIndex (widthFor n) n (indexIn m area)
 
   -- the index record is unsound
-  pub index-damaged : soundIndex 1 (m .key) n [] [] (indexIn m area) ≡ false → Damaged 0 ≡ checkedOf (readArea m n area)
+  pub index-damaged : soundIndex (widthFor n) (m .key) n [] [] (indexIn m area) ≡ false → Damaged 0 ≡ checkedOf (readArea m n area)
   unfolding readArea
   index-damaged e = rw e
 
-  module _ (h : soundIndex 1 (m .key) n [] [] (indexIn m area) ≡ true) (low records : ℕ)
+  module _ (h : soundIndex (widthFor n) (m .key) n [] [] (indexIn m area) ≡ true) (low records : ℕ)
       (is : low ≡ lowest (lowest n (unsoundFree m area (ix .free))) (unsoundUsed m area [] (ix .entries))) where
     low-is : lowest n (unsoundData m [] area ix) ≡ low
     unfolding unsoundData
@@ -82,6 +83,6 @@ module _ (m : Measures) (n : ℕ) (area : List ℕ) where
     pub intact : n ≤ low → Counted m area [] (ix .entries) records → (free : ℕ) → free ≡ length (ix .free) → Intact records free ≡ checkedOf (readArea m n area)
     unfolding readArea
     intact l c free f =
-        let b : below n (unsoundUsed m area [] (ix .entries)) ≡ true = unsound-below m area [] n (ix .entries) (numbers-below (m .key) n (indexIn m area) h .1) in
+        let b : below n (unsoundUsed m area [] (ix .entries)) ≡ true = unsound-below m area [] n (ix .entries) (numbers-below (widthFor n) (m .key) n (indexIn m area) h .1) in
         let z : unsoundUsed m area [] (ix .entries) ≡ [] = none-low n (lowest n (unsoundFree m area (ix .free))) (unsoundUsed m area [] (ix .entries)) b (omega arith) in
         rw (h, low-is, le-ltb low n l, c z, f)

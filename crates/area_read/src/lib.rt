@@ -2,10 +2,12 @@
 ghost use Prim.Native.Nat.{_+_, _-_, _*_, _≤_, _<_, min};
 ghost use mathlib.Core.Path.{_≡_};
 ghost use mathlib.Core.Bool.{true, false};
-ghost use mathlib.Core.List.{[], _++_};
-ghost use lib.ListN.{length, drop};
+ghost use mathlib.Core.List.{[]};
+ghost use lib.ListN.{length};
 ghost use Rattle.fields.specs.Choice.{pick};
-ghost use Rattle.measures.specs.Judgement.{Fits};
+ghost use Rattle.fields.specs.Bytes.{part, splice};
+ghost use Rattle.measures.specs.Judgement.{Fits, widthFor};
+ghost use Rattle.interval.specs.Bounds.{bound};
 ghost use Rattle.interval.specs.Reading.{recordsIn};
 ghost use Rattle.interval.specs.Role.{soundUsed};
 ghost use Rattle.interval_read.specs.AidOpened.{Inside};
@@ -17,7 +19,7 @@ ghost use Rattle.area.specs.Checked.{checkedOf};
 ghost use Rattle.area_read.specs.AidEntries.{Closed, Counted, EntryLies, EntriesSound, lowIn, highIn};
 use area::Checked;
 use index_read::Index;
-use index_read::Parsed;
+use index_step::Step;
 use interval_read::Opened;
 use measures::Measures;
 
@@ -45,18 +47,19 @@ pub(crate) fn noted(worst: usize, number: usize, ok: bool) -> usize
 
 // The lowest of the free intervals that are not empty and sound, or n.
 pub(crate) fn free_worst(area: &[u8], ib: &[u8], m: Measures, n: usize, free: usize) -> usize
-    requires { ⌜ Fits m n (length (now area)) × (24 + free ≤ length (now ib)) × (below n (numbersAt 1 (now ib) 24 free) ≡ true) ⌝ }
-    ensures { λ r. ⌜ r ≡ lowest n (unsoundFree m (now (area .entry)) (numbersAt 1 (now (ib .entry)) 24 free)) ⌝ }
+    requires { ⌜ Fits m n (length (now area)) × (24 + widthFor n * free ≤ length (now ib)) × (below n (numbersAt (widthFor n) (now ib) 24 free) ≡ true) ⌝ }
+    ensures { λ r. ⌜ r ≡ lowest n (unsoundFree m (now (area .entry)) (numbersAt (widthFor n) (now (ib .entry)) 24 free)) ⌝ }
 {
+    let w = measures::width_for(n);
     let mut worst = n;
     let mut at = 24;
     let mut left = free;
     while 0 < left {
-        let k = fields::read_pointer(ib, at, index_read::WIDTH);
+        let k = fields::read_pointer(ib, at, w);
         let a = (k + 1) * m.size;
         let e = a + m.size;
         worst = noted(worst, k, interval_read::free_sound(&area[a..e], m));
-        at += 1;
+        at += w;
         left -= 1;
     }
     worst
@@ -64,8 +67,8 @@ pub(crate) fn free_worst(area: &[u8], ib: &[u8], m: Measures, n: usize, free: us
 
 // The second half of an entry's judgement: its own bound.
 pub(crate) fn closed(ci: &[u8], m: Measures, opened: Opened, high: &[u8]) -> Seen
-    requires { ⌜ (length (now ci) ≤ 32768) × (1 ≤ m .key) × (m .offset + m .key ≤ m .least) × Inside m (now ci) opened ⌝ }
-    ensures { λ r. ⌜ Closed m (now (ci .entry)) (now (high .entry)) opened r ⌝ }
+    requires { ⌜ (length (now ci) ≤ 32768) × (1 ≤ m .key) × (m .offset + m .key ≤ m .least) × Inside m (now ci) opened × (length (now high) ≤ m .key) ⌝ }
+    ensures { λ r. ⌜ Closed m (now (ci .entry)) (bound (m .key) (now (high .entry))) opened r ⌝ }
 {
     match opened {
         Opened::Sound { count, last } => Seen {
@@ -79,26 +82,26 @@ pub(crate) fn closed(ci: &[u8], m: Measures, opened: Opened, high: &[u8]) -> See
     }
 }
 
-// One entry's interval: above the bound before, which lies in buf, and at most its own, which lies there afterwards.
+// One entry's interval: above the bound before, whose separator are the first `before` bytes of buf, and at most its own. Afterwards buf
+// begins with its own separator.
 pub(crate) fn entry_seen(
     ci: &[u8],
     m: Measures,
     first: bool,
     buf: &mut [u8],
-    front: usize,
+    before: usize,
     ib: &[u8],
-    at: usize,
-    len: usize,
+    s: Step,
 ) -> Seen
-    requires { ⌜ EntryLies m (now ci) (now buf) (now ib) front at len ⌝ }
-    ensures judged { λ r. ⌜ r .ok ≡ soundUsed m (lowIn m first (now (buf .entry))) (highIn m front (now (buf .entry)) (now (ib .entry)) at len) (now (ci .entry)) ⌝ }
+    requires { ⌜ EntryLies m (now ci) (now buf) before (now ib) s ⌝ }
+    ensures judged { λ r. ⌜ r .ok ≡ soundUsed m (lowIn m first before (now (buf .entry))) (highIn m (now (buf .entry)) (now (ib .entry)) s) (now (ci .entry)) ⌝ }
     ensures counted { λ r. ⌜ (r .ok ≡ true → r .count ≡ length (recordsIn (now (ci .entry)))) × (r .count ≤ 32768) ⌝ }
-    ensures renewed { λ _. ⌜ now (buf .exit) ≡ highIn m front (now (buf .entry)) (now (ib .entry)) at len ++ drop (m .key) (now (buf .entry)) ⌝ }
+    ensures renewed { λ _. ⌜ now (buf .exit) ≡ splice (now (buf .entry)) (s .front) (part (now (ib .entry)) (s .at) (s .len)) ⌝ }
 {
-    let key = m.key;
-    let opened = interval_read::opens(ci, m, first, &buf[..key]);
-    index_read::renew(buf, front, ib, at, len, key);
-    closed(ci, m, opened, &buf[..key])
+    let opened = interval_read::opens(ci, m, first, &buf[..before]);
+    index_step::extend(buf, s.front, ib, s.at, s.len);
+    let end = s.front + s.len;
+    closed(ci, m, opened, &buf[..end])
 }
 
 // The lowest of the intervals in use that are unsound in their role, or `worst` where that is lower; and the records counted.
@@ -111,36 +114,25 @@ pub(crate) fn used_worst(
     entries: usize,
 ) -> Tally
     requires { ⌜ EntriesSound m n (now area) (now ib) entries ⌝ }
-    ensures lowest { λ r. ⌜ r .worst ≡ lowest worst (unsoundUsed m (now (area .entry)) [] (readIndex 1 n (now (ib .entry)) .entries)) ⌝ }
-    ensures counted { λ r. ⌜ Counted m (now (area .entry)) [] (readIndex 1 n (now (ib .entry)) .entries) (r .records) ⌝ }
+    ensures lowest { λ r. ⌜ r .worst ≡ lowest worst (unsoundUsed m (now (area .entry)) [] (readIndex (widthFor n) n (now (ib .entry)) .entries)) ⌝ }
+    ensures counted { λ r. ⌜ Counted m (now (area .entry)) [] (readIndex (widthFor n) n (now (ib .entry)) .entries) (r .records) ⌝ }
 {
-    let edge = fields::read_two(ib, 20);
-    let mut buf = [255u8; 255];
+    let w = measures::width_for(n);
+    let mut buf = [0u8; 255];
     let mut right = ib.len() - 7;
     let mut before: usize = 0;
     let mut i: usize = 0;
     let mut lowest = worst;
     let mut records: usize = 0;
     while i < entries {
-        let Parsed::Of {
-            front,
-            len,
-            at,
-            number,
-        } = index_read::piece_at(ib, index_read::WIDTH, right, edge, before, m.key)
-        else {
-            return Tally {
-                worst: lowest,
-                records,
-            };
-        };
-        let a = (number + 1) * m.size;
+        let s = index_step::entry_at(ib, w, right);
+        let a = (s.number + 1) * m.size;
         let e = a + m.size;
-        let seen = entry_seen(&area[a..e], m, i == 0, &mut buf, front, ib, at, len);
-        lowest = noted(lowest, number, seen.ok);
+        let seen = entry_seen(&area[a..e], m, i == 0, &mut buf, before, ib, s);
+        lowest = noted(lowest, s.number, seen.ok);
         records = records + seen.count;
-        right = at;
-        before = front + len;
+        right = s.at;
+        before = s.front + s.len;
         i += 1;
     }
     Tally {

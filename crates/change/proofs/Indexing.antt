@@ -1,5 +1,5 @@
 -- The index record's meaning after a division: it is that of the new content, it keeps all rules, and it is written as bytes.
-use Prim.Native.Nat.{ℕ, zero, suc, _+_, _-_, _≤_, _<_}
+use Prim.Native.Nat.{ℕ, zero, suc, _+_, _-_, _≤_, _<_, _^_}
 use mathlib.Core.Path.{_≡_, refl, _∙_, ap}
 use mathlib.Core.Bool.{true}
 use mathlib.Core.List.{List, [], _∷_, _++_, append-assoc}
@@ -172,13 +172,23 @@ octets-pieces w K low ref (e ∷ es) h r o =
     (octets-append (drop c (e .sep)) (c ∷ length (drop c (e .sep)) ∷ digits w (e .num)) (octets-drop c (e .sep) (o .0))
     (octets-cons c (length (drop c (e .sep)) ∷ digits w (e .num)) f (octets-cons (length (drop c (e .sep))) (digits w (e .num)) l (octets-digits w (e .num)))))
 
-octets-header : (m : Meaning) (R u e : ℕ) → Octets (m .kept) → m .spare < 256 → Octets (header 1 m R u e)
+-- the pointer indicator is a byte
+indicator-small : (w : ℕ) → w ≤ 4 → 2 ^ w - 1 < 256
+indicator-small zero h = omega arith
+indicator-small (suc zero) h = omega arith
+indicator-small (suc (suc zero)) h = omega arith
+indicator-small (suc (suc (suc zero))) h = omega arith
+indicator-small (suc (suc (suc (suc zero)))) h = omega arith
+indicator-small (suc (suc (suc (suc (suc w))))) h = absurd (omega arith)
+
+octets-header : (w : ℕ) (m : Meaning) (R u e : ℕ) → w ≤ 4 → Octets (m .kept) → m .spare < 256 → Octets (header w m R u e)
 unfolding header
-octets-header m R u e o h =
+octets-header w m R u e few o h =
     let d : List ℕ = digits 2 u ++ (digits 2 e ++ digits 2 e) in
     let t : Octets d = octets-append (digits 2 u) (digits 2 e ++ digits 2 e) (octets-digits 2 u) (octets-append (digits 2 e) (digits 2 e) (octets-digits 2 e) (octets-digits 2 e)) in
-    octets-append (digits 2 R) (3 ∷ 1 ∷ (m .kept ++ (1 ∷ m .spare ∷ d))) (octets-digits 2 R)
-    (octets-cons 3 (1 ∷ (m .kept ++ (1 ∷ m .spare ∷ d))) (omega arith) (octets-cons 1 (m .kept ++ (1 ∷ m .spare ∷ d)) (omega arith)
+    octets-append (digits 2 R) ((w + 2) ∷ (2 ^ w - 1) ∷ (m .kept ++ (1 ∷ m .spare ∷ d))) (octets-digits 2 R)
+    (octets-cons (w + 2) ((2 ^ w - 1) ∷ (m .kept ++ (1 ∷ m .spare ∷ d))) (omega arith)
+    (octets-cons (2 ^ w - 1) (m .kept ++ (1 ∷ m .spare ∷ d)) (indicator-small w few)
     (octets-append (m .kept) (1 ∷ m .spare ∷ d) o (octets-cons 1 (m .spare ∷ d) (omega arith) (octets-cons (m .spare) d h t)))))
 
 octets-trailer : (R : ℕ) → Octets (trailer R)
@@ -199,17 +209,17 @@ unfolding readIndex
 read-bytes w n ib o = record { kept = octets-part ib 4 12 o; spare = o 17; sep-bytes = read-octets w n ib o }
 
 -- and then the writer's index record is bytes.
-pub index-octets : (S K : ℕ) (low : List ℕ) (m : Meaning) → K ≤ 255 → rises K low (m .entries) ≡ true → MeansBytes m → Octets (indexBytes 1 S m)
+pub index-octets : (w S K : ℕ) (low : List ℕ) (m : Meaning) → w ≤ 4 → K ≤ 255 → rises K low (m .entries) ≡ true → MeansBytes m → Octets (indexBytes w S m)
 unfolding indexBytes layout
-index-octets S K low m h r b =
-    let unused : List ℕ = replicate (S - 7 - indexSize 1 m) 0 in
-    let R : ℕ = recordLength 1 m unused (packed [] (m .entries)) in
-    let x : List ℕ = piecesBytes 1 (packed [] (m .entries)) in
-    octets-append (header 1 m R (unusedPlace 1 m) (lastPlace 1 m unused (packed [] (m .entries)))) (freeBytes 1 (m .free) ++ (unused ++ (x ++ trailer R)))
-    (octets-header m R (unusedPlace 1 m) (lastPlace 1 m unused (packed [] (m .entries))) (b .kept) (b .spare))
-    (octets-append (freeBytes 1 (m .free)) (unused ++ (x ++ trailer R)) (octets-free 1 (m .free))
-    (octets-append unused (x ++ trailer R) (octets-replicate (S - 7 - indexSize 1 m) 0 (omega arith))
-    (octets-append x (trailer R) (octets-pieces 1 K low [] (m .entries) h r (b .sep-bytes)) (octets-trailer R))))
+index-octets w S K low m few h r b =
+    let unused : List ℕ = replicate (S - 7 - indexSize w m) 0 in
+    let R : ℕ = recordLength w m unused (packed [] (m .entries)) in
+    let x : List ℕ = piecesBytes w (packed [] (m .entries)) in
+    octets-append (header w m R (unusedPlace w m) (lastPlace w m unused (packed [] (m .entries)))) (freeBytes w (m .free) ++ (unused ++ (x ++ trailer R)))
+    (octets-header w m R (unusedPlace w m) (lastPlace w m unused (packed [] (m .entries))) few (b .kept) (b .spare))
+    (octets-append (freeBytes w (m .free)) (unused ++ (x ++ trailer R)) (octets-free w (m .free))
+    (octets-append unused (x ++ trailer R) (octets-replicate (S - 7 - indexSize w m) 0 (omega arith))
+    (octets-append x (trailer R) (octets-pieces w K low [] (m .entries) h r (b .sep-bytes)) (octets-trailer R))))
 
 cut-octets : (left right : List ℕ) → Octets left → Octets (cutSeparator left right)
 unfolding cutSeparator

@@ -6,6 +6,7 @@ use mathlib.Core.List.{List, [], _∷_, _++_, List·Memᴰ, List·Memᴰ·head, 
 use lib.ListN.{length, take, drop}
 use native.Mathlib.Omega.{arith}
 use Rattle.fields.specs.Lists.{swap}
+use Rattle.measures.specs.Judgement.{widthFor}
 use Rattle.measures.specs.declared.Measures.{Measures}
 use Rattle.interval.specs.Records.{keyOf}
 use Rattle.interval.specs.Layout.{form}
@@ -19,7 +20,6 @@ use Rattle.index.proofs.Keeping.{rules-apart}
 use Rattle.division.specs.Fewest.{Held}
 use Rattle.division.proofs.Intervals.{held-form}
 use Rattle.area.specs.Content.{Filled, Content, indexIn, dataIn, entriesOf, meaningOf}
-use Rattle.area.specs.Reading.{width}
 use Rattle.area.specs.Layout.{FreeIntervals, UsedInterval, UsedIntervals, AreaLaidOut}
 use Rattle.area.proofs.Filled.{entriesOf-append}
 use Rattle.change.specs.Parts.{entryAt, taken}
@@ -137,7 +137,7 @@ module _ (m : Measures) (n : ℕ) (c : Content) (i : ℕ) (p : List (List ℕ)) 
   -- as it was.
   pub laid-parted : (area area' : List ℕ) → m .offset + m .key ≤ m .least → AreaLaidOut m n area c → i < length (c .filled)
       → Ordered m (boundBefore (m .key) [] (entriesOf (take i (c .filled)))) (bound (m .key) (entryAt (c .filled) i .sep)) (p ∷ ps)
-      → LaidOut width (m .size) (meaningOf (partedAt m c i (p ∷ ps))) (indexIn m area') → AllWritten m area' these (p ∷ ps)
+      → LaidOut (widthFor n) (m .size) (meaningOf (partedAt m c i (p ∷ ps))) (indexIn m area') → AllWritten m area' these (p ∷ ps)
       → ((k : ℕ) → (List·Memᴰ k these → ⊥) → dataIn m area' k ≡ dataIn m area k)
       → AreaLaidOut m n area' (partedAt m c i (p ∷ ps))
   unfolding partedAt swap

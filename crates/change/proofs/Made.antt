@@ -15,8 +15,8 @@ use Rattle.interval.specs.Layout.{form}
 use Rattle.index.specs.Form.{indexSize, indexBytes}
 use Rattle.division.specs.Fewest.{AllHeld, Fewest}
 use Rattle.division.proofs.Intervals.{fewest-unique}
-use Rattle.area.specs.Content.{Content, indexIn, recordsOf, meaningOf}
-use Rattle.area.specs.Reading.{width, whole, readArea}
+use Rattle.area.specs.Content.{Content, indexIn, recordsOf, meaningOf, widthIn}
+use Rattle.area.specs.Reading.{whole, readArea}
 use Rattle.area.specs.Layout.{Lent, AreaLaidOut}
 use Rattle.area.proofs.Laying.{area-never-damaged}
 use Rattle.change.specs.Stores.{Store, stored}
@@ -77,7 +77,7 @@ module _ (m : Measures) (n : ℕ) (area : List ℕ) (c : Content) (e : Edit) (f 
       enough : length later ≤ length (c .free)
       ordered : Ordered m (lowOf m (c .filled) e) (highOf m (c .filled) e) (first ∷ later)
       making : Making m n area c (e .entry) first later ss
-      index : indexIn m (stored (m .size) area ss) ≡ pick (ltb 1 (length (first ∷ later))) (indexBytes width (m .size) (indexAfter m c e)) (indexIn m area)
+      index : indexIn m (stored (m .size) area ss) ≡ pick (ltb 1 (length (first ∷ later))) (indexBytes (widthIn c) (m .size) (indexAfter m c e)) (indexIn m area)
       named : placesOf ss ≡ namedFor c (e .entry) (length (first ∷ later))
       stays : length (first ∷ later) ≡ 1 → length ss ≡ 1
       divides : 1 < length (first ∷ later) → length ss ≡ 2 + length later
@@ -108,7 +108,7 @@ module _ (m : Measures) (n : ℕ) (area : List ℕ) (c : Content) (e : Edit) (f 
             let x : meaningOf (partedAt m c (e .entry) (p ∷ r ∷ ps)) ≡ indexAfter m c e =
             ap (λ (ds : List (List (List ℕ))). meaningOf (partedAt m c (e .entry) ds)) (sym q) ∙ after-meaning m c e in
             let k : suc (length ps) ≤ length (c .free) = omega (arith, w .0 .0) in
-            let t : indexSize width (indexAfter m c e) ≤ m .size - 7 = w .0 .1 (omega arith) in
+            let t : indexSize (widthIn c) (indexAfter m c e) ≤ m .size - 7 = w .0 .1 (omega arith) in
             let z : suc (suc (length ps)) - 1 ≡ suc (length ps) = omega arith in
             let a = fit-laid m n area c e f in
             record {
@@ -160,8 +160,8 @@ module _ (m : Measures) (n : ℕ) (area : List ℕ) (c : Content) (e : Edit) (f 
     made-written = rw (parts .are, less-one (length (parts .later))) (parts .making .written)
 
     -- The index record is the writer's, with the new meaning, exactly if it divides; else it is not touched.
-    pub made-index : indexIn m (stored (m .size) area ss) ≡ pick (ltb 1 (length (divided m (c .filled) e))) (indexBytes width (m .size) (indexAfter m c e)) (indexIn m area)
-    made-index = parts .index ∙ ap (λ (ps : List (List (List ℕ))). pick (ltb 1 (length ps)) (indexBytes width (m .size) (indexAfter m c e)) (indexIn m area)) (sym (parts .are))
+    pub made-index : indexIn m (stored (m .size) area ss) ≡ pick (ltb 1 (length (divided m (c .filled) e))) (indexBytes (widthIn c) (m .size) (indexAfter m c e)) (indexIn m area)
+    made-index = parts .index ∙ ap (λ (ps : List (List (List ℕ))). pick (ltb 1 (length ps)) (indexBytes (widthIn c) (m .size) (indexAfter m c e)) (indexIn m area)) (sym (parts .are))
 
     -- One interval is written if there is one part, else two and one for each part but the first; the free ones fall by these.
     pub made-count : Counted (length (divided m (c .filled) e)) (length ss) (length (c .free)) (length (contentAfter m c e .free))

@@ -7,6 +7,8 @@ use lib.ListN.{length, take, drop}
 use native.Mathlib.Omega.{arith}
 use native.Mathlib.Nat.{zero-mul}
 use Rattle.fields.specs.Lists.{swap}
+use Rattle.measures.proofs.Width.{width-most}
+use Rattle.measures.specs.Judgement.{widthFor}
 use Rattle.measures.specs.declared.Measures.{Measures}
 use Rattle.measures.proofs.Fine.{fits-small}
 use Rattle.interval.specs.Layout.{form}
@@ -19,7 +21,6 @@ use Rattle.index.specs.Divided.{dividedAt}
 use Rattle.index.proofs.Keeping.{rules-apart}
 use Rattle.index.proofs.ReadsBack.{form-length, form-laid-out}
 use Rattle.area.specs.Content.{Filled, Content, indexIn, dataIn, entriesOf, meaningOf}
-use Rattle.area.specs.Reading.{width}
 use Rattle.area.specs.Layout.{Lent, AreaLaidOut}
 use Rattle.area.proofs.Parts.{octets-index}
 use Rattle.area.proofs.Laying.{index-read}
@@ -40,7 +41,7 @@ use Rattle.change.proofs.Taking.{places-append, taken-places, not-first
 pub record Making (m : Measures) (n : ℕ) (area : List ℕ) (c : Content) (i : ℕ) (p : List (List ℕ)) (ps : List (List (List ℕ))) (ss : List Store) : Type 0 where
   pub sized : AllSized (m .size) n ss
   pub apart : Apart (placesOf ss)
-  pub index : LaidOut width (m .size) (meaningOf (partedAt m c i (p ∷ ps))) (indexIn m (stored (m .size) area ss))
+  pub index : LaidOut (widthFor n) (m .size) (meaningOf (partedAt m c i (p ∷ ps))) (indexIn m (stored (m .size) area ss))
   pub written : AllWritten m (stored (m .size) area ss) (entryAt (c .filled) i .num ∷ taken (length ps) (c .free)) (p ∷ ps)
   pub others : (k : ℕ) → (List·Memᴰ k (entryAt (c .filled) i .num ∷ taken (length ps) (c .free)) → ⊥)
       → dataIn m (stored (m .size) area ss) k ≡ dataIn m area k
@@ -101,7 +102,7 @@ module _ (m : Measures) (n : ℕ) (area : List ℕ) (lent : Lent m n area) (c : 
 
     -- ---- the index record
 
-    module _ (ix : Meaning) (means : meaningOf (partedAt m c i (p ∷ ps)) ≡ ix) (room : indexSize width ix ≤ m .size - 7) where
+    module _ (ix : Meaning) (means : meaningOf (partedAt m c i (p ∷ ps)) ≡ ix) (room : indexSize (widthFor n) ix ≤ m .size - 7) where
       new-rules : keepsRules (m .size) (m .key) n [] [] ix ≡ true
       new-rules = rw means at parted-rules
 
@@ -113,16 +114,16 @@ module _ (m : Measures) (n : ℕ) (area : List ℕ) (lent : Lent m n area) (c : 
       twelve = ap (λ (x : Meaning). length (x .kept)) (sym means) ∙ laid .index .laid .twelve
 
       -- It is stored as one interval of bytes, laid out with the new meaning.
-      index-sized : Sized (m .size) n (record { at = 0; bytes = indexBytes width (m .size) ix })
+      index-sized : Sized (m .size) n (record { at = 0; bytes = indexBytes (widthFor n) (m .size) ix })
       index-sized =
           record {
             inside = omega arith;
-            size = form-length width (m .size) ix twelve room;
-            octets = index-octets (m .size) (m .key) [] ix (lent .fits .key-most) (rules-apart (m .size) (m .key) n [] [] ix new-rules .rising) new-bytes;
+            size = form-length (widthFor n) (m .size) ix twelve room;
+            octets = index-octets (widthFor n) (m .size) (m .key) [] ix (width-most n) (lent .fits .key-most) (rules-apart (m .size) (m .key) n [] [] ix new-rules .rising) new-bytes;
           }
 
-      index-laid : LaidOut width (m .size) ix (indexBytes width (m .size) ix)
-      index-laid = form-laid-out width (m .size) ix twelve room (m .key) n [] [] (lent .fits .key-most) new-rules
+      index-laid : LaidOut (widthFor n) (m .size) ix (indexBytes (widthFor n) (m .size) ix)
+      index-laid = form-laid-out (widthFor n) (m .size) ix twelve room (m .key) n [] [] (lent .fits .key-most) new-rules
 
   -- ---- one part
 
@@ -154,14 +155,14 @@ module _ (m : Measures) (n : ℕ) (area : List ℕ) (lent : Lent m n area) (c : 
   -- ---- several parts
 
   module _ (p : List (List ℕ)) (ps : List (List (List ℕ))) (enough : length ps ≤ length (c .free)) (o : Ordered m low high (p ∷ ps))
-      (ix : Meaning) (means : meaningOf (partedAt m c i (p ∷ ps)) ≡ ix) (room : indexSize width ix ≤ m .size - 7) where
+      (ix : Meaning) (means : meaningOf (partedAt m c i (p ∷ ps)) ≡ ix) (room : indexSize (widthFor n) ix ≤ m .size - 7) where
     abbrev ks : List ℕ
     ks = taken (length ps) (c .free)
 
     abbrev pub moreStores : List Store
     moreStores =
         takenStores (m .size) ks ps
-        ++ (record { at = 0; bytes = indexBytes width (m .size) ix } ∷ record { at = old .num + 1; bytes = form (m .size) p } ∷ [])
+        ++ (record { at = 0; bytes = indexBytes (widthFor n) (m .size) ix } ∷ record { at = old .num + 1; bytes = form (m .size) p } ∷ [])
 
     pub more-places : placesOf moreStores ≡ nexts ks ++ (0 ∷ (old .num + 1) ∷ [])
     more-places = rw (places-append, taken-places (m .size) ks ps (length-taken (length ps) (c .free)))
@@ -179,10 +180,10 @@ module _ (m : Measures) (n : ℕ) (area : List ℕ) (lent : Lent m n area) (c : 
     area' = stored (m .size) area moreStores
 
     more-there : AllThere (m .size) area' (takenStores (m .size) ks ps)
-        × AllThere (m .size) area' (record { at = 0; bytes = indexBytes width (m .size) ix } ∷ record { at = old .num + 1; bytes = form (m .size) p } ∷ [])
+        × AllThere (m .size) area' (record { at = 0; bytes = indexBytes (widthFor n) (m .size) ix } ∷ record { at = old .num + 1; bytes = form (m .size) p } ∷ [])
     more-there = there-append (m .size) area' (takenStores (m .size) ks ps) _ (stored-there (m .size) n area moreStores (lent .fits .bytes) more-sized more-apart)
 
-    pub more-index : indexIn m area' ≡ indexBytes width (m .size) ix
+    pub more-index : indexIn m area' ≡ indexBytes (widthFor n) (m .size) ix
     more-index = rw (zero-mul (m .size)) at (more-there .1 .0)
 
     -- Where there are several parts, the later ones are stored in the intervals taken, then the index record, then the first part in the old interval.

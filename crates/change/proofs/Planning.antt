@@ -11,8 +11,7 @@ use borrow.Author.Tests.{ltb-true, ltb-false, lt-ltb, le-ltb}
 use Rattle.fields.specs.Choice.{pick, both}
 use Rattle.measures.specs.declared.Measures.{Measures}
 use Rattle.index.specs.Form.{indexSize}
-use Rattle.area.specs.Content.{Content}
-use Rattle.area.specs.Reading.{width}
+use Rattle.area.specs.Content.{Content, widthIn}
 use Rattle.change.specs.Stores.{Store}
 use Rattle.change.specs.Parts.{Edit, divided}
 use Rattle.change.specs.Plan.{noInterval, noRoom, stores, indexAfter, storesOf, planOf}
@@ -37,7 +36,7 @@ module _ (m : Measures) (c : Content) (e : Edit) where
   made = storesOf m c e (divided m (c .filled) e)
 
   abbrev bytes : ℕ
-  bytes = indexSize width (indexAfter m c e)
+  bytes = indexSize (widthIn c) (indexAfter m c e)
 
   -- Each of the three makes its plan,
   pub refuse-interval : WantsInterval m c e → planOf m c e ≡ noInterval

@@ -10,8 +10,7 @@ use Rattle.index.specs.Meaning.{Meaning}
 use Rattle.index.specs.Form.{indexSize, indexBytes}
 use Rattle.index.specs.Divided.{dividedAt}
 use Rattle.index.specs.Cuts.{separators}
-use Rattle.area.specs.Content.{Content, meaningOf}
-use Rattle.area.specs.Reading.{width}
+use Rattle.area.specs.Content.{Content, meaningOf, widthIn}
 use Rattle.change.specs.Stores.{Store}
 use Rattle.change.specs.Parts.{Edit, entryAt, divided, taken}
 
@@ -36,7 +35,7 @@ storesOf m c e [] = []
 storesOf m c e (p ∷ []) = record { at = entryAt (c .filled) (e .entry) .num + 1; bytes = form (m .size) p } ∷ []
 storesOf m c e (p ∷ q ∷ ps) =
     takenStores (m .size) (taken (length (q ∷ ps)) (c .free)) (q ∷ ps)
-    ++ (record { at = 0; bytes = indexBytes width (m .size) (indexAfter m c e) }
+    ++ (record { at = 0; bytes = indexBytes (widthIn c) (m .size) (indexAfter m c e) }
     ∷ record { at = entryAt (c .filled) (e .entry) .num + 1; bytes = form (m .size) p }
     ∷ [])
 
@@ -45,4 +44,4 @@ unfoldable pub planOf : Measures → Content → Edit → Plan
 planOf m c e =
     let parts = divided m (c .filled) e in
     pick (ltb (length (c .free)) (length parts - 1)) noInterval
-    (pick (both (ltb 1 (length parts)) (ltb (m .size - 7) (indexSize width (indexAfter m c e)))) noRoom (stores (storesOf m c e parts)))
+    (pick (both (ltb 1 (length parts)) (ltb (m .size - 7) (indexSize (widthIn c) (indexAfter m c e)))) noRoom (stores (storesOf m c e parts)))

@@ -3,18 +3,18 @@ use Prim.Native.Nat.{ℕ, suc, _+_, _-_, _*_, _≤_, _<_}
 use mathlib.Core.Path.{_≡_, refl, _∙_, sym, ap}
 use mathlib.Core.Bool.{Bool, true, false}
 use mathlib.Core.List.{List, [], _∷_, _++_, map}
-use lib.ListN.{length, getD, take, drop, length-append, length-drop, length-take}
+use lib.ListN.{length, getD, take, drop, length-append, length-drop}
 use lib.Seq.{length-take-le, length-front, take-all, getD-take, getD-drop}
 use lib.Dec.{ltb}
 use native.Mathlib.Omega.{arith}
-use native.Mathlib.Nat.{mul-le-mul-right, min-le-left}
+use native.Mathlib.Nat.{mul-le-mul-right}
 use borrow.Author.Tests.{ltb-true, ltb-false}
 use Rattle.fields.specs.Choice.{pick}
 use Rattle.fields.specs.Bytes.{splice}
 use Rattle.fields.specs.Lists.{every}
 use Rattle.fields.proofs.Choices.{both-split}
 use Rattle.fields.proofs.Splices.{part-left, mid-splice}
-use Rattle.measures.specs.Judgement.{Fits}
+use Rattle.measures.specs.Judgement.{Fits, widthFor}
 use Rattle.measures.specs.declared.Measures.{Measures}
 use Rattle.measures.proofs.Fine.{fits-small, fits-large}
 use Rattle.room.specs.Room.{need}
@@ -29,15 +29,12 @@ use Rattle.index.specs.Reading.{readIndex}
 use Rattle.index.specs.Divided.{cuts, dividedAt, newMeaning}
 use Rattle.index.specs.Cuts.{lastOf, firstOf, separators}
 use Rattle.index.proofs.Naming.{both-below}
-use Rattle.index_write.specs.AidFlat.{renewed}
-use Rattle.index_write.specs.AidPrepared.{Divisible, Prepared, Writable, heldIn}
-use Rattle.index_write.specs.declared.Renewal.{Renewal}
-use Rattle.index_write.proofs.Joining.{can-write, written-new}
+use Rattle.index_write.specs.AidStream.{Divisible}
 use Rattle.division.specs.Division.{counts, divisionOf, parts, pieces}
 use Rattle.division.specs.declared.Division.{Division}
 use Rattle.division.specs.declared.Division.the-variants.{Stays, Two, Three}
-use Rattle.area.specs.Content.{Filled, Content, meaningOf}
-use Rattle.area.specs.Reading.{readArea, whole, width}
+use Rattle.area.specs.Content.{Filled, Content, meaningOf, widthIn}
+use Rattle.area.specs.Reading.{readArea, whole}
 use Rattle.area.proofs.Sounding.{Sound, sound-apart, sound-reads, sound-rules, same-content}
 use Rattle.area.proofs.Filled.{length-entries}
 use Rattle.change.specs.Stores.{Store, stored}
@@ -167,7 +164,7 @@ module _ (m : Measures) (c : Content) (e : Edit) (three : Bool) (first second : 
       let p : planOf m c e ≡ noInterval = refuse-interval m c e (omega (arith, many)) in
       record { answers = rw p; leaves = rw p }
 
-  pub none-room : (area : List ℕ) → pick three 2 1 ≤ length (c .free) → m .size - 7 < indexSize 1 (indexAfter m c e)
+  pub none-room : (area : List ℕ) → pick three 2 1 ≤ length (c .free) → m .size - 7 < indexSize (widthIn c) (indexAfter m c e)
       → Carries m area (planOf m c e) NoRoom area
   none-room area h r =
       let p : planOf m c e ≡ noRoom = refuse-room m c e (omega (arith, many), omega (arith, many, some-more three), r) in
@@ -177,29 +174,28 @@ module _ (m : Measures) (c : Content) (e : Edit) (three : Bool) (first second : 
 
 -- The new meaning of the record is the one that the plan asks for.
 pub index-new : (m : Measures) (n : ℕ) (area : List ℕ) (c : Content) (e : Edit) (entry : ℕ) (seps : List (List ℕ)) → readArea m n area ≡ whole c → e .entry ≡ entry
-    → separators m (divided m (c .filled) e) ≡ seps → newMeaning 1 n (take (m .size) area) entry seps ≡ indexAfter m c e
+    → separators m (divided m (c .filled) e) ≡ seps → newMeaning (widthFor n) n (take (m .size) area) entry seps ≡ indexAfter m c e
 index-new m n area c e entry seps r i s =
     ap (λ (x : Meaning). dividedAt x entry seps) (sound-reads m n area c (sound-apart m n area c r)) ∙ rw (s, i)
 
 -- The old one can be divided.
-pub divisible : (m : Measures) (n : ℕ) (area : List ℕ) (entry number : ℕ) (three : Bool) (first second s l x : List ℕ) → Entered m n area entry number
-    → EnoughFree m n area (pick three 2 1) → length s ≡ 65536 → length l ≡ 256 → length x ≡ 256
-    → Divisible n entry (length (cuts three first second)) (take (m .size) area) s l x
-divisible m n area entry number three first second s l x d enough hs hl hx =
+pub divisible : (m : Measures) (n : ℕ) (area : List ℕ) (entry number : ℕ) (three : Bool) (first second : List ℕ) → Entered m n area entry number
+    → EnoughFree m n area (pick three 2 1) → Divisible n entry (cuts three first second) (take (m .size) area)
+divisible m n area entry number three first second d enough =
     let c : Content = d .content in
     let o : Sound m n area c = sound-apart m n area c (d .reads) in
     let b : Fits m n (length area) = d .fits in
-    let r : readIndex 1 n (take (m .size) area) ≡ meaningOf c = sound-reads m n area c o in
+    let r : readIndex (widthFor n) n (take (m .size) area) ≡ meaningOf c = sound-reads m n area c o in
     let k : length (take (m .size) area) ≡ m .size = length-take-le (m .size) area (omega (arith, b .bytes, b .some)) in
     record {
       large = omega (arith, k, fits-large b);
+      small = omega (arith, k, fits-small b);
       few = b .few;
-      old = record { key = m .key; short = b .key-most; sound = o .index };
+      key = m .key;
+      short = b .key-most;
+      sound = o .index;
       there = rw r (omega (arith, length-entries (c .filled), d .there));
       free = rw (r, cuts-many three first second) (enough c (d .reads));
-      seps = omega (arith, b .few);
-      lens = omega (arith, b .few);
-      nums = omega (arith, b .few);
     }
 
 -- ---- the stores
@@ -234,16 +230,16 @@ index-stays m n area c k ps after b r h a =
 
 -- ---- what is written
 
-module _ (m : Measures) (c : Content) (e : Edit) (area : List ℕ) (room : indexSize 1 (indexAfter m c e) ≤ m .size - 7) where
+module _ (m : Measures) (c : Content) (e : Edit) (area : List ℕ) (room : indexSize (widthIn c) (indexAfter m c e) ≤ m .size - 7) where
   all-stored : (p q : List (List ℕ)) (ps : List (List (List ℕ))) (middle after : List ℕ) → divided m (c .filled) e ≡ p ∷ q ∷ ps → length (q ∷ ps) ≤ length (c .free)
       → middle ≡ stored (m .size) area (takenStores (m .size) (taken (length (q ∷ ps)) (c .free)) (q ∷ ps))
-      → after ≡ splice (splice middle 0 (indexBytes width (m .size) (indexAfter m c e))) ((entryAt (c .filled) (e .entry) .num + 1) * m .size) (form (m .size) p)
+      → after ≡ splice (splice middle 0 (indexBytes (widthIn c) (m .size) (indexAfter m c e))) ((entryAt (c .filled) (e .entry) .num + 1) * m .size) (form (m .size) p)
       → Carries m area (planOf m c e) (Written (length (q ∷ ps) + 2)) after
   unfolding stored
   all-stored p q ps middle after d free h w =
       let ks : List ℕ = taken (length (q ∷ ps)) (c .free) in
       let xs : List Store = takenStores (m .size) ks (q ∷ ps) in
-      let a : Store = record { at = 0; bytes = indexBytes width (m .size) (indexAfter m c e) } in
+      let a : Store = record { at = 0; bytes = indexBytes (widthIn c) (m .size) (indexAfter m c e) } in
       let b : Store = record { at = entryAt (c .filled) (e .entry) .num + 1; bytes = form (m .size) p } in
       let many : length (divided m (c .filled) e) ≡ suc (length (q ∷ ps)) = ap length d in
       let plan : planOf m c e ≡ stores (xs ++ (a ∷ b ∷ [])) =
@@ -255,10 +251,6 @@ module _ (m : Measures) (c : Content) (e : Edit) (area : List ℕ) (room : index
       record { answers = rw (plan, long); leaves = rw plan left }
 
 -- ---- the ways of a division
-
--- A stretch of at most 255 elements.
-pub short-stretch : (xs : List ℕ) (a b : ℕ) → b ≤ a + 255 → length (stretch a b xs) ≤ 255
-short-stretch xs a b h = omega (arith, length-take (b - a) (drop a xs), min-le-left (b - a) (length (drop a xs)))
 
 module _ (m : Measures) (n : ℕ) (area : List ℕ) (entry number : ℕ) (bytes lens : List ℕ) (three : Bool) (first second : ℕ)
     (d : Divides m n area entry number bytes lens three first second) where
@@ -290,22 +282,22 @@ module _ (m : Measures) (n : ℕ) (area : List ℕ) (entry number : ℕ) (bytes 
       go true f = f .0
       go false f = f .0
 
-  module _ (enough : EnoughFree m n area (pick three 2 1)) (a b : List ℕ) (ha : a ≡ separatorAt m bytes lens first) (hb : b ≡ separatorAt m bytes lens second)
-      (s l x s' l' x' : List ℕ) (new : Renewal) (p : Prepared n entry (cuts three a b) (take (m .size) area) s l x s' l' x' new) where
+  module _ (enough : EnoughFree m n area (pick three 2 1)) (a b : List ℕ) (ha : a ≡ separatorAt m bytes lens first) (hb : b ≡ separatorAt m bytes lens second) (needed : ℕ)
+      (size : needed ≡ indexSize (widthFor n) (newMeaning (widthFor n) n (take (m .size) area) entry (cuts three a b))) where
     module _ (c : Content) (e : Edit) (r : readArea m n area ≡ whole c) (i : e .entry ≡ entry) (q : divided m (c .filled) e ≡ partsAt three first second rs) where
-      means : newMeaning 1 n (take (m .size) area) entry (cuts three a b) ≡ indexAfter m c e
+      means : newMeaning (widthFor n) n (take (m .size) area) entry (cuts three a b) ≡ indexAfter m c e
       means =
           index-new m n area c e entry (cuts three a b) r i
           (cuts-are m bytes lens three first second (c .filled) e (d .before) (d .after) (d .order) q ∙ rw (ha, hb))
 
-      size-is : new .size ≡ indexSize 1 (indexAfter m c e)
-      size-is = p .size ∙ ap (indexSize 1) means
+      size-is : needed ≡ indexSize (widthFor n) (indexAfter m c e)
+      size-is = size ∙ ap (indexSize (widthFor n)) means
 
     -- The new index record has no room.
-    pub way-room : m .size - 7 < new .size → MadeDivided m n area entry (partsAt three first second (cut bytes lens)) NoRoom area
+    pub way-room : m .size - 7 < needed → MadeDivided m n area entry (partsAt three first second (cut bytes lens)) NoRoom area
     way-room h c e r i q = none-room m c e three first second rs q area (enough c r) (omega (arith, size-is c e r i q))
 
-    module _ (room : new .size ≤ m .size - 7) (middle : List ℕ)
+    module _ (room : needed ≤ m .size - 7) (middle : List ℕ)
         (t : TakenStored m n area (pick three 2 1) (drop 1 (partsAt three first second (cut bytes lens))) middle) where
       -- Once the later parts are stored the index record still is as it was.
       pub way-index : take (m .size) middle ≡ take (m .size) area
@@ -314,16 +306,16 @@ module _ (m : Measures) (n : ℕ) (area : List ℕ) (entry number : ℕ) (bytes 
           index-stays m n area (n' .content) (pick three 2 1) (drop 1 (partsAt three first second rs)) middle (n' .fits) (n' .reads) (enough (n' .content) (n' .reads)) (t (n' .content) (n' .reads))
 
       -- It can be written anew.
-      pub way-write : Divisible n entry (length (cuts three a b)) (take (m .size) area) s l x → length a ≤ 255 → length b ≤ 255
-          → Writable new (take (m .size) middle) s' l' x'
-      way-write v la lb =
+      pub way-write : Divisible n entry (cuts three a b) (take (m .size) middle)
+          × (indexSize (widthFor n) (newMeaning (widthFor n) n (take (m .size) middle) entry (cuts three a b)) ≤ length (take (m .size) middle) - 7)
+      way-write =
           let o : Fits m n (length area) = d .entered .fits in
           let k : length (take (m .size) area) ≡ m .size = length-take-le (m .size) area (omega (arith, o .bytes, o .some)) in
-          rw way-index (can-write n entry three a b (take (m .size) area) s l x s' l' x' new v la lb p (omega (arith, k, fits-small o)) (omega (arith, k)))
+          rw way-index (divisible m n area entry number three a b (d .entered) enough, omega (arith, k, size))
 
       -- With it and the first part stored the division is made.
       pub way-made : (ib after : List ℕ) → length ib ≡ m .size
-          → ib ≡ indexBytes 1 (length (take (m .size) middle)) (renewed 1 (take (m .size) middle) (new .free) (heldIn new s' l' x'))
+          → ib ≡ indexBytes (widthFor n) (length (take (m .size) middle)) (newMeaning (widthFor n) n (take (m .size) middle) entry (cuts three a b))
           → after ≡ splice (ib ++ drop (m .size) middle) ((number + 1) * m .size) (form (m .size) (stretch 0 first (cut bytes lens)))
           → (more : ℕ) → more ≡ pick three 2 1 → MadeDivided m n area entry (partsAt three first second (cut bytes lens)) (Written (more + 2)) after
       way-made ib after long w h more is c e r i q = rw is (go three q (enough c r) (t c r))
@@ -334,10 +326,10 @@ module _ (m : Measures) (n : ℕ) (area : List ℕ) (entry number : ℕ) (bytes 
           k : length (take (m .size) area) ≡ m .size
           k = length-take-le (m .size) area (omega (arith, o .bytes, o .some))
 
-          is-new : ib ≡ indexBytes 1 (m .size) (indexAfter m c e)
+          is-new : ib ≡ indexBytes (widthFor n) (m .size) (indexAfter m c e)
           is-new =
-              written-new n entry (cuts three a b) (take (m .size) area) s l x s' l' x' new p (m .size) ib (rw (way-index, k) at w)
-              ∙ ap (indexBytes 1 (m .size)) (means c e r i q)
+              let v : ib ≡ indexBytes (widthFor n) (m .size) (newMeaning (widthFor n) n (take (m .size) area) entry (cuts three a b)) = rw (way-index, k) at w in
+              v ∙ ap (indexBytes (widthFor n) (m .size)) (means c e r i q)
 
           same : d .entered .content ≡ c
           same = same-content m n area (d .entered .content) c (d .entered .reads) r
@@ -348,10 +340,10 @@ module _ (m : Measures) (n : ℕ) (area : List ℕ) (entry number : ℕ) (bytes 
           front : stretch 0 first rs ≡ take first rs
           front = let z : first - 0 ≡ first = omega arith in rw z
 
-          left : after ≡ splice (splice middle 0 (indexBytes width (m .size) (indexAfter m c e))) ((entryAt (c .filled) (e .entry) .num + 1) * m .size) (form (m .size) (take first rs))
+          left : after ≡ splice (splice middle 0 (indexBytes (widthIn c) (m .size) (indexAfter m c e))) ((entryAt (c .filled) (e .entry) .num + 1) * m .size) (form (m .size) (take first rs))
           left = h ∙ rw (mid-splice middle ib 0 (m .size) long, front, ← named-so, is-new)
 
-          fits : indexSize 1 (indexAfter m c e) ≤ m .size - 7
+          fits : indexSize (widthFor n) (indexAfter m c e) ≤ m .size - 7
           fits = omega (arith, size-is c e r i q)
 
           go : (u : Bool) → divided m (c .filled) e ≡ partsAt u first second rs → pick {A = ℕ} u 2 1 ≤ length (c .free)

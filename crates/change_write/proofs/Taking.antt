@@ -7,11 +7,10 @@ use lib.ListN.{length, getD, take, drop, length-drop}
 use lib.Seq.{take-all, length-take-le, getD-take}
 use native.Mathlib.Omega.{arith}
 use Rattle.fields.specs.Choice.{pick}
-use Rattle.fields.specs.Bytes.{number, splice}
-use Rattle.fields.proofs.Numbers.{number-2}
-use Rattle.measures.specs.Judgement.{Fits}
+use Rattle.fields.specs.Bytes.{splice}
+use Rattle.measures.specs.Judgement.{Fits, widthFor}
 use Rattle.measures.specs.declared.Measures.{Measures}
-use Rattle.measures.proofs.Fine.{fits-small, fits-large}
+use Rattle.measures.proofs.Fine.{fits-small}
 use Rattle.room.specs.Room.{need}
 use Rattle.interval.specs.Layout.{form}
 use Rattle.interval.specs.Reading.{cut}
@@ -27,6 +26,8 @@ use Rattle.area.proofs.Sounding.{Sound, sound-apart, sound-reads}
 use Rattle.area.proofs.Places.{data-ends}
 use Rattle.area_find.specs.AidSought.{Whole}
 use Rattle.change.specs.Stores.{stored}
+use Rattle.measures.proofs.Width.{width-some, width-most}
+use Rattle.index_write.specs.AidStream.{FreeLie}
 use Rattle.change.specs.Parts.{taken}
 use Rattle.change.specs.Plan.{takenStores}
 use Rattle.change_write.specs.AidCarried.{FreeCounted, EnoughFree, TakenStored}
@@ -38,38 +39,33 @@ module _ (m : Measures) (n : ℕ) (area : List ℕ) (c : Content) (e : readArea 
   s : Sound m n area c
   s = sound-apart m n area c e
 
-  free-length : freeCount 1 (indexIn m area) ≡ length (c .free)
-  free-length = sym (free-many 1 n (indexIn m area)) ∙ ap (λ (x : Meaning). length (x .free)) (sound-reads m n area c s)
+  free-length : freeCount (widthFor n) (indexIn m area) ≡ length (c .free)
+  free-length = sym (free-many (widthFor n) n (indexIn m area)) ∙ ap (λ (x : Meaning). length (x .free)) (sound-reads m n area c s)
 
-  unused-is : unusedAt (indexIn m area) ≡ 24 + length (c .free)
-  unused-is = omega (arith, free-length, record-apart 1 (m .key) n [] [] (indexIn m area) (s .index) .placed .unused)
+  unused-is : 24 + widthFor n * freeCount (widthFor n) (indexIn m area) ≡ unusedAt (indexIn m area)
+  unused-is = record-apart (widthFor n) (m .key) n [] [] (indexIn m area) (s .index) .placed .unused
 
   unused-inside : unusedAt (indexIn m area) ≤ length (indexIn m area)
-  unused-inside = omega (arith, unused-is, free-length, free-lie 1 (m .key) n [] [] (indexIn m area) (s .index))
+  unused-inside = omega (arith, unused-is, free-lie (widthFor n) (m .key) n [] [] (indexIn m area) (s .index))
 
   -- the k-th from the right end
   module _ (k r : ℕ) (h : k < length (c .free))
-      (is : r ≡ getD (numbersAt 1 (indexIn m area) 24 (freeCount 1 (indexIn m area))) (freeCount 1 (indexIn m area) - (k + 1)) 0) where
+      (is : r ≡ getD (numbersAt (widthFor n) (indexIn m area) 24 (freeCount (widthFor n) (indexIn m area))) (freeCount (widthFor n) (indexIn m area) - (k + 1)) 0) where
     taken-number : r ≡ getD (c .free) (length (c .free) - (k + 1)) 0
     taken-number =
-        taken-free n (indexIn m area) k r is
+        taken-free (widthFor n) n (indexIn m area) k r is
         ∙ ap (λ (x : Meaning). getD (x .free) (length (x .free) - (k + 1)) 0) (sound-reads m n area c s)
 
     taken-below : r < n
     taken-below =
-        omega (arith, is, free-below 1 (m .key) n [] [] (indexIn m area) (freeCount 1 (indexIn m area) - (k + 1)) (s .index) (omega (arith, free-length, h)))
+        omega (arith, is, free-below (widthFor n) (m .key) n [] [] (indexIn m area) (freeCount (widthFor n) (indexIn m area) - (k + 1)) (s .index) (omega (arith, free-length, h)))
 
-unused-there : (m : Measures) (n : ℕ) (area : List ℕ) → Fits m n (length area) → number 2 area 18 ≡ unusedAt (indexIn m area)
-unused-there m n area o =
-    let l = fits-large o in
-    rw (number-2 area 18, number-2 (indexIn m area) 18, getD-take (m .size) area 18 0 (omega arith), getD-take (m .size) area 19 0 (omega arith))
+module _ (m : Measures) (n : ℕ) (area : List ℕ) where
+  pub header-before : Whole m n area → 24 ≤ unusedAt (indexIn m area)
+  header-before w = omega (arith, unused-is m n area (w .content) (w .reads))
 
-module _ (m : Measures) (n : ℕ) (area : List ℕ) (o : Fits m n (length area)) (r : ℕ) (is : r ≡ number 2 area 18) where
-  pub header-before : Whole m n area → 24 ≤ r
-  header-before w = omega (arith, is, unused-there m n area o, unused-is m n area (w .content) (w .reads))
-
-  pub free-counted : FreeCounted m n area (r - 24)
-  free-counted c e = omega (arith, is, unused-there m n area o, unused-is m n area c e)
+  pub free-counted : (r : ℕ) → r ≡ freeCount (widthFor n) (indexIn m area) → FreeCounted m n area r
+  free-counted r is c e = is ∙ free-length m n area c e
 
 -- ---- the later parts
 
@@ -111,7 +107,7 @@ stores-two S area ks p q a b e = rw e
 
 module _ (m : Measures) (n : ℕ) (area : List ℕ) where
   abbrev IsTaken : ℕ → ℕ → Type 0
-  IsTaken k r = r ≡ getD (numbersAt 1 (indexIn m area) 24 (freeCount 1 (indexIn m area))) (freeCount 1 (indexIn m area) - (k + 1)) 0
+  IsTaken k r = r ≡ getD (numbersAt (widthFor n) (indexIn m area) 24 (freeCount (widthFor n) (indexIn m area))) (freeCount (widthFor n) (indexIn m area) - (k + 1)) 0
 
   pub some-free : (three : Bool) → EnoughFree m n area (pick three 2 1) → EnoughFree m n area 1
   some-free true h = λ c e. omega (arith, h c e)
@@ -122,9 +118,13 @@ module _ (m : Measures) (n : ℕ) (area : List ℕ) where
   two-free false z h = absurd (let y : _≡_ {A = ℕ} 0 1 = cc in omega arith)
 
   -- a number can be taken
-  pub takable : Whole m n area → (k : ℕ) → EnoughFree m n area (k + 1) → (k < freeCount 1 (indexIn m area)) × (unusedAt (indexIn m area) ≤ length (indexIn m area))
-  takable w k h =
-      (omega (arith, free-length m n area (w .content) (w .reads), h (w .content) (w .reads)), unused-inside m n area (w .content) (w .reads))
+  pub takable : Whole m n area → (k : ℕ) → EnoughFree m n area (k + 1) → (1 ≤ widthFor n) × (widthFor n ≤ 4) × (k < freeCount (widthFor n) (indexIn m area)) × FreeLie (widthFor n) (indexIn m area)
+  takable w k h = (
+    width-some n,
+    width-most n,
+    omega (arith, free-length m n area (w .content) (w .reads), h (w .content) (w .reads)),
+    (unused-is m n area (w .content) (w .reads), unused-inside m n area (w .content) (w .reads)),
+  )
 
   -- and its interval written
   pub writable : Fits m n (length area) → Whole m n area → (bytes lens : List ℕ) → Laid bytes lens → (k r first last long : ℕ) → EnoughFree m n area (k + 1)

@@ -13,6 +13,7 @@ ghost use Rattle.area_find.specs.AidSought.{Whole};
 ghost use Rattle.change_write.specs.AidCarried.{FreeCounted, EnoughFree, TakenStored, MadeDivided, MadeOf, MadeEdit};
 ghost use Rattle.change_write.specs.AidAsked.{PartWritable, stretch, Laid, Cuttable, separatorAt, partsAt, AllFit, Divides, Ready, Edits};
 use division::Division;
+use index_write::Cuts;
 use measures::Measures;
 
 // How many intervals were written; or why none was: too few are free, or the index record has no room.
@@ -69,7 +70,8 @@ pub(crate) fn free_count(area: &[u8], m: Measures, n: usize) -> usize
     requires { ⌜ Fits m n (length (now area)) × Whole m n (now area) ⌝ }
     ensures { λ r. ⌜ FreeCounted m n (now (area .entry)) r ⌝ }
 {
-    fields::read_two(area, 18) - 24
+    let size = m.size;
+    index_step::free_count(&area[..size], measures::width_for(n))
 }
 
 // Stores the later parts in the intervals that they take.
@@ -88,12 +90,13 @@ pub(crate) fn store_taken(
     ensures { λ _. ⌜ TakenStored m n (now (area .entry)) (pick three 2 1) (drop 1 (partsAt three first second (cut (now (bytes .entry)) (now (lens .entry))))) (now (area .exit)) ⌝ }
 {
     let size = m.size;
-    let a = index_write::taken(&area[..size], 0);
+    let w = measures::width_for(n);
+    let a = index_write::taken(&area[..size], w, 0);
     if !three {
         write_part(area, a + 1, size, bytes, lens, first, lens.len());
         return;
     }
-    let b = index_write::taken(&area[..size], 1);
+    let b = index_write::taken(&area[..size], w, 1);
     write_part(area, a + 1, size, bytes, lens, first, second);
     write_part(area, b + 1, size, bytes, lens, second, lens.len());
 }
@@ -121,29 +124,19 @@ pub(crate) fn make_divided(
     }
     let a = cut_at(bytes, lens, first, m);
     let b = cut_at(bytes, lens, second, m);
-    let from = a.from;
-    let to = a.to;
-    let from2 = b.from;
-    let to2 = b.to;
-    let mut seps = [0u8; 65536];
-    let mut widths = [0u8; 256];
-    let mut nums = [0u16; 256];
-    let new = index_write::prepare(
-        &area[..size],
-        n,
-        entry,
+    let cuts = Cuts {
         three,
-        &bytes[from..to],
-        &bytes[from2..to2],
-        &mut seps,
-        &mut widths,
-        &mut nums,
-    );
-    if size - 7 < new.size {
+        from: a.from,
+        to: a.to,
+        from2: b.from,
+        to2: b.to,
+    };
+    let needed = index_write::size_divided(&area[..size], n, entry, bytes, cuts);
+    if size - 7 < needed {
         return Made::NoRoom;
     }
     store_taken(area, m, n, bytes, lens, three, first, second);
-    index_write::write(&mut area[..size], new, &seps, &widths, &nums);
+    index_write::divide(&mut area[..size], n, entry, bytes, cuts);
     write_part(area, number + 1, size, bytes, lens, 0, first);
     Made::Written(more + 2)
 }

@@ -3,7 +3,7 @@
 ghost use Prim.Native.Nat.{_≤_};
 ghost use mathlib.Core.Path.{_≡_};
 ghost use lib.ListN.{length};
-ghost use Rattle.measures.specs.Judgement.{measures};
+ghost use Rattle.measures.specs.Judgement.{limit, measures};
 ghost use Rattle.interval.specs.Reading.{Readable};
 ghost use Rattle.index_read.specs.Check.{indexOf};
 ghost use Rattle.index_find.specs.AidLocate.{Searchable, Leads};
@@ -228,7 +228,7 @@ pub extern "C" fn belquita_index(
     free: &mut usize,
     entries: &mut usize,
 ) -> usize
-    requires { ⌜ (31 ≤ length (now ib)) × (length (now ib) ≤ 32768) × (1 ≤ key) × (key ≤ 255) × (n ≤ 256) ⌝ }
+    requires { ⌜ (31 ≤ length (now ib)) × (length (now ib) ≤ 32768) × (1 ≤ key) × (key ≤ 255) × (n ≤ limit) ⌝ }
     ensures { λ r. ⌜ values r (now (free .exit)) (now (entries .exit)) ≡ indexTold (indexOf key n (now (ib .entry))) ⌝ }
 {
     let Index::Sound {

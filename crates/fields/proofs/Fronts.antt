@@ -2,7 +2,7 @@
 use Prim.Native.Nat.{ℕ, suc, _+_, _≤_, _<_}
 use mathlib.Core.Path.{_≡_, refl, _∙_, sym}
 use mathlib.Core.Bool.{Bool, true, false}
-use mathlib.Core.List.{List, [], _∷_}
+use mathlib.Core.List.{List, [], _∷_, _++_}
 use mathlib.Core.Logic.{_⊎_, inl, inr, ⊎-elim}
 use lib.ListN.{length, getD, take, drop, drop-of-length-le}
 use lib.Seq.{drop-cons}
@@ -121,3 +121,9 @@ module _ (a b : List ℕ) (i : ℕ) (front : i ≡ common a b) where
       let n : getD a i 0 ≡ getD b i 0 → ⊥ = rw (← front) at (common-differs a b) (omega arith) (omega arith) in
       let g : getD b i 0 < getD a i 0 = ⊎-elim (λ (e : getD b i 0 ≡ getD a i 0). absurd (n (sym e))) (λ (e : getD b i 0 < getD a i 0). e) (eq-or-lt-of-le l) in
       ordered ∙ rw (drop-cons a i 0, drop-cons b i 0, le-ltb (getD a i 0) (getD b i 0) l, lt-ltb (getD b i 0) (getD a i 0) g)
+
+-- what two lists begin with alike, and what they have in common behind it
+pub common-prefix : (xs a b : List ℕ) → common (xs ++ a) (xs ++ b) ≡ length xs + common a b
+unfolding common
+common-prefix [] a b = omega arith
+common-prefix (x ∷ xs) a b = rw (eq-eqb x x refl) (omega (arith, common-prefix xs a b))

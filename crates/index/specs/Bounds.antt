@@ -1,19 +1,16 @@
 -- Separators, their bounds, and the separator of a cut: document 01, 'Index record' and 'Dividing an interval'. K is the key's length.
 use Prim.Native.Nat.{ℕ, suc, _-_, _<_, _≤_}
 use mathlib.Core.Bool.{Bool, true, false}
-use mathlib.Core.List.{List, [], _∷_, _++_}
-use lib.ListN.{length, getD, take, replicate}
+use mathlib.Core.List.{List, [], _∷_}
+use lib.ListN.{length, getD, take}
 use lib.Dec.{leb, eqb}
 use Rattle.fields.specs.Choice.{both, no}
 use Rattle.fields.specs.Order.{common}
+unfoldable pub use Rattle.interval.specs.Bounds.{bound}
 
 abbrev pub empty : List ℕ → Bool
 empty [] = true
 empty (x ∷ xs) = false
-
--- a separator's bound has K bytes: X'FF' in place of those that it lacks
-unfoldable pub bound : ℕ → List ℕ → List ℕ
-bound K sep = sep ++ replicate (K - length sep) 255
 
 -- it is no longer than a key, and its last byte is not X'FF'; the empty one has no last byte, and 0 stands for it
 unfoldable pub separator : ℕ → List ℕ → Bool

@@ -2,26 +2,26 @@
 use Prim.Native.Nat.{ℕ, zero, suc, _+_, _-_, _≤_, _<_}
 use mathlib.Core.Path.{_≡_, refl, _∙_, sym, ap}
 use mathlib.Core.Bool.{Bool, true, false}
-use mathlib.Core.List.{List, [], _∷_, _++_, append-assoc}
+use mathlib.Core.List.{List, [], _∷_}
 use lib.ListN.{length, getD, take, drop, replicate, length-replicate}
-use lib.Seq.{take-take, take-at}
 use native.Mathlib.Omega.{arith}
 use native.Mathlib.Numerals.{add-one}
 use Rattle.fields.specs.Choice.{pick}
-use Rattle.fields.specs.Bytes.{Octets, part, splice}
+use Rattle.fields.specs.Bytes.{Octets, part, number, splice}
 use Rattle.fields.specs.Order.{orderOf, isLess, less}
 use Rattle.fields.specs.declared.Order.{Order}
-use Rattle.fields.proofs.Splices.{length-splice, length-mid}
-use Rattle.index.specs.Meaning.{Entry, numbers}
-use Rattle.index.specs.Reading.{lastAt, readIndex}
+use Rattle.measures.specs.Judgement.{widthFor}
+use Rattle.measures.proofs.Width.{width-most}
+use Rattle.index.specs.Meaning.{Entry, entry, numbers}
+use Rattle.index.specs.Pieces.{spelt}
+use Rattle.index.specs.Reading.{lengthAt, pieceAt, readIndex}
 use Rattle.index.specs.Search.{leadsTo}
 use Rattle.index.proofs.Sounding.{sound-apart}
 use Rattle.index.proofs.Keeping.{Keeps, rules-apart}
 use Rattle.index.proofs.Leading.{lead-base, belongs-inside}
-use Rattle.index_read.specs.Check.{width}
-use Rattle.index_read.specs.AidParsing.{parsedOf}
-use Rattle.index_read.specs.declared.Parsed.the-variants.{Of, Bad}
-use Rattle.index_read.proofs.Stepping.{Standing, Stepped, standing-start, standing-good, standing-step, entries-count}
+use Rattle.index_step.specs.declared.Step.{Step}
+use Rattle.index_step.specs.AidStep.{frontAt, charsAt, stepAt, Lies}
+use Rattle.index_step.proofs.Stepping.{Standing, Stepped, standing-start, standing-step, entries-count, extended-front, extended-length}
 use Rattle.index_find.specs.AidLocate.{Searchable, Leads}
 
 -- the answer of a comparison
@@ -29,24 +29,32 @@ pub below-is : (a b : List ℕ) (o : Order) (t : Bool) → o ≡ orderOf a b →
 below-is a b o t e h = sym (ap isLess (sym e) ∙ h)
 
 -- A key of one byte or more leads to one of the entries.
-pub leads-inside : (ib : List ℕ) (n : ℕ) (key : List ℕ) → Searchable ib n key → Octets key → leadsTo key (readIndex width n ib .entries) < length (readIndex width n ib .entries)
+pub leads-inside : (ib : List ℕ) (n : ℕ) (key : List ℕ) → Searchable ib n key → Octets key → leadsTo key (readIndex (widthFor n) n ib .entries) < length (readIndex (widthFor n) n ib .entries)
 leads-inside ib n key g o =
-    let s = sound-apart width (length key) n [] [] ib (g .sound) in
-    let k : Keeps (length ib) (length key) n [] [] (readIndex width n ib) = rules-apart (length ib) (length key) n [] [] (readIndex width n ib) (s .rules) in
-    let es : List Entry = readIndex width n ib .entries in
+    let s = sound-apart (widthFor n) (length key) n [] [] ib (g .sound) in
+    let k : Keeps (length ib) (length key) n [] [] (readIndex (widthFor n) n ib) = rules-apart (length ib) (length key) n [] [] (readIndex (widthFor n) n ib) (s .rules) in
+    let es : List Entry = readIndex (widthFor n) n ib .entries in
     belongs-inside (length key) [] key es (leadsTo key es) (lead-base (length key) key refl o es (g .some) (k .rising) (k .closing))
 
 -- How far the search has come: it stands before entry i, and buf begins with the separator before.
-pub record State (ib : List ℕ) (n : ℕ) (key buf : List ℕ) (len r i : ℕ) : Type 0 where
+pub record State (ib : List ℕ) (n : ℕ) (key buf : List ℕ) (r i : ℕ) : Type 0 where
+  pub len : ℕ
   pub ref : List ℕ
-  pub standing : Standing width (length key) n ib i r len ref
+  pub standing : Standing (widthFor n) (length key) n ib i r len ref
   pub whole : length buf ≡ 255
   pub front : take len buf ≡ ref
-  pub same : leadsTo key (readIndex width n ib .entries) ≡ i + leadsTo key (drop i (readIndex width n ib .entries))
+  pub same : leadsTo key (readIndex (widthFor n) n ib .entries) ≡ i + leadsTo key (drop i (readIndex (widthFor n) n ib .entries))
 
-pub start : (ib : List ℕ) (n : ℕ) (key : List ℕ) → Searchable ib n key → State ib n key (replicate 255 0) 0 (length ib - 7) 0
+pub start : (ib : List ℕ) (n : ℕ) (key : List ℕ) → Searchable ib n key → State ib n key (replicate 255 0) (length ib - 7) 0
 start ib n key g =
-    record { ref = []; standing = standing-start width (length key) n ib (g .sound); whole = length-replicate {A = ℕ} 255 0; front = refl; same = omega arith }
+    record {
+      len = 0;
+      ref = [];
+      standing = standing-start (widthFor n) (length key) n ib (g .short) (g .sound);
+      whole = length-replicate {A = ℕ} 255 0;
+      front = refl;
+      same = omega arith;
+    }
 
 number-there : (es : List Entry) (i : ℕ) (x : Entry) (ys : List Entry) → drop i es ≡ x ∷ ys → getD (numbers es) i 0 ≡ x .num
 number-there [] zero x ys h = absurd (let z : _≡_ {A = ℕ} 0 1 = cc in omega arith)
@@ -54,83 +62,81 @@ number-there [] (suc i) x ys h = absurd (let z : _≡_ {A = ℕ} 0 1 = cc in ome
 number-there (e ∷ es) zero x ys h = let a : e ≡ x = cc in rw a
 number-there (e ∷ es) (suc i) x ys h = number-there es i x ys h
 
-module _ (ib : List ℕ) (n : ℕ) (key buf : List ℕ) (len r i : ℕ) (g : Searchable ib n key) (o : Octets key) (st : State ib n key buf len r i) where
+module _ (ib : List ℕ) (n : ℕ) (key buf : List ℕ) (r i : ℕ) (g : Searchable ib n key) (o : Octets key) (st : State ib n key buf r i) where
+  abbrev w : ℕ
+  w = widthFor n
+
   abbrev es : List Entry
-  es = readIndex width n ib .entries
+  es = readIndex (widthFor n) n ib .entries
 
   more : i < length es
   more = omega (arith, leads-inside ib n key g o, st .same)
 
   -- it never runs out
   pub not-past : n ≤ i → ⊥
-  not-past h = omega (arith, more, entries-count width n ib)
+  not-past h = omega (arith, more, entries-count w n ib)
 
-  pub not-bad : (e : ℕ) → e ≡ lastAt ib → parsedOf width ib r e len (length key) ≡ Bad → ⊥
-  not-bad e q h = standing-good width (length key) n ib i r len (st .ref) (st .standing) more (rw q at h)
+  step : Stepped w (length key) n ib i r (st .len) (st .ref)
+  step = standing-step w (length key) n ib i r (st .len) (st .ref) (st .standing) more
 
-  module _ (e : ℕ) (q : e ≡ lastAt ib) (f l at num : ℕ) (parsed : parsedOf width ib r e len (length key) ≡ Of f l at num) where
-    pub step : Stepped width (length key) n ib i r len (st .ref) f l at num
-    step = standing-step width (length key) n ib i r len (st .ref) (st .standing) more f l at num (rw q at parsed)
+  abbrev F : ℕ
+  F = frontAt (widthFor n) ib r
 
-    chars : length (part ib at l) ≡ l
-    chars = length-mid ib at l (step .inside)
+  abbrev L : ℕ
+  L = lengthAt (widthFor n) ib r
 
-    -- for the calls
-    pub copy-fits : f + length (take (at + l - at) (drop at ib)) ≤ length buf
-    copy-fits =
-        let z : at + l - at ≡ l = omega arith in
-        rw (z, chars) (omega (arith, step .good .fits, g .short, st .whole))
+  abbrev sep : List ℕ
+  sep = spelt (st .ref) (pieceAt (widthFor n) ib r)
 
-    pub fits-key : f + l ≤ length key
-    fits-key = step .good .fits
+  -- for the calls
+  pub entry-lies : Lies (widthFor n) ib r
+  entry-lies = (width-most n, st .standing .lie .inside, step .room)
 
-    abbrev sep : List ℕ
-    sep = take f (st .ref) ++ part ib at l
+  pub extend-fits : (s : Step) → s ≡ stepAt (widthFor n) ib r → (s .front + s .len ≤ length buf) × (s .at + s .len ≤ length ib)
+  extend-fits s e = rw e (omega (arith, step .fits, g .short, st .whole), step .inside)
 
-    module _ (new : List ℕ) (is : new ≡ splice buf f (take (at + l - at) (drop at ib))) where
-      copied : new ≡ splice buf f (part ib at l)
-      copied = let z : at + l - at ≡ l = omega arith in is ∙ rw z
+  pub below-fits : (s : Step) → s ≡ stepAt (widthFor n) ib r → s .front + s .len ≤ length key
+  below-fits s e = rw e (step .fits)
 
-      pub whole-on : length new ≡ 255
-      whole-on =
-          let b : f + l ≤ length buf = omega (arith, fits-key, g .short, st .whole) in
-          ap length copied ∙ length-splice buf f (part ib at l) (omega (arith, chars)) ∙ st .whole
+  module _ (s : Step) (e : s ≡ stepAt (widthFor n) ib r) (new : List ℕ) (is : new ≡ splice buf (s .front) (part ib (s .at) (s .len))) where
+    is' : new ≡ splice buf F (part ib (charsAt w ib r) L)
+    is' = rw e at is
 
-      front-same : take f buf ≡ take f (st .ref)
-      front-same =
-          let h : f ≤ len = step .good .front in
-          sym (take-take f len buf h) ∙ rw (st .front)
+    pub whole-on : length new ≡ 255
+    whole-on =
+        extended-length ib buf new (st .ref) (st .len) F L (charsAt w ib r) (st .front) (step .front) (omega (arith, step .fits, g .short, st .whole)) (step .inside) is'
+        ∙ st .whole
 
-      sep-long : length sep ≡ f + l
-      sep-long = step .next .long
+    front-on : take (F + L) new ≡ sep
+    front-on =
+        extended-front ib buf new (st .ref) (st .len) F L (charsAt w ib r) (st .front) (step .front) (omega (arith, step .fits, g .short, st .whole)) (step .inside) is'
 
-      pub front-on : take (f + l) new ≡ sep
-      unfolding splice
-      front-on =
-          rw (copied, front-same)
-          (ap (λ (x : List ℕ). take (f + l) x) (sym (append-assoc (take f (st .ref)) (part ib at l) _)) ∙ take-at sep _ (f + l) sep-long)
+    -- the test, in the definition's words
+    tested : leadsTo key es ≡ i + pick (less (take (F + L) new) (take (F + L) key)) (suc (leadsTo key (drop (suc i) es))) 0
+    unfolding leadsTo
+    tested = st .same ∙ rw (step .here, step .next .long, front-on)
 
-      -- the test, in the definition's words
-      tested : leadsTo key es ≡ i + pick (less (take (f + l) new) (take (f + l) key)) (suc (leadsTo key (drop (suc i) es))) 0
-      unfolding leadsTo
-      tested = st .same ∙ rw (step .entry, sep-long, front-on)
+    pub found : false ≡ less (take (s .front + s .len) new) (take (s .front + s .len) key) → Leads ib n key (record { ordinal = i; number = s .number })
+    found h =
+        let h' : false ≡ less (take (F + L) new) (take (F + L) key) = rw e at h in
+        let z : leadsTo key es ≡ i = tested ∙ rw (← h') (omega arith) in
+        rw e
+        (record {
+          ordinal = sym z;
+          number = rw z (sym (number-there es i (entry sep (number w ib (r - w))) (drop (suc i) es) (step .here)));
+          inside = more;
+          within = step .within;
+        })
 
-      pub found : false ≡ less (take (f + l) new) (take (f + l) key) → Leads ib n key (record { ordinal = i; number = num })
-      found h =
-          let z : leadsTo key es ≡ i = tested ∙ rw (← h) (omega arith) in
-          record {
-            ordinal = sym z;
-            number = rw z (sym (number-there es i (record { sep = sep; num = num }) (drop (suc i) es) (step .entry)));
-            inside = more;
-            within = step .within;
-          }
-
-      pub onward : true ≡ less (take (f + l) new) (take (f + l) key) → State ib n key new (f + l) at (i + 1)
-      onward h =
-          record {
-            ref = sep;
-            standing = rw (add-one i) (step .next);
-            whole = whole-on;
-            front = front-on;
-            same = tested ∙ rw (← h, add-one i) (omega arith);
-          }
+    pub onward : true ≡ less (take (s .front + s .len) new) (take (s .front + s .len) key) → State ib n key new (s .at) (i + 1)
+    onward h =
+        let h' : true ≡ less (take (F + L) new) (take (F + L) key) = rw e at h in
+        rw (e, add-one i)
+        (record {
+          len = F + L;
+          ref = sep;
+          standing = step .next;
+          whole = whole-on;
+          front = front-on;
+          same = tested ∙ rw (← h') (omega arith);
+        })

@@ -5,7 +5,6 @@ ghost use lib.ListN.{length, take};
 ghost use Rattle.fields.specs.Order.{less};
 ghost use Rattle.index_find.specs.AidLocate.{Searchable, Leads};
 use fields::Order;
-use index_read::Parsed;
 
 // The entry that a key leads to: its place among the entries, from 0, and the number of its interval.
 pub struct Located {
@@ -25,36 +24,25 @@ pub(crate) fn is_below(buf: &[u8], key: &[u8], len: usize) -> bool
 }
 
 // The first entry whose separator is not below as many bytes of the key, in a sound index record of n intervals. Such a
-// record's entries can all be taken apart, and the empty separator of the last stops every key, so the loop never runs out.
+// record's entries all lie where the step looks, and the empty separator of the last stops every key, so the loop never runs out.
 pub fn locate(ib: &[u8], n: usize, key: &[u8]) -> Located
     requires { ⌜ Searchable (now ib) n (now key) ⌝ }
     ensures { λ r. ⌜ Leads (now (ib .entry)) n (now (key .entry)) r ⌝ }
 {
-    let last = fields::read_two(ib, 20);
+    let w = measures::width_for(n);
     let mut buf = [0u8; 255];
-    let mut len = 0;
     let mut r = ib.len() - 7;
     let mut i = 0;
     while i < n {
-        let Parsed::Of {
-            front,
-            len: l,
-            at,
-            number,
-        } = index_read::piece_at(ib, index_read::WIDTH, r, last, len, key.len())
-        else {
-            break;
-        };
-        let z = at + l;
-        fields::copy(&mut buf, front, &ib[at..z]);
-        len = front + l;
-        if !is_below(&buf, key, len) {
+        let s = index_step::entry_at(ib, w, r);
+        index_step::extend(&mut buf, s.front, ib, s.at, s.len);
+        if !is_below(&buf, key, s.front + s.len) {
             return Located {
                 ordinal: i,
-                number: number,
+                number: s.number,
             };
         }
-        r = at;
+        r = s.at;
         i += 1;
     }
     Located {

@@ -1,22 +1,22 @@
--- Laws of one entry: how it is taken apart, and the buffer that holds its separator or its bound.
-use Prim.Native.Nat.{ℕ, suc, _+_, _-_, _≤_, _<_, min}
+-- Laws of one entry: how it is taken apart, and the buffer that holds its separator.
+use Prim.Native.Nat.{ℕ, _+_, _-_, _≤_, _<_, min}
 use mathlib.Core.Path.{_≡_, refl, _∙_, sym, ap}
 use mathlib.Core.Bool.{Bool, true, false}
-use mathlib.Core.List.{List, _∷_, _++_, append-assoc}
-use lib.ListN.{length, getD, take, drop, replicate, length-append, length-replicate, length-take, length-drop}
-use lib.Seq.{length-take-le, take-take, take-at, take-append-le, getD-take}
+use mathlib.Core.List.{List, _++_, append-assoc}
+use lib.ListN.{length, getD, take, drop, length-append, length-take, length-drop}
+use lib.Seq.{length-take-le, take-at, getD-take}
 use lib.Dec.{leb}
 use native.Mathlib.Omega.{arith}
 use borrow.Author.Tests.{le-leb, lt-leb, leb-true, leb-false}
 use Rattle.fields.specs.Choice.{pick, both}
 use Rattle.fields.specs.Bytes.{part, number, splice}
 use Rattle.fields.proofs.Choices.{both-split, off}
-use Rattle.fields.proofs.Splices.{splice-after, length-splice, length-mid}
-use Rattle.index.specs.Bounds.{bound}
+use Rattle.fields.proofs.Splices.{length-splice, length-mid}
 use Rattle.index.specs.Pieces.{Piece, pieceSize}
-use Rattle.index.specs.Reading.{lengthAt, pieceAt, piecesAt}
-use Rattle.index.proofs.Bounds.{length-bound}
-use Rattle.index_read.specs.AidParsing.{frontAt, charsAt, parses, parsedOf}
+use Rattle.index.specs.Reading.{lengthAt, pieceAt}
+use Rattle.index_step.specs.declared.Step.{Step}
+use Rattle.index_step.specs.AidStep.{frontAt, charsAt, stepAt}
+use Rattle.index_read.specs.AidParsing.{parses, parsedOf}
 use Rattle.index_read.specs.declared.Parsed.the-variants.{Of, Bad}
 
 -- ---- an entry taken apart
@@ -73,10 +73,10 @@ module _ (w : ℕ) (ib : List ℕ) (r edge len K : ℕ) where
   no-fit f l e g h = parsed-off (λ p. omega (arith, parses-apart p .2))
 
   -- and the way on
-  pub parsed-on : (f l num : ℕ) → f ≡ F → l ≡ L → num ≡ number w ib (r - w) → edge + (w + 2 + l) ≤ r → f ≤ len → f + l ≤ K
-      → Of f l (r - (w + 2 + l)) num ≡ parsedOf w ib r edge len K
+  pub parsed-on : (st : Step) → st ≡ stepAt w ib r → edge + (w + 2 + L) ≤ r → st .front ≤ len → st .front + st .len ≤ K
+      → Of (st .front) (st .len) (st .at) (st .number) ≡ parsedOf w ib r edge len K
   unfolding parsedOf
-  parsed-on f l num e g n h i j = rw (e, g, n) (sym (rw (parses-joined (rw g at h) (rw e at i) (rw (e, g) at j))))
+  parsed-on st e h i j = rw e (sym (rw (parses-joined h (rw e at i) (rw e at j))))
 
   -- what a good answer says
   pub good : (f l at num : ℕ) → parsedOf w ib r edge len K ≡ Of f l at num → Good w ib r edge len K f l at num
@@ -126,37 +126,7 @@ module _ (w : ℕ) (ib : List ℕ) (r edge len K f l at num : ℕ) (g : Good w i
   pub place-is : r - pieceSize w (pieceAt w ib r) ≡ at
   place-is = omega (arith, size-is, g .at-is, g .len-is)
 
--- the pieces from r on: the first, and the others
-pub pieces-next : (w : ℕ) (ib : List ℕ) (r left : ℕ) → 0 < left
-    → piecesAt w ib r left ≡ pieceAt w ib r ∷ piecesAt w ib (r - pieceSize w (pieceAt w ib r)) (left - 1)
-unfolding piecesAt
-pieces-next w ib r left h =
-    let e : left ≡ suc (left - 1) = omega arith in
-    ap (λ (z : ℕ). piecesAt w ib r z) e
-
--- ---- the buffer that holds a bound
-
--- The front of what follows a separator's bound is a front of the separator.
-pub held-front : (K : ℕ) (buf ref : List ℕ) (f : ℕ) → take K buf ≡ bound K ref → length ref ≤ K → f ≤ length ref → take f buf ≡ take f ref
-unfolding bound
-held-front K buf ref f h k l =
-    let k' : f ≤ K = omega arith in
-    sym (take-take f K buf k') ∙ ap (λ (x : List ℕ). take f x) h ∙ take-append-le f ref _ l
-
--- A buffer that was renewed holds the bound of the new separator, and is as long as before.
-module _ (K : ℕ) (buf chars new : List ℕ) (f l : ℕ) (fits : f + l ≤ K) (whole : K ≤ length buf) (long : length chars ≡ l)
-    (is : new ≡ bound K (take f buf ++ chars) ++ drop K buf) where
-  next-length : length (take f buf ++ chars) ≡ f + l
-  next-length = omega (arith, length-append (take f buf) chars, length-take-le f buf (omega arith), long)
-
-  bound-length : length (bound K (take f buf ++ chars)) ≡ K
-  bound-length = length-bound K (take f buf ++ chars) (omega (arith, next-length))
-
-  pub renewed-held : take K new ≡ bound K (take f buf ++ chars)
-  renewed-held = rw is (take-at (bound K (take f buf ++ chars)) (drop K buf) K bound-length)
-
-  pub renewed-length : length new ≡ length buf
-  renewed-length = ap length is ∙ omega (arith, length-append (bound K (take f buf ++ chars)) (drop K buf), bound-length, length-drop K buf)
+-- ---- the buffer that holds a separator
 
 -- A buffer that was extended begins with the new separator, and is as long as before.
 module _ (buf chars new : List ℕ) (f l : ℕ) (fits : f + l ≤ length buf) (long : length chars ≡ l) (is : new ≡ splice buf f chars) where
@@ -168,20 +138,6 @@ module _ (buf chars new : List ℕ) (f l : ℕ) (fits : f + l ≤ length buf) (l
 
   pub extended-length : length new ≡ length buf
   extended-length = ap length is ∙ length-splice buf f chars (omega arith)
-
--- The two stores that renew it.
-pub renewed-by : (buf ib b1 b2 : List ℕ) (f l at K : ℕ) → f + l ≤ K → K ≤ length buf → at + l ≤ length ib → b1 ≡ splice buf f (part ib at l)
-    → b2 ≡ splice b1 (f + l) (replicate (K - (f + l)) 255) → b2 ≡ bound K (take f buf ++ part ib at l) ++ drop K buf
-unfolding bound splice
-renewed-by buf ib b1 b2 f l at K h i j e g =
-    let n : length (part ib at l) ≡ l = length-mid ib at l j in
-    let m : length {A = ℕ} (replicate (K - (f + l)) 255) ≡ K - (f + l) = length-replicate (K - (f + l)) 255 in
-    let t : length (take f buf) ≡ f = length-take-le f buf (omega arith) in
-    let x : List ℕ = part ib at l ++ replicate (K - (f + l)) 255 in
-    let s : b2 ≡ splice buf f x = g ∙ rw e (splice-after buf f (f + l) (part ib at l) (replicate (K - (f + l)) 255) (omega arith) (omega arith)) in
-    let k : f + length x ≡ K = omega (arith, length-append (part ib at l) (replicate (K - (f + l)) 255)) in
-    let v : length (take f buf ++ part ib at l) ≡ f + l = omega (arith, length-append (take f buf) (part ib at l)) in
-    s ∙ rw (k, v) (simp append-assoc)
 
 -- ---- the last byte
 

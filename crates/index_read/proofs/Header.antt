@@ -1,5 +1,5 @@
 -- Laws of the header: its values, the base RBA, and the displacements as far as they show before the walk.
-use Prim.Native.Nat.{ℕ, zero, suc, _+_, _-_, _*_, _/_, _%_, _^_, _≤_, _<_}
+use Prim.Native.Nat.{ℕ, zero, suc, _+_, _-_, _*_, _%_, _^_, _≤_, _<_}
 use mathlib.Core.Path.{_≡_, refl, _∙_, sym}
 use mathlib.Core.Bool.{Bool, true, false}
 use mathlib.Core.List.{List}
@@ -12,6 +12,7 @@ use borrow.Author.Tests.{eq-eqb, lt-ltb, le-leb, eqb-true, ltb-true, leb-true}
 use Rattle.fields.specs.Choice.{pick}
 use Rattle.fields.specs.Bytes.{part, number}
 use Rattle.fields.proofs.Choices.{both-split, off}
+use Rattle.measures.specs.Judgement.{limit}
 use Rattle.index.specs.Rules.{baseFine}
 use Rattle.index.specs.Reading.{unusedAt, lastAt, sectionAt, freeCount, frame}
 use Rattle.index.proofs.Sounding.{Framed, frame-apart}
@@ -66,7 +67,7 @@ base-kept b = rw (kept-at b 0 (omega arith), kept-at b 1 (omega arith), kept-at 
 pub base-is : (b : List ℕ) (n x : ℕ) → x ≡ number 4 b 4 → leb (x + n * length b) 4294967296 ≡ baseFine (length b) n (part b 4 12)
 base-is b n x e = rw (e, base-kept b)
 
-pub product-small : (n s : ℕ) → n ≤ 256 → s ≤ 32768 → n * s ≤ 8388608
+pub product-small : (n s : ℕ) → n ≤ limit → s ≤ 32768 → n * s ≤ 8388608
 product-small n s h k = let m : n * s ≤ 256 * 32768 = mul-le-mul h k in omega arith
 
 -- ---- the displacements
@@ -109,29 +110,23 @@ pub no-place : (w n : ℕ) (ib : List ℕ) → (Lies w n ib → ⊥) → Nowhere
 unfolding placesOf
 no-place w n ib h = sym (rw (off (liesWell w n ib) (λ p. h (lies-apart w n ib p))))
 
--- The count as the code has it.
-pub count-is : (w u : ℕ) (ib : List ℕ) → u ≡ unusedAt ib → (u - 24) / w ≡ freeCount w ib
-count-is w u ib e = rw e
-
-pub count-small : (w u : ℕ) → w * ((u - 24) / w) ≤ u
-count-small w u = omega (arith, mul-div-le (u - 24) w)
+-- The numbers that are counted fill no more than the bytes up to the unused space.
+pub count-small : (w : ℕ) (ib : List ℕ) (f : ℕ) → f ≡ freeCount w ib → w * f ≤ unusedAt ib
+count-small w ib f e = rw e (omega (arith, mul-div-le (unusedAt ib - 24) w))
 
 -- the tests that fail, each by what it says of the fields
 module _ (w n : ℕ) (ib : List ℕ) (u e : ℕ) (u-is : u ≡ unusedAt ib) (e-is : e ≡ lastAt ib) where
-  c-is : (u - 24) / w ≡ freeCount w ib
-  c-is = count-is w u ib u-is
-
   pub no-section : (x : ℕ) → x ≡ sectionAt ib → (x ≡ e → ⊥) → Nowhere ≡ placesOf w n ib
   no-section x q h = no-place w n ib (λ l. h (q ∙ l .section ∙ sym e-is))
 
   pub no-header : u < 24 → Nowhere ≡ placesOf w n ib
   no-header h = no-place w n ib (λ l. omega (arith, l .unused))
 
-  pub no-number : (24 + w * ((u - 24) / w) ≡ u → ⊥) → Nowhere ≡ placesOf w n ib
-  no-number h = no-place w n ib (λ l. h (rw c-is (l .unused ∙ sym u-is)))
+  pub no-number : (f : ℕ) → f ≡ freeCount w ib → (24 + w * f ≡ u → ⊥) → Nowhere ≡ placesOf w n ib
+  no-number f c-is h = no-place w n ib (λ l. h (rw c-is (l .unused ∙ sym u-is)))
 
-  pub no-entry : n ≤ (u - 24) / w → Nowhere ≡ placesOf w n ib
-  no-entry h = no-place w n ib (λ l. omega (arith, l .some, c-is))
+  pub no-entry : (f : ℕ) → f ≡ freeCount w ib → n ≤ f → Nowhere ≡ placesOf w n ib
+  no-entry f c-is h = no-place w n ib (λ l. omega (arith, l .some, c-is))
 
   pub no-gap : e < u → Nowhere ≡ placesOf w n ib
   no-gap h = no-place w n ib (λ l. omega (arith, l .order))
@@ -139,10 +134,10 @@ module _ (w n : ℕ) (ib : List ℕ) (u e : ℕ) (u-is : u ≡ unusedAt ib) (e-i
   pub no-space : length ib - 7 < e → Nowhere ≡ placesOf w n ib
   no-space h = no-place w n ib (λ l. omega (arith, l .inside))
 
-  pub some-place : (x : ℕ) → x ≡ sectionAt ib → x ≡ e → 24 + w * ((u - 24) / w) ≡ u → (u - 24) / w < n → u ≤ e → e ≤ length ib - 7
-      → At ((u - 24) / w) e ≡ placesOf w n ib
+  pub some-place : (f : ℕ) → f ≡ freeCount w ib → (x : ℕ) → x ≡ sectionAt ib → x ≡ e → 24 + w * f ≡ u → f < n → u ≤ e → e ≤ length ib - 7
+      → At f e ≡ placesOf w n ib
   unfolding placesOf
-  some-place x q a b c d f =
+  some-place f c-is x q a b c d g =
       let l : Lies w n ib = record {
         section = sym q ∙ a ∙ e-is;
         unused = rw (c-is, u-is) at b;

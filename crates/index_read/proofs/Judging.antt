@@ -10,6 +10,7 @@ use borrow.Author.Tests.{eq-eqb, le-leb}
 use Rattle.fields.specs.Choice.{both}
 use Rattle.fields.specs.Bytes.{part}
 use Rattle.fields.proofs.Choices.{false-true, both-false, both-split, off}
+use Rattle.measures.specs.Judgement.{limit}
 use Rattle.index.specs.Meaning.{Entry}
 use Rattle.index.specs.Rules.{rises, closed, baseFine, keepsRules}
 use Rattle.index.specs.Pieces.{Piece, spell, frontsFit, pieceSize, piecesSize, lastChars}
@@ -18,16 +19,16 @@ use Rattle.index.proofs.Sounding.{sound-apart}
 use Rattle.index.proofs.Keeping.{Keeps, rules-apart}
 use Rattle.index.proofs.Closing.{closed-last, basePlaces, sound-base}
 use Rattle.index.proofs.Apart.{length-numbersAt, length-piecesAt, entries-are}
-use Rattle.index_read.specs.Check.{width, indexOf}
+use Rattle.index_read.specs.Check.{indexBy}
 use Rattle.index_read.specs.AidWalk.{placesOf, chain, pieceNumbers, marking, seenAfter, emptyMarks, freeAll, usedAll, fineFrom}
 use Rattle.index_read.specs.declared.Marks.{Marks}
 use Rattle.index_read.specs.declared.Index.the-variants.{Sound, Unsound}
 use Rattle.index_read.specs.declared.Places.the-variants.{At, Nowhere}
-use Rattle.index_read.proofs.Entry.{pieces-next}
+use Rattle.index_step.proofs.Walking.{pieces-next}
 use Rattle.index_read.proofs.Header.{Lies, place-good, place-bad}
 use Rattle.index_read.proofs.Chain.{chain-is, numbers-spelt, length-spelt}
 use Rattle.index_read.proofs.Marking.{named-by-marks, marking-append}
-use Rattle.index_read.proofs.Stepping.{entries-count}
+use Rattle.index_step.proofs.Stepping.{entries-count}
 
 -- the tests in the walk's order
 arrange : (p f r c m₁ m₂ : Bool) → both p (both f (both r (both c (both m₁ m₂)))) ≡ both m₁ (both (both p (both f (both r c))) m₂)
@@ -58,7 +59,7 @@ module _ (w K n : ℕ) (ib : List ℕ) where
         inside = omega (arith, s .placed .last);
       }
 
-  module _ (f : frame w ib ≡ true) (b : baseFine (length ib) n (part ib 4 12) ≡ true) (l : Lies w n ib) (big : n ≤ 256) where
+  module _ (f : frame w ib ≡ true) (b : baseFine (length ib) n (part ib 4 12) ≡ true) (l : Lies w n ib) (big : n ≤ limit) where
     abbrev R : ℕ
     R = length ib - 7
 
@@ -75,7 +76,7 @@ module _ (w K n : ℕ) (ib : List ℕ) where
     fr = numbersAt w ib 24 (freeCount w ib)
 
     abbrev zeros : List ℕ
-    zeros = replicate 256 0
+    zeros = replicate limit 0
 
     pieces-are : piecesIn w n ib ≡ ps
     unfolding piecesIn
@@ -121,35 +122,35 @@ module _ (w K n : ℕ) (ib : List ℕ) where
 
 -- ---- the ways out
 
-module _ (K n : ℕ) (ib : List ℕ) where
-  pub unsound : (soundIndex width K n [] [] ib ≡ true → ⊥) → Unsound ≡ indexOf K n ib
-  unfolding indexOf
-  unsound h = sym (rw (off (soundIndex width K n [] [] ib) h))
+module _ (w K n : ℕ) (ib : List ℕ) where
+  pub unsound : (soundIndex w K n [] [] ib ≡ true → ⊥) → Unsound ≡ indexBy w K n ib
+  unfolding indexBy
+  unsound h = sym (rw (off (soundIndex w K n [] [] ib) h))
 
-  pub no-frame : false ≡ frame width ib → Unsound ≡ indexOf K n ib
+  pub no-frame : false ≡ frame w ib → Unsound ≡ indexBy w K n ib
   unfolding soundIndex
-  no-frame h = unsound (λ p. false-true (h ∙ both-split (frame width ib) _ p .0))
+  no-frame h = unsound (λ p. false-true (h ∙ both-split (frame w ib) _ p .0))
 
-  pub no-base : false ≡ baseFine (length ib) n (part ib 4 12) → Unsound ≡ indexOf K n ib
+  pub no-base : false ≡ baseFine (length ib) n (part ib 4 12) → Unsound ≡ indexBy w K n ib
   unfolding readIndex
-  no-base h = unsound (λ p. false-true (h ∙ rules-apart (length ib) K n [] [] (readIndex width n ib) (sound-apart width K n [] [] ib p .rules) .base))
+  no-base h = unsound (λ p. false-true (h ∙ rules-apart (length ib) K n [] [] (readIndex w n ib) (sound-apart w K n [] [] ib p .rules) .base))
 
-  pub no-places : placesOf width n ib ≡ Nowhere → Unsound ≡ indexOf K n ib
-  no-places h = unsound (λ p. place-bad width n ib h (sound-lies width K n ib p))
+  pub no-places : placesOf w n ib ≡ Nowhere → Unsound ≡ indexBy w K n ib
+  no-places h = unsound (λ p. place-bad w n ib h (sound-lies w K n ib p))
 
-  module _ (f : true ≡ frame width ib) (b : true ≡ baseFine (length ib) n (part ib 4 12)) (big : n ≤ 256) (c e : ℕ) (at : placesOf width n ib ≡ At c e) where
-    l : Lies width n ib
-    l = place-good width n ib c e at .0
+  module _ (f : true ≡ frame w ib) (b : true ≡ baseFine (length ib) n (part ib 4 12)) (big : n ≤ limit) (c e : ℕ) (at : placesOf w n ib ≡ At c e) where
+    l : Lies w n ib
+    l = place-good w n ib c e at .0
 
-    c-is : c ≡ freeCount width ib
-    c-is = place-good width n ib c e at .1
+    c-is : c ≡ freeCount w ib
+    c-is = place-good w n ib c e at .1
 
     e-is : e ≡ lastAt ib
-    e-is = place-good width n ib c e at .2
+    e-is = place-good w n ib c e at .2
 
     -- for the calls
-    pub free-inside : 31 ≤ length ib → 24 + width * c ≤ length ib
-    free-inside h = omega (arith, l .unused, l .order, l .inside, c-is)
+    pub free-inside : 31 ≤ length ib → 24 + w * c ≤ length ib
+    free-inside h = omega (arith, l .unused, l .order, l .inside, ap (λ (x : ℕ). w * x) c-is)
 
     pub free-few : c ≤ n
     free-few = omega (arith, l .some, c-is)
@@ -158,19 +159,19 @@ module _ (K n : ℕ) (ib : List ℕ) where
     last-small h = omega (arith, l .inside, e-is)
 
     abbrev free : List ℕ
-    free = numbersAt width ib 24 c
+    free = numbersAt w ib 24 c
 
     abbrev used : List ℕ
-    used = pieceNumbers (piecesAt width ib (length ib - 7) (n - c))
+    used = pieceNumbers (piecesAt w ib (length ib - 7) (n - c))
 
     abbrev none : List ℕ
-    none = replicate 256 0
+    none = replicate limit 0
 
-    by : soundIndex width K n [] [] ib ≡ both (marking n none free) (fineFrom width K n e ib (seenAfter none free) [] [] (length ib - 7) (n - c))
-    by = rw (c-is, e-is) (sound-by width K n ib (sym f) (sym b) l big)
+    by : soundIndex w K n [] [] ib ≡ both (marking n none free) (fineFrom w K n e ib (seenAfter none free) [] [] (length ib - 7) (n - c))
+    by = rw (c-is, e-is) (sound-by w K n ib (sym f) (sym b) l big)
 
     module _ (m₀ : Marks) (em : m₀ ≡ emptyMarks) where
-      pub no-free : false ≡ marking n (m₀ .seen) free → Unsound ≡ indexOf K n ib
+      pub no-free : false ≡ marking n (m₀ .seen) free → Unsound ≡ indexBy w K n ib
       no-free h = unsound (λ p. false-true (h ∙ ap (λ (m : Marks). marking n (m .seen) free) em ∙ both-split (marking n none free) _ (sym by ∙ p) .0))
 
       module _ (ok₁ : true ≡ marking n (m₀ .seen) free) (m₁ : Marks) (fm : m₁ ≡ freeAll m₀ free) where
@@ -183,17 +184,17 @@ module _ (K n : ℕ) (ib : List ℕ) where
         marks-on : marking n none free ≡ true
         marks-on = ap (λ (m : Marks). marking n (m .seen) free) (sym em) ∙ sym ok₁
 
-        by-walk : soundIndex width K n [] [] ib ≡ fineFrom width K n e ib (m₁ .seen) [] [] (length ib - 7) (n - c)
+        by-walk : soundIndex w K n [] [] ib ≡ fineFrom w K n e ib (m₁ .seen) [] [] (length ib - 7) (n - c)
         by-walk = by ∙ rw (marks-on, ← seen₁)
 
-        pub no-chain : false ≡ fineFrom width K n e ib (m₁ .seen) [] [] (length ib - 7) (n - c) → Unsound ≡ indexOf K n ib
+        pub no-chain : false ≡ fineFrom w K n e ib (m₁ .seen) [] [] (length ib - 7) (n - c) → Unsound ≡ indexBy w K n ib
         no-chain h = unsound (λ p. false-true (h ∙ sym by-walk ∙ p))
 
-        module _ (ok₂ : true ≡ fineFrom width K n e ib (m₁ .seen) [] [] (length ib - 7) (n - c)) (m₂ : Marks) (um : m₂ ≡ usedAll m₁ used) where
-          pub all-fine : Sound (m₂ .free) (m₂ .used) ≡ indexOf K n ib
-          unfolding indexOf readIndex piecesIn
+        module _ (ok₂ : true ≡ fineFrom w K n e ib (m₁ .seen) [] [] (length ib - 7) (n - c)) (m₂ : Marks) (um : m₂ ≡ usedAll m₁ used) where
+          pub all-fine : Sound (m₂ .free) (m₂ .used) ≡ indexBy w K n ib
+          unfolding indexBy readIndex piecesIn
           all-fine =
-              let s : soundIndex width K n [] [] ib ≡ true = by-walk ∙ sym ok₂ in
+              let s : soundIndex w K n [] [] ib ≡ true = by-walk ∙ sym ok₂ in
               let a : m₂ .free ≡ length free = ap (λ (m : Marks). m .free) um ∙ ap (λ (m : Marks). m .free) fm ∙ ap (λ (m : Marks). m .free + length free) em ∙ omega arith in
               let d : m₂ .used ≡ length used = ap (λ (m : Marks). m .used) um ∙ rw counts (omega arith) in
-              rw (a, d) (sym (rw (s, ← c-is, length-spelt [] (piecesAt width ib (length ib - 7) (n - c)))))
+              rw (a, d) (sym (rw (s, ← c-is, length-spelt [] (piecesAt w ib (length ib - 7) (n - c)))))

@@ -4,7 +4,7 @@ pub mod Header
 pub mod Next
 pub mod Chain
 pub mod Marking
-pub mod Stepping
+pub mod Linking
 pub mod Walking
 pub mod Judging
 pub mod Answers

@@ -15,6 +15,7 @@ use Rattle.fields.specs.Choice.{both}
 use Rattle.fields.specs.Bytes.{number}
 use Rattle.fields.specs.Lists.{every}
 use Rattle.fields.proofs.Choices.{false-true, both-false}
+use Rattle.measures.specs.Judgement.{limit}
 use Rattle.index.specs.Meaning.{count, below, once, namedOnce}
 use Rattle.index.specs.Reading.{numbersAt}
 use Rattle.index.proofs.Counting.{count-same, count-other}
@@ -23,7 +24,7 @@ use Rattle.index_read.specs.AidWalk.{marking, seenAfter, freeAll}
 use Rattle.index_read.specs.declared.Marks.{Marks}
 
 record Sane (m : List ℕ) : Type 0 where
-  whole : length m ≡ 256
+  whole : length m ≡ limit
   small : (k : ℕ) → getD m k 0 ≤ 1
 
 record Kept (n : ℕ) (m xs r : List ℕ) : Type 0 where
@@ -38,7 +39,7 @@ record Says (n : ℕ) (m xs : List ℕ) (ok : Bool) (r : List ℕ) : Type 0 wher
   good : ok ≡ true → Kept n m xs r
   bad : ok ≡ false → (below n xs ≡ false) ⊎ Twice n m xs
 
-mark-at : (m : List ℕ) (x : ℕ) (xs : List ℕ) → Sane m → x < 256 → getD m x 0 ≡ 0 → (k : ℕ)
+mark-at : (m : List ℕ) (x : ℕ) (xs : List ℕ) → Sane m → x < limit → getD m x 0 ≡ 0 → (k : ℕ)
     → getD (set m x 1) k 0 + count k xs ≡ getD m k 0 + count k (x ∷ xs)
 mark-at m x xs s h z k = elim (ℕ-discrete x k) [ yes e ↦ same e | no d ↦ other d ]
   where
@@ -48,7 +49,7 @@ mark-at m x xs s h z k = elim (ℕ-discrete x k) [ yes e ↦ same e | no d ↦ o
     other : (x ≡ k → ⊥) → getD (set m x 1) k 0 + count k xs ≡ getD m k 0 + count k (x ∷ xs)
     other d = rw (getD-set-other m x k 1 0 (λ p. d (sym p)), count-other k x xs d)
 
-mark-sane : (m : List ℕ) (x : ℕ) → Sane m → x < 256 → Sane (set m x 1)
+mark-sane : (m : List ℕ) (x : ℕ) → Sane m → x < limit → Sane (set m x 1)
 mark-sane m x s h = record { whole = length-set m x 1 ∙ s .whole; small = λ k. elim (ℕ-discrete x k) [ yes e ↦ same k e | no d ↦ other k d ] }
   where
     same : (k : ℕ) → x ≡ k → getD (set m x 1) k 0 ≤ 1
@@ -65,12 +66,12 @@ below-big : (n x : ℕ) (xs : List ℕ) → n ≤ x → below n (x ∷ xs) ≡ f
 unfolding every
 below-big n x xs h = rw (le-ltb x n h)
 
-step : (n : ℕ) (m : List ℕ) (x : ℕ) (xs : List ℕ) (ok : Bool) (r : List ℕ) → n ≤ 256 → Sane m → (b₁ b₂ : Bool) → ltb x n ≡ b₁ → eqb (getD m x 0) 0 ≡ b₂
+step : (n : ℕ) (m : List ℕ) (x : ℕ) (xs : List ℕ) (ok : Bool) (r : List ℕ) → n ≤ limit → Sane m → (b₁ b₂ : Bool) → ltb x n ≡ b₁ → eqb (getD m x 0) 0 ≡ b₂
     → (x < n → getD m x 0 ≡ 0 → Says n (set m x 1) xs ok r) → Says n m (x ∷ xs) (both b₁ (both b₂ ok)) r
 step n m x xs ok r hn s true true e₁ e₂ ih =
     let l : x < n = ltb-true x n e₁ in
     let z : getD m x 0 ≡ 0 = eqb-true (getD m x 0) 0 e₂ in
-    let l′ : x < 256 = omega arith in
+    let l′ : x < limit = omega arith in
     record {
       good = λ o.
           let g = ih l z .good o in
@@ -83,23 +84,23 @@ step n m x xs ok r hn s true false e₁ e₂ ih =
     record { good = λ o. absurd (false-true o); bad = λ o. inr (x, l, rw (count-same x x xs refl) (omega (arith, z))) }
 step n m x xs ok r hn s false b₂ e₁ e₂ ih = record { good = λ o. absurd (false-true o); bad = λ o. inl (below-big n x xs (ltb-false x n e₁)) }
 
-says : (n : ℕ) (m xs : List ℕ) → n ≤ 256 → Sane m → Says n m xs (marking n m xs) (seenAfter m xs)
+says : (n : ℕ) (m xs : List ℕ) → n ≤ limit → Sane m → Says n m xs (marking n m xs) (seenAfter m xs)
 unfolding marking seenAfter every count
 says n m [] hn s = record { good = λ o. record { all = refl; counts = λ k. omega arith; sane = s }; bad = λ o. absurd (false-true (sym o)) }
 says n m (x ∷ xs) hn s =
     step n m x xs (marking n (set m x 1) xs) (seenAfter (set m x 1) xs) hn s (ltb x n) (eqb (getD m x 0) 0) refl refl (λ l z. says n (set m x 1) xs hn (mark-sane m x s (omega arith)))
 
-le-or-lt : (m k : ℕ) → (m ≤ k) ⊎ (k < m)
+pub le-or-lt : (m k : ℕ) → (m ≤ k) ⊎ (k < m)
 le-or-lt m k = elim (decLt k m) [ yes h ↦ inr h | no h ↦ inl (omega arith) ]
 
 abbrev zeros : List ℕ
-zeros = replicate 256 0
+zeros = replicate limit 0
 
 zero-at : (k : ℕ) → getD zeros k 0 ≡ 0
-zero-at k = ⊎-elim (λ (h : 256 ≤ k). List·getD-eq-default zeros 0 h) (λ (h : k < 256). getD-replicate 256 k 0 0 h) (le-or-lt 256 k)
+zero-at k = ⊎-elim (λ (h : limit ≤ k). List·getD-eq-default zeros 0 h) (λ (h : k < limit). getD-replicate limit k 0 0 h) (le-or-lt limit k)
 
 empty-sane : Sane zeros
-empty-sane = record { whole = length-replicate {A = ℕ} 256 0; small = λ k. rw (zero-at k) (omega arith) }
+empty-sane = record { whole = length-replicate {A = ℕ} limit 0; small = λ k. rw (zero-at k) (omega arith) }
 
 once-not : (xs : List ℕ) (n k : ℕ) → k < n → 2 ≤ count k xs → once xs n ≡ false
 unfolding once
@@ -111,7 +112,7 @@ from-empty : (k : ℕ) (v : ℕ) → getD zeros k 0 + v ≡ v
 from-empty k v = rw (zero-at k) (omega arith)
 
 -- Where there are n numbers, marking them shows all: none is missing if none stands there twice.
-pub named-by-marks : (n : ℕ) (xs : List ℕ) → n ≤ 256 → length xs ≡ n → marking n (replicate 256 0) xs ≡ namedOnce n xs
+pub named-by-marks : (n : ℕ) (xs : List ℕ) → n ≤ limit → length xs ≡ n → marking n (replicate limit 0) xs ≡ namedOnce n xs
 unfolding namedOnce
 named-by-marks n xs hn many = go (marking n zeros xs) (says n zeros xs hn empty-sane)
   where

@@ -13,7 +13,8 @@ use Rattle.fields.specs.Bytes.{part, number, splice}
 use Rattle.fields.proofs.Choices.{both-split, both-false}
 use Rattle.index.specs.Bounds.{separator}
 use Rattle.index.specs.Reading.{lengthAt}
-use Rattle.index_read.specs.AidParsing.{frontAt, charsAt, parses, parsedOf}
+use Rattle.index_step.specs.AidStep.{frontAt, charsAt}
+use Rattle.index_read.specs.AidParsing.{parses, parsedOf}
 use Rattle.index_read.specs.AidWalk.{boundRises, nextIn, entryOf}
 use Rattle.index_read.specs.declared.Parsed.the-variants.{Of, Bad}
 use Rattle.index_read.proofs.Entry.{Good, good, bad-of, chars-length, extended-front}

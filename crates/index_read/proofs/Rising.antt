@@ -3,9 +3,9 @@ use Prim.Native.Nat.{ℕ, zero, suc, _+_, _-_, _≤_, _<_}
 use mathlib.Core.Path.{_≡_, refl, _∙_, sym, ap}
 use mathlib.Core.Bool.{Bool, true, false}
 use mathlib.Core.List.{List, [], _∷_, _++_, append-assoc}
-use mathlib.Core.Logic.{_⊎_, ⊎-elim}
+use mathlib.Core.Logic.{_⊎_, inl, inr, ⊎-elim}
 use lib.ListN.{length, getD, take, drop, replicate, length-append, length-replicate, length-drop, take-append-drop}
-use lib.Seq.{length-take-le, getD-drop, take-take}
+use lib.Seq.{length-take-le, getD-drop, take-take, drop-cons}
 use lib.Dec.{eqb, leb, ltb}
 use native.Mathlib.Omega.{arith}
 use borrow.Author.Tests.{lt-ltb, le-ltb, eqb-false}
@@ -16,11 +16,12 @@ use Rattle.fields.specs.declared.Order.{Order}
 use Rattle.fields.specs.declared.Order.the-variants.{Less, Same, Greater}
 use Rattle.fields.proofs.Choices.{both-split, no-true}
 use Rattle.fields.proofs.Splices.{length-mid, drop-take}
-use Rattle.fields.proofs.Orders.{andThen, order-prefix, order-front, less-order}
+use Rattle.fields.proofs.Orders.{andThen, order-prefix, order-front, less-order, less-lt}
 use Rattle.fields.proofs.Octets.{octets-take, octets-drop, octets-append, octets-replicate}
 use Rattle.index.specs.Bounds.{bound, separator}
 use Rattle.index.proofs.Bounds.{top-not-less, less-then}
 use Rattle.index_read.specs.AidWalk.{boundRises}
+use Rattle.index_read.proofs.Marking.{le-or-lt}
 
 -- ---- what follows the bytes in common
 
@@ -175,3 +176,34 @@ module _ (buf ib : List ℕ) (f len at l : ℕ) (front : f ≤ len) (whole : len
         go : (u : Bool) → isLess (pick u Less Same) ≡ u
         go true = refl
         go false = refl
+
+  -- ---- told by one byte at most
+
+  module _ (first : Bool) (no-first : first ≡ false) where
+    -- nothing of the separator before is left behind the F bytes
+    pub none-left : len ≤ f → false ≡ boundRises first K (take len buf) (take f buf ++ c)
+    none-left h =
+        let z : len - f ≡ 0 = omega arith in
+        let e1 : f + 0 - f ≡ 0 = omega arith in
+        let e2 : at + 0 - at ≡ 0 = omega arith in
+        sym (le-ltb l (len - f) (omega arith)) ∙ above-same first no-first 0 (inr (omega arith, sym z)) Same (rw (e1, e2) (unfold orderOf in refl)) refl
+
+    -- something is, and no character takes its place
+    pub none-new : f < len → l ≡ 0 → true ≡ boundRises first K (take len buf) (take f buf ++ c)
+    none-new h z =
+        let e1 : f + 0 - f ≡ 0 = omega arith in
+        let e2 : at + 0 - at ≡ 0 = omega arith in
+        sym (lt-ltb l (len - f) (omega arith)) ∙ above-same first no-first 0 (inl (omega arith, sym z)) Same (rw (e1, e2) (unfold orderOf in refl)) refl
+
+    -- the first character is above the byte in whose place it stands
+    pub first-above : f < len → 0 < l → getD buf f 0 < getD ib at 0 → true ≡ boundRises first K (take len buf) (take f buf ++ c)
+    first-above h k x = ⊎-elim (λ (p : len - f ≤ l). on (len - f) (inr (p, refl)) (omega arith)) (λ (p : l < len - f). on l (inl (p, refl)) k) (le-or-lt (len - f) l)
+      where
+        on : (m : ℕ) → Least m → 0 < m → true ≡ boundRises first K (take len buf) (take f buf ++ c)
+        on m e p =
+            let e1 : f + m - f ≡ suc (m - 1) = omega arith in
+            let e2 : at + m - at ≡ suc (m - 1) = omega arith in
+            let d1 : drop f buf ≡ getD buf f 0 ∷ drop (suc f) buf = drop-cons buf f 0 (omega arith) in
+            let d2 : drop at ib ≡ getD ib at 0 ∷ drop (suc at) ib = drop-cons ib at 0 (omega arith) in
+            let y : isLess (orderOf (getD buf f 0 ∷ take (m - 1) (drop (suc f) buf)) (getD ib at 0 ∷ take (m - 1) (drop (suc at) ib))) ≡ true = less-lt (getD buf f 0) (getD ib at 0) (take (m - 1) (drop (suc f) buf)) (take (m - 1) (drop (suc at) ib)) x in
+            above-less first no-first m e Less (sym (rw (e1, e2, d1, d2) (less-order _ y))) refl

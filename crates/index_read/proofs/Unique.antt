@@ -1,20 +1,10 @@
--- For each public function: any two results that its contract allows are equal, buffers too.
+-- For each public function: any two results that its contract allows are equal.
 use Prim.Native.Nat.{ℕ}
 use mathlib.Core.Path.{_≡_}
 use Rattle.fields.proofs.Choices.{agree}
-use Rattle.index_read.specs.declared.Parsed.{Parsed}
 use Rattle.index_read.specs.declared.Index.{Index}
-use Rattle.index_read.proofs.piece_at.Reads as piece-at
-use Rattle.index_read.proofs.renew.Reads as renew
 use Rattle.index_read.proofs.base_of.Reads as base-of
 use Rattle.index_read.proofs.check.Reads as check
-
-pub unique-piece-at : (κs : _) (args : _) (r s : Parsed) (e f : _) → piece-at.Learnt κs args r e → piece-at.Learnt κs args s f → r ≡ s
-unique-piece-at κs args r s e f p q = agree p q
-
--- It returns nothing; the buffer at exit is what the contract says.
-pub unique-renew : (κs : _) (args : _) (r s : _) (e f : _) → renew.Learnt κs args r e → renew.Learnt κs args s f → e .0 .now ≡ f .0 .now
-unique-renew κs args r s e f p q = agree p q
 
 pub unique-base-of : (κs : _) (args : _) (r s : ℕ) (e f : _) → base-of.Learnt κs args r e → base-of.Learnt κs args s f → r ≡ s
 unique-base-of κs args r s e f p q = agree (p .0) (q .0)

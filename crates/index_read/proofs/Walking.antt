@@ -15,13 +15,15 @@ use Rattle.fields.proofs.Choices.{false-true, both-split, both-join, off, both-
 use Rattle.index.specs.Bounds.{empty, bound, separator}
 use Rattle.index.specs.Pieces.{spelt, pieceSize}
 use Rattle.index.specs.Reading.{lengthAt, pieceAt, piecesAt}
-use Rattle.index_read.specs.AidParsing.{frontAt, charsAt, parsedOf}
+use Rattle.index_step.specs.AidStep.{frontAt, charsAt}
+use Rattle.index_read.specs.AidParsing.{parsedOf}
 use Rattle.index_read.specs.AidWalk.{boundRises, nextIn, entryOf, chain, pieceNumbers, marking, seenAfter, usedAll, fineFrom}
 use Rattle.index_read.specs.declared.Marks.{Marks}
 use Rattle.index_read.specs.declared.Parsed.the-variants.{Of, Bad}
-use Rattle.index_read.proofs.Entry.{Good, good, parses-joined, pieces-next, size-is, place-is, chars-length, extended-front, extended-length}
+use Rattle.index_read.proofs.Entry.{Good, good, parses-joined, size-is, place-is, chars-length, extended-front, extended-length}
 use Rattle.index_read.proofs.Next.{entry-good, entry-bad}
-use Rattle.index_read.proofs.Stepping.{Link, link}
+use Rattle.index_step.proofs.Walking.{pieces-next}
+use Rattle.index_read.proofs.Linking.{Link, link}
 
 -- ---- the tests, entry by entry
 

@@ -9,10 +9,12 @@ use lib.Dec.{eqb, leb, ltb}
 use Rattle.fields.specs.Choice.{pick, both}
 use Rattle.fields.specs.Bytes.{part, splice}
 use Rattle.fields.specs.Order.{less}
+use Rattle.measures.specs.Judgement.{limit}
 use Rattle.index.specs.Bounds.{empty, bound, separator}
 use Rattle.index.specs.Pieces.{Piece, spelt, pieceSize}
 use Rattle.index.specs.Reading.{unusedAt, lastAt, sectionAt, freeCount, lengthAt, piecesAt}
-use Rattle.index_read.specs.AidParsing.{frontAt, charsAt, parsedOf, joinedOf}
+use Rattle.index_step.specs.AidStep.{frontAt, charsAt, joinedOf}
+use Rattle.index_read.specs.AidParsing.{parsedOf}
 use Rattle.index_read.specs.declared.Marks.{Marks}
 use Rattle.index_read.specs.declared.Parsed.{Parsed}
 use Rattle.index_read.specs.declared.Parsed.the-variants.{Of, Bad}
@@ -81,7 +83,7 @@ seenAfter seen [] = seen
 seenAfter seen (x ∷ xs) = seenAfter (set seen x 1) xs
 
 abbrev pub emptyMarks : Marks
-emptyMarks = record { seen = replicate 256 0; used = 0; free = 0 }
+emptyMarks = record { seen = replicate limit 0; used = 0; free = 0 }
 
 abbrev pub freeAll : Marks → List ℕ → Marks
 freeAll m xs = record { seen = seenAfter (m .seen) xs; used = m .used; free = m .free + length xs }
@@ -98,4 +100,4 @@ fineFrom w K n e ib seen low ref r left =
 -- ---- what the walk asks: a width and a key that were judged, an edge that two bytes tell, marks that can still count so many
 abbrev pub Walkable : List ℕ → Limits → Marks → ℕ → Type 0
 Walkable ib by marks count =
-    (1 ≤ by .width) × (by .width ≤ 4) × (7 ≤ length ib) × (by .edge < 65536) × (1 ≤ by .key) × (by .key ≤ 255) × (by .n ≤ 256) × (marks .used + count < 2 ^ 64)
+    (1 ≤ by .width) × (by .width ≤ 4) × (7 ≤ length ib) × (by .edge < 65536) × (1 ≤ by .key) × (by .key ≤ 255) × (by .n ≤ limit) × (marks .used + count < 2 ^ 64)

@@ -3,15 +3,15 @@ use Prim.Native.Nat.{ℕ}
 use mathlib.Core.List.{List, []}
 use lib.ListN.{length}
 use Rattle.fields.specs.Choice.{pick}
+use Rattle.measures.specs.Judgement.{widthFor}
 use Rattle.index.specs.Reading.{readIndex, soundIndex}
 use Rattle.index_read.specs.declared.Index.{Index}
 use Rattle.index_read.specs.declared.Index.the-variants.{Sound, Unsound}
 
--- the bytes of a pointer and of a free number
-abbrev pub width : ℕ
-width = 1
-
 -- sound, with how many free intervals and entries it reads as; or not. No bound lies before the first entry, and the last has an empty separator.
-unfoldable pub indexOf : ℕ → ℕ → List ℕ → Index
-indexOf K n ib =
-    pick (soundIndex width K n [] [] ib) (Sound (length (readIndex width n ib .free)) (length (readIndex width n ib .entries))) Unsound
+unfoldable pub indexBy : ℕ → ℕ → ℕ → List ℕ → Index
+indexBy w K n ib = pick (soundIndex w K n [] [] ib) (Sound (length (readIndex w n ib .free)) (length (readIndex w n ib .entries))) Unsound
+
+-- with the width of a pointer that n intervals have
+abbrev pub indexOf : ℕ → ℕ → List ℕ → Index
+indexOf K n ib = indexBy (widthFor n) K n ib

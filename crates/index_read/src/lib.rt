@@ -1,25 +1,24 @@
 // The index record, read and judged in one walk.
 ghost use Prim.Native.Nat.{_+_, _-_, _*_, _≤_, _<_, _^_};
 ghost use mathlib.Core.Path.{_≡_};
-ghost use mathlib.Core.Bool.{true};
-ghost use mathlib.Core.List.{[], _++_};
-ghost use lib.ListN.{length, getD, take, drop};
-ghost use Rattle.fields.specs.Bytes.{part, number, splice};
+ghost use mathlib.Core.Bool.{true, false};
+ghost use mathlib.Core.List.{[]};
+ghost use lib.ListN.{length, getD, take};
+ghost use Rattle.fields.specs.Bytes.{part, number};
+ghost use Rattle.measures.specs.Judgement.{limit};
 ghost use Rattle.index.specs.Bounds.{bound, separator};
 ghost use Rattle.index.specs.Rules.{baseFine};
 ghost use Rattle.index.specs.Reading.{numbersAt, piecesAt, frame};
-ghost use Rattle.index_read.specs.Check.{indexOf};
-ghost use Rattle.index_read.specs.AidParsing.{parsedOf, joinedOf};
+ghost use Rattle.index_read.specs.Check.{indexBy, indexOf};
+ghost use Rattle.index_read.specs.AidParsing.{parsedOf};
 ghost use Rattle.index_read.specs.AidWalk.{Ascends, placesOf, entryOf, Renewed, marking};
 ghost use Rattle.index_read.specs.AidWalk.{fineFrom, pieceNumbers, emptyMarks, freeAll, usedAll, Walkable};
 use fields::Order;
-
-// The bytes of a pointer and of a free number.
-pub const WIDTH: usize = 1;
+use measures::LIMIT;
 
 // Which interval numbers were met, and how many of them as free and by entries.
 pub(crate) struct Marks {
-    pub seen: [u8; 256],
+    pub seen: [u8; LIMIT],
     pub used: usize,
     pub free: usize,
 }
@@ -31,7 +30,7 @@ pub(crate) struct Marked {
 }
 
 // One entry taken apart: F, L, the place of its characters, its pointer.
-pub enum Parsed {
+pub(crate) enum Parsed {
     Of {
         front: usize,
         len: usize,
@@ -64,7 +63,7 @@ pub enum Index {
 
 // The entry that ends at place r. It must not begin left of `edge`; F is at most the `len` bytes of the separator
 // before it, and the separator that F and L make has at most `key` bytes. F and L are bytes, so their sum may reach 510.
-pub fn piece_at(ib: &[u8], w: usize, r: usize, edge: usize, len: usize, key: usize) -> Parsed
+pub(crate) fn piece_at(ib: &[u8], w: usize, r: usize, edge: usize, len: usize, key: usize) -> Parsed
     requires { ⌜ (1 ≤ w) × (w ≤ 4) × (r ≤ length (now ib)) × (edge < 65536) ⌝ }
     ensures { λ x. ⌜ x ≡ parsedOf w (now (ib .entry)) r edge len key ⌝ }
 {
@@ -75,44 +74,42 @@ pub fn piece_at(ib: &[u8], w: usize, r: usize, edge: usize, len: usize, key: usi
     if r < edge + (w + 2 + l) {
         return Parsed::Bad;
     }
-    let f = fields::wide(ib[r - (w + 2)]);
-    if len < f {
+    let s = index_step::entry_at(ib, w, r);
+    if len < s.front {
         return Parsed::Bad;
     }
-    if key < f + l {
+    if key < s.front + s.len {
         return Parsed::Bad;
     }
-    let number = fields::read_pointer(ib, r - w, w);
     Parsed::Of {
-        front: f,
-        len: l,
-        at: r - (w + 2 + l),
-        number: number,
+        front: s.front,
+        len: s.len,
+        at: s.at,
+        number: s.number,
     }
-}
-
-// Puts the next separator into buf, which begins with the one before: F bytes stay, L characters are copied over what follows them.
-pub(crate) fn extend(buf: &mut [u8], front: usize, ib: &[u8], at: usize, len: usize)
-    requires { ⌜ (front + len ≤ length (now buf)) × (at + len ≤ length (now ib)) ⌝ }
-    ensures { λ _. ⌜ now (buf .exit) ≡ splice (now (buf .entry)) front (part (now (ib .entry)) at len) ⌝ }
-{
-    let z = at + len;
-    fields::copy(buf, front, &ib[at..z]);
-}
-
-// Puts the bound of the next separator into the first `key` bytes of buf: X'FF' after the separator.
-pub fn renew(buf: &mut [u8], front: usize, ib: &[u8], at: usize, len: usize, key: usize)
-    requires { ⌜ (front + len ≤ key) × (key ≤ length (now buf)) × (at + len ≤ length (now ib)) ⌝ }
-    ensures { λ _. ⌜ now (buf .exit) ≡ bound key (joinedOf front (now (buf .entry)) (now (ib .entry)) at len) ++ drop key (now (buf .entry)) ⌝ }
-{
-    extend(buf, front, ib, at, len);
-    let e = front + len;
-    fields::fill(buf, e, key, 255);
 }
 
 // Whether the bound of the next separator is above that of the one before, the first `len` bytes of buf. Both begin with the same F
-// bytes, and the byte after decides. Where no byte does: what the separator before has left ends below X'FF', and X'FF' stands there
-// in the new bound; and where it has nothing left, nothing is above its own X'FF'.
+// bytes, and the first byte after them in which they differ decides. Where none does: what the separator before has left ends below
+// X'FF', and X'FF' stands there in the new bound; and where it has nothing left, nothing is above its own X'FF'.
+pub(crate) fn compares(buf: &[u8], front: usize, len: usize, ib: &[u8], at: usize, l: usize) -> bool
+    requires { ⌜ (front ≤ len) × (len ≤ length (now buf)) × (at + l ≤ length (now ib)) × (separator len (take len (now buf)) ≡ true) ⌝ }
+    ensures { λ r. ⌜ Ascends false front len (now (buf .entry)) (now (ib .entry)) at l r ⌝ }
+{
+    let rest = len - front;
+    let m = if l < rest { l } else { rest };
+    let e = front + m;
+    let z = at + m;
+    let o = fields::compare_bytes(&buf[front..e], &ib[at..z]);
+    match o {
+        Order::Less => true,
+        Order::Same => l < rest,
+        Order::Greater => false,
+    }
+}
+
+// The same, mostly told by one byte: F must be below the length of the separator before; then no characters at all rise, and a first one
+// above the byte that it takes the place of does. The first entry has none before it.
 pub(crate) fn ascends(
     buf: &[u8],
     first: bool,
@@ -128,16 +125,16 @@ pub(crate) fn ascends(
     if first {
         return true;
     }
-    let rest = len - front;
-    let m = if l < rest { l } else { rest };
-    let e = front + m;
-    let z = at + m;
-    let o = fields::compare_bytes(&buf[front..e], &ib[at..z]);
-    match o {
-        Order::Less => true,
-        Order::Same => l < rest,
-        Order::Greater => false,
+    if len <= front {
+        return false;
     }
+    if l == 0 {
+        return true;
+    }
+    if buf[front] < ib[at] {
+        return true;
+    }
+    compares(buf, front, len, ib, at, l)
 }
 
 // The last of the first len bytes, 0 where there is none.
@@ -178,7 +175,7 @@ pub(crate) fn next_entry(
     if !ascends(buf, first, front, len, ib, at, l) {
         return Parsed::Bad;
     }
-    extend(buf, front, ib, at, l);
+    index_step::extend(buf, front, ib, at, l);
     if last_of(buf, front + l) == 255 {
         return Parsed::Bad;
     }
@@ -195,7 +192,7 @@ pub(crate) fn fresh() -> Marks
     ensures { λ r. ⌜ r ≡ emptyMarks ⌝ }
 {
     Marks {
-        seen: [0u8; 256],
+        seen: [0u8; LIMIT],
         used: 0,
         free: 0,
     }
@@ -213,7 +210,7 @@ pub(crate) fn judged(ok: bool, marks: Marks) -> Marked
 
 // Marks each of the free numbers; refuses one that is not below n, or is marked already.
 pub(crate) fn walk_free(marks: Marks, ib: &[u8], w: usize, count: usize, n: usize) -> Marked
-    requires { ⌜ (1 ≤ w) × (w ≤ 4) × (24 + w * count ≤ length (now ib)) × (n ≤ 256) × (marks .free + count < 2 ^ 64) ⌝ }
+    requires { ⌜ (1 ≤ w) × (w ≤ 4) × (24 + w * count ≤ length (now ib)) × (n ≤ limit) × (marks .free + count < 2 ^ 64) ⌝ }
     ensures sound { λ r. ⌜ r .ok ≡ marking n (marks .seen) (numbersAt w (now (ib .entry)) 24 count) ⌝ }
     ensures marks { λ r. ⌜ (r .ok ≡ true → r .marks ≡ freeAll marks (numbersAt w (now (ib .entry)) 24 count)) ⌝ }
 {
@@ -316,7 +313,7 @@ pub fn base_of(ib: &[u8]) -> usize
 
 // Whether n intervals from the base on stay within the addresses of four bytes.
 pub(crate) fn base_fine(ib: &[u8], n: usize) -> bool
-    requires { ⌜ (8 ≤ length (now ib)) × (length (now ib) ≤ 32768) × (n ≤ 256) ⌝ }
+    requires { ⌜ (8 ≤ length (now ib)) × (length (now ib) ≤ 32768) × (n ≤ limit) ⌝ }
     ensures { λ r. ⌜ r ≡ baseFine (length (now (ib .entry))) n (part (now (ib .entry)) 4 12) ⌝ }
 {
     base_of(ib) + n * ib.len() <= 4294967296
@@ -336,7 +333,7 @@ pub(crate) fn placed(ib: &[u8], w: usize, n: usize) -> Places
     if unused < 24 {
         return Places::Nowhere;
     }
-    let free = (unused - 24) / w;
+    let free = index_step::free_count(ib, w);
     if 24 + w * free != unused {
         return Places::Nowhere;
     }
@@ -355,26 +352,27 @@ pub(crate) fn placed(ib: &[u8], w: usize, n: usize) -> Places
     }
 }
 
-// Whether an index record of n intervals with keys of `key` bytes is sound; with the numbers of free intervals and of entries.
-pub fn check(ib: &[u8], key: usize, n: usize) -> Index
-    requires { ⌜ (31 ≤ length (now ib)) × (length (now ib) ≤ 32768) × (1 ≤ key) × (key ≤ 255) × (n ≤ 256) ⌝ }
-    ensures { λ r. ⌜ r ≡ indexOf key n (now (ib .entry)) ⌝ }
+// Whether an index record of n intervals with keys of `key` bytes and pointers of w bytes is sound; with the numbers of free intervals
+// and of entries.
+pub(crate) fn check_with(ib: &[u8], key: usize, n: usize, w: usize) -> Index
+    requires { ⌜ (31 ≤ length (now ib)) × (length (now ib) ≤ 32768) × (1 ≤ key) × (key ≤ 255) × (n ≤ limit) × (1 ≤ w) × (w ≤ 4) ⌝ }
+    ensures { λ r. ⌜ r ≡ indexBy w key n (now (ib .entry)) ⌝ }
 {
-    if !framed(ib, WIDTH) {
+    if !framed(ib, w) {
         return Index::Unsound;
     }
     if !base_fine(ib, n) {
         return Index::Unsound;
     }
-    let Places::At { free, last } = placed(ib, WIDTH, n) else {
+    let Places::At { free, last } = placed(ib, w, n) else {
         return Index::Unsound;
     };
-    let f = walk_free(fresh(), ib, WIDTH, free, n);
+    let f = walk_free(fresh(), ib, w, free, n);
     if !f.ok {
         return Index::Unsound;
     }
     let by = Limits {
-        width: WIDTH,
+        width: w,
         edge: last,
         n: n,
         key: key,
@@ -389,4 +387,12 @@ pub fn check(ib: &[u8], key: usize, n: usize) -> Index
         free: spare,
         entries: used,
     }
+}
+
+// The same with the width that n intervals have.
+pub fn check(ib: &[u8], key: usize, n: usize) -> Index
+    requires { ⌜ (31 ≤ length (now ib)) × (length (now ib) ≤ 32768) × (1 ≤ key) × (key ≤ 255) × (n ≤ limit) ⌝ }
+    ensures { λ r. ⌜ r ≡ indexOf key n (now (ib .entry)) ⌝ }
+{
+    check_with(ib, key, n, measures::width_for(n))
 }

@@ -1,14 +1,11 @@
 -- For each public function: any two results that its contract allows are equal, buffers too.
--- `Learnt` of a function is its contract's `ensures`, as every caller reads it: at the lifetimes, the arguments, the result and
--- the parameters at exit. So these lemmas speak of the contracts themselves, and a contract that is made weaker breaks its own.
 use Prim.Native.Nat.{ℕ}
 use mathlib.Core.Path.{_≡_}
 use Rattle.fields.proofs.Choices.{agree}
-use Rattle.index_write.specs.declared.Renewal.{Renewal}
 use Rattle.index_write.proofs.cut_length.Reads as cut-length
 use Rattle.index_write.proofs.taken.Reads as taken
-use Rattle.index_write.proofs.prepare.Reads as prepare
-use Rattle.index_write.proofs.write.Reads as write
+use Rattle.index_write.proofs.size_divided.Reads as size-divided
+use Rattle.index_write.proofs.divide.Reads as divide
 
 pub unique-cut-length : (κs : _) (args : _) (r s : ℕ) (e f : _) → cut-length.Learnt κs args r e → cut-length.Learnt κs args s f → r ≡ s
 unique-cut-length κs args r s e f p q = agree (p .0) (q .0)
@@ -16,15 +13,9 @@ unique-cut-length κs args r s e f p q = agree (p .0) (q .0)
 pub unique-taken : (κs : _) (args : _) (r s : ℕ) (e f : _) → taken.Learnt κs args r e → taken.Learnt κs args s f → r ≡ s
 unique-taken κs args r s e f p q = agree (p .0) (q .0)
 
-same : (r s : Renewal) → r .entries ≡ s .entries → r .free ≡ s .free → r .size ≡ s .size → r ≡ s
-same r s a b c = rw (a, b, c)
+pub unique-size-divided : (κs : _) (args : _) (r s : ℕ) (e f : _) → size-divided.Learnt κs args r e → size-divided.Learnt κs args s f → r ≡ s
+unique-size-divided κs args r s e f p q = agree p q
 
--- the result and the three parts of the scratch
-pub unique-prepare : (κs : _) (args : _) (r s : Renewal) (e f : _) → prepare.Learnt κs args r e → prepare.Learnt κs args s f
-    → (r ≡ s) × (e .1 .1 .1 .1 .1 .1 .0 .now ≡ f .1 .1 .1 .1 .1 .1 .0 .now) × (e .1 .1 .1 .1 .1 .1 .1 .0 .now ≡ f .1 .1 .1 .1 .1 .1 .1 .0 .now)
-    × (e .1 .1 .1 .1 .1 .1 .1 .1 .0 .now ≡ f .1 .1 .1 .1 .1 .1 .1 .1 .0 .now)
-unique-prepare κs args r s e f p q =
-    (same r s (agree (p .entries) (q .entries)) (agree (p .free) (q .free)) (agree (p .size) (q .size)), agree (p .seps-are) (q .seps-are), agree (p .lens-are) (q .lens-are), agree (p .nums-are) (q .nums-are))
-
-pub unique-write : (κs : _) (args : _) (r s : _) (e f : _) → write.Learnt κs args r e → write.Learnt κs args s f → e .0 .now ≡ f .0 .now
-unique-write κs args r s e f p q = agree p q
+-- It returns nothing; the record at exit is what the contract says.
+pub unique-divide : (κs : _) (args : _) (r s : _) (e f : _) → divide.Learnt κs args r e → divide.Learnt κs args s f → e .0 .now ≡ f .0 .now
+unique-divide κs args r s e f p q = agree p q

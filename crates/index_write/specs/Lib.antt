@@ -1,2 +1,1 @@
-pub mod AidFlat
-pub mod AidPrepared
+pub mod AidStream

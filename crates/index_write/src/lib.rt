@@ -1,45 +1,37 @@
-// The writer of an index record after a division. `prepare` puts all new entries together in scratch that the caller
-// lends, so that their size is known before anything is stored; `write` later makes the record from there.
-ghost use Prim.Native.Nat.{ℕ, _+_, _-_, _*_, _≤_, _<_};
+// The writer of an index record after a division. It streams: one separator runs along the old entries, once for the size of the new
+// record, once for its bytes, which are made from a copy of the old one.
+ghost use Prim.Native.Nat.{_+_, _-_, _≤_, _<_, _^_};
 ghost use mathlib.Core.Path.{_≡_};
-ghost use mathlib.Core.List.{List, [], _∷_};
-ghost use lib.ListN.{length, getD, take, drop};
-ghost use Rattle.fields.specs.Bytes.{part, splice};
-ghost use Rattle.fields.specs.Lists.{sum};
+ghost use mathlib.Core.List.{[]};
+ghost use lib.ListN.{length, getD, take};
+ghost use Rattle.fields.specs.Bytes.{splice};
+ghost use Rattle.fields.specs.Order.{common};
 ghost use Rattle.index.specs.Bounds.{cutSeparator};
-ghost use Rattle.index.specs.Pieces.{spelt, spell, pieceSize, piecesSize};
-ghost use Rattle.index.specs.Reading.{unusedAt, freeCount, lengthAt, pieceAt, piecesAt, numbersAt};
-ghost use Rattle.index.specs.Form.{entrySize, entryBytes, entriesSize, entriesBytes, indexBytes};
-ghost use Rattle.index.specs.Meaning.{separatorBefore, entry};
-ghost use Rattle.index.specs.Divided.{cuts, partsOf, newMeaning};
-ghost use Rattle.index_write.specs.AidFlat.{EntriesLie, flat, renewed, Roomy, Added, newest, Newest};
-ghost use Rattle.index_write.specs.AidPrepared.{Divisible, Prepared, heldIn, Writable};
+ghost use Rattle.index.specs.Layout.{pieceBytes};
+ghost use Rattle.measures.specs.Judgement.{widthFor};
+ghost use Rattle.index.specs.Reading.{freeCount, numbersAt};
+ghost use Rattle.index.specs.Form.{entrySize, entryBytes, entriesSize, entriesBytes, indexSize, indexBytes};
+ghost use Rattle.index.specs.Divided.{newMeaning};
+ghost use Rattle.index_step.specs.AidStep.{joinedOf};
+ghost use Rattle.index_write.specs.AidStream.{cutsIn, CutsLie, Stands, runHere, partsHere, Passed, Stored, RoomFor, FreeLie, Divisible};
+use index_step::Step;
 
-// Pointers and free numbers have one byte each.
-const WIDTH: usize = 1;
-
-// How far the scratch is filled: so many bytes of separators and so many entries. The next entry of the record ends at
-// its place `right`; the separator before that one begins at `last` in the scratch.
+// Where a pass stands: the next entry of the old record, with a pointer of `width` bytes, ends at `right`; the separator before it is the
+// first `len` bytes of the buffer; the entries passed take `size` bytes of the new record.
 pub(crate) struct Cursor {
+    width: usize,
     right: usize,
-    last: usize,
-    bytes: usize,
-    entries: usize,
+    len: usize,
+    size: usize,
 }
 
-// What a division makes of the record: how many entries and free numbers it will have, and how many bytes header, free
-// numbers and entries will take, which must not be more than all but the last seven.
-pub struct Renewal {
-    pub entries: usize,
-    pub free: usize,
-    pub size: usize,
-}
-
-// A number as places and counts are.
-fn number_of(x: u16) -> usize
-    ensures { λ r. ⌜ r ≡ x ⌝ }
-{
-    x as usize
+// The separators of the cuts, as parts of some bytes: one cut, or two.
+pub struct Cuts {
+    pub three: bool,
+    pub from: usize,
+    pub to: usize,
+    pub from2: usize,
+    pub to2: usize,
 }
 
 // How many first bytes of the left key make the separator of a cut between two keys: all up to the first one in which they
@@ -51,197 +43,28 @@ pub fn cut_length(left: &[u8], right: &[u8]) -> usize
     if f < left.len() { f + 1 } else { f }
 }
 
-// A free number, the k-th from the right end: with k = 0 the one that a division takes first.
-pub fn taken(ib: &[u8], k: usize) -> usize
-    requires { ⌜ (k < freeCount 1 (now ib)) × (unusedAt (now ib) ≤ length (now ib)) ⌝ }
-    ensures { λ r. ⌜ (r ≡ getD (numbersAt 1 (now (ib .entry)) 24 (freeCount 1 (now (ib .entry)))) (freeCount 1 (now (ib .entry)) - (k + 1)) 0) × (r < 256) ⌝ }
+// A free number of w bytes, the k-th from the right end: with k = 0 the one that a division takes first.
+pub fn taken(ib: &[u8], w: usize, k: usize) -> usize
+    requires { ⌜ (1 ≤ w) × (w ≤ 4) × (k < freeCount w (now ib)) × FreeLie w (now ib) ⌝ }
+    ensures { λ r. ⌜ (r ≡ getD (numbersAt w (now (ib .entry)) 24 (freeCount w (now (ib .entry)))) (freeCount w (now (ib .entry)) - (k + 1)) 0) × (r < 256 ^ w) ⌝ }
 {
     let u = fields::read_two(ib, 18);
-    fields::read_pointer(ib, u - WIDTH * (k + 1), WIDTH)
+    fields::read_pointer(ib, u - w * (k + 1), w)
 }
 
-// ---- the scratch: separators end to end, their lengths, the numbers
+// ---- one entry
 
-// Stores once more, from place `at` on, n bytes that stand further left.
-fn repeat(b: &mut [u8], from: usize, at: usize, n: usize)
-    requires { ⌜ (from + n ≤ at) × (at + n ≤ length (now b)) ⌝ }
-    ensures { λ _. ⌜ now (b .exit) ≡ splice (now (b .entry)) at (part (now (b .entry)) from n) ⌝ }
+// The longest F of an old entry: its own, and as many of its characters as the separator before goes on with.
+fn longest(buf: &[u8], len: usize, ib: &[u8], s: Step) -> usize
+    requires { ⌜ (s .front ≤ len) × (len ≤ length (now buf)) × (s .at + s .len ≤ length (now ib)) × (s .front < 256) ⌝ }
+    ensures is { λ r. ⌜ r ≡ common (take len (now (buf .entry))) (joinedOf (s .front) (now (buf .entry)) (now (ib .entry)) (s .at) (s .len)) ⌝ }
+    ensures inside { λ r. ⌜ (s .front ≤ r) × (r ≤ s .front + s .len) ⌝ }
 {
-    let mut i = n;
-    while 0 < i {
-        i -= 1;
-        b[at + i] = b[from + i];
-    }
+    let f = s.front;
+    let at = s.at;
+    let z = at + s.len;
+    f + fields::common_front(&buf[f..len], &ib[at..z])
 }
-
-// Stores a separator's length and its entry's number.
-fn enter(lens: &mut [u8], nums: &mut [u16], at: usize, len: usize, num: usize)
-    requires { ⌜ (at < length (now lens)) × (at < length (now nums)) × (len < 256) × (num < 65536) ⌝ }
-    ensures { λ _. ⌜ (now (lens .exit) ≡ splice (now (lens .entry)) at (len ∷ [])) × (now (nums .exit) ≡ splice (now (nums .entry)) at (num ∷ [])) ⌝ }
-{
-    lens[at] = len as u8;
-    nums[at] = num as u16;
-}
-
-// Puts together, at place `at` of the scratch, the separator of the entry that ends at place r of the record: F bytes come
-// from its predecessor's, which begins at `from`, the others are its characters. Gives its length.
-fn put_separator(
-    seps: &mut [u8],
-    at: usize,
-    from: usize,
-    ib: &[u8],
-    r: usize,
-    width: usize,
-) -> usize
-    requires { ⌜ (width ≤ 4) × (width + 2 + lengthAt width (now ib) r ≤ r) × (r ≤ length (now ib)) × (from + pieceAt width (now ib) r .front ≤ at) × (at + (pieceAt width (now ib) r .front + lengthAt width (now ib) r) ≤ length (now seps)) ⌝ }
-    ensures long { λ x. ⌜ (x ≡ length (spelt (drop from (now (seps .entry))) (pieceAt width (now (ib .entry)) r))) × (x ≡ pieceAt width (now (ib .entry)) r .front + lengthAt width (now (ib .entry)) r) ⌝ }
-    ensures bytes { λ _. ⌜ now (seps .exit) ≡ splice (now (seps .entry)) at (spelt (drop from (now (seps .entry))) (pieceAt width (now (ib .entry)) r)) ⌝ }
-{
-    let l = fields::wide(ib[r - (width + 1)]);
-    let f = fields::wide(ib[r - (width + 2)]);
-    let a = r - (width + 2 + l);
-    let z = a + l;
-    repeat(seps, from, at, f);
-    fields::copy(seps, at + f, &ib[a..z]);
-    f + l
-}
-
-// Adds an entry with a new separator.
-fn append_new(
-    c: Cursor,
-    sep: &[u8],
-    num: usize,
-    seps: &mut [u8],
-    lens: &mut [u8],
-    nums: &mut [u16],
-) -> Cursor
-    requires { ⌜ Roomy c 1 (now seps) (now lens) (now nums) × (length (now sep) ≤ 255) × (num < 65536) ⌝ }
-    ensures added { λ r. ⌜ Added (entry (now (sep .entry)) num ∷ []) c r (now (seps .entry)) (now (lens .entry)) (now (nums .entry)) (now (seps .exit)) (now (lens .exit)) (now (nums .exit)) ⌝ }
-    ensures stays { λ r. ⌜ (r .right ≡ c .right) × (r .last ≡ c .last) ⌝ }
-{
-    let len = sep.len();
-    let at = c.bytes;
-    let k = c.entries;
-    fields::copy(seps, at, sep);
-    enter(lens, nums, k, len, num);
-    Cursor {
-        right: c.right,
-        last: c.last,
-        bytes: at + len,
-        entries: k + 1,
-    }
-}
-
-// Adds the next entry of the record, under this number.
-fn append_old(
-    c: Cursor,
-    ib: &[u8],
-    num: usize,
-    seps: &mut [u8],
-    lens: &mut [u8],
-    nums: &mut [u16],
-) -> Cursor
-    requires room { ⌜ Roomy c 1 (now seps) (now lens) (now nums) × (num < 65536) ⌝ }
-    requires there { ⌜ (3 + lengthAt 1 (now ib) (c .right) ≤ c .right) × (c .right ≤ length (now ib)) × (c .last + pieceAt 1 (now ib) (c .right) .front ≤ c .bytes) × (pieceAt 1 (now ib) (c .right) .front + lengthAt 1 (now ib) (c .right) ≤ 255) ⌝ }
-    ensures added { λ r. ⌜ Added (entry (spelt (drop (c .last) (now (seps .entry))) (pieceAt 1 (now (ib .entry)) (c .right))) num ∷ []) c r (now (seps .entry)) (now (lens .entry)) (now (nums .entry)) (now (seps .exit)) (now (lens .exit)) (now (nums .exit)) ⌝ }
-    ensures moves { λ r. ⌜ (r .right + (3 + lengthAt 1 (now (ib .entry)) (c .right)) ≡ c .right) × (r .last ≡ c .bytes) ⌝ }
-{
-    let r = c.right;
-    let at = c.bytes;
-    let k = c.entries;
-    let l = fields::wide(ib[r - (WIDTH + 1)]);
-    let len = put_separator(seps, at, c.last, ib, r, WIDTH);
-    enter(lens, nums, k, len, num);
-    Cursor {
-        right: r - (WIDTH + 2 + l),
-        last: at,
-        bytes: at + len,
-        entries: k + 1,
-    }
-}
-
-// Adds the next `count` entries of the record, as they are.
-fn append_all(
-    c: Cursor,
-    ib: &[u8],
-    count: usize,
-    seps: &mut [u8],
-    lens: &mut [u8],
-    nums: &mut [u16],
-) -> Cursor
-    requires { ⌜ Roomy c count (now seps) (now lens) (now nums) × (c .last ≤ c .bytes) × EntriesLie 1 (now ib) (c .right) count (newest c (now seps)) ⌝ }
-    ensures added { λ r. ⌜ Added (spell (newest c (now (seps .entry))) (piecesAt 1 (now (ib .entry)) (c .right) count)) c r (now (seps .entry)) (now (lens .entry)) (now (nums .entry)) (now (seps .exit)) (now (lens .exit)) (now (nums .exit)) ⌝ }
-    ensures moves { λ r. ⌜ (r .right + piecesSize 1 (piecesAt 1 (now (ib .entry)) (c .right) count) ≡ c .right) × Newest r (now (seps .exit)) (separatorBefore (newest c (now (seps .entry))) (spell (newest c (now (seps .entry))) (piecesAt 1 (now (ib .entry)) (c .right) count))) ⌝ }
-{
-    let mut at = c;
-    let mut left = count;
-    while 0 < left {
-        let right = at.right;
-        let num = fields::read_pointer(ib, right - WIDTH, WIDTH);
-        at = append_old(at, ib, num, seps, lens, nums);
-        left -= 1;
-    }
-    at
-}
-
-// Adds the parts of the next entry of the record. The first stays under its number; the others get numbers from the right
-// end of the free ones, one after another. The old separator comes last, though its F still counts from the entry before:
-// that one lies where it lay, so it can be put together after the new ones.
-fn append_parts(
-    c: Cursor,
-    ib: &[u8],
-    three: bool,
-    first: &[u8],
-    second: &[u8],
-    seps: &mut [u8],
-    lens: &mut [u8],
-    nums: &mut [u16],
-) -> Cursor
-    requires room { ⌜ Roomy c (length (cuts three (now first) (now second)) + 1) (now seps) (now lens) (now nums) × (length (now first) ≤ 255) × (length (now second) ≤ 255) ⌝ }
-    requires there { ⌜ (c .last ≤ c .bytes) × EntriesLie 1 (now ib) (c .right) 1 (newest c (now seps)) × (length (cuts three (now first) (now second)) ≤ freeCount 1 (now ib)) × (unusedAt (now ib) ≤ length (now ib)) ⌝ }
-    ensures added { λ r. ⌜ Added (partsOf (cuts three (now (first .entry)) (now (second .entry))) (numbersAt 1 (now (ib .entry)) 24 (freeCount 1 (now (ib .entry)))) (entry (spelt (newest c (now (seps .entry))) (pieceAt 1 (now (ib .entry)) (c .right))) (pieceAt 1 (now (ib .entry)) (c .right) .num))) c r (now (seps .entry)) (now (lens .entry)) (now (nums .entry)) (now (seps .exit)) (now (lens .exit)) (now (nums .exit)) ⌝ }
-    ensures moves { λ r. ⌜ (r .right + pieceSize 1 (pieceAt 1 (now (ib .entry)) (c .right)) ≡ c .right) × Newest r (now (seps .exit)) (spelt (newest c (now (seps .entry))) (pieceAt 1 (now (ib .entry)) (c .right))) ⌝ }
-{
-    let right = c.right;
-    let own = fields::read_pointer(ib, right - WIDTH, WIDTH);
-    let one = append_new(c, first, own, seps, lens, nums);
-    let a = taken(ib, 0);
-    if !three {
-        return append_old(one, ib, a, seps, lens, nums);
-    }
-    let two = append_new(one, second, a, seps, lens, nums);
-    let b = taken(ib, 1);
-    append_old(two, ib, b, seps, lens, nums)
-}
-
-// Fills the scratch with all entries as they are once entry i is divided, and gives where it ends.
-fn spread(
-    ib: &[u8],
-    n: usize,
-    i: usize,
-    three: bool,
-    first: &[u8],
-    second: &[u8],
-    seps: &mut [u8],
-    lens: &mut [u8],
-    nums: &mut [u16],
-) -> Cursor
-    requires { ⌜ Divisible n i (length (cuts three (now first) (now second))) (now ib) (now seps) (now lens) (now nums) × (length (now first) ≤ 255) × (length (now second) ≤ 255) ⌝ }
-    ensures { λ r. ⌜ Added (newMeaning 1 n (now (ib .entry)) i (cuts three (now (first .entry)) (now (second .entry))) .entries) (record { right = 0; last = 0; bytes = 0; entries = 0 }) r (now (seps .entry)) (now (lens .entry)) (now (nums .entry)) (now (seps .exit)) (now (lens .exit)) (now (nums .exit)) ⌝ }
-{
-    let used = n - (fields::read_two(ib, 18) - 24);
-    let c = Cursor {
-        right: ib.len() - 7,
-        last: 0,
-        bytes: 0,
-        entries: 0,
-    };
-    let d = append_all(c, ib, i, seps, lens, nums);
-    let e = append_parts(d, ib, three, first, second, seps, lens, nums);
-    append_all(e, ib, used - (i + 1), seps, lens, nums)
-}
-
-// ---- the size
 
 // How many bytes an entry takes if its F is as long as can be.
 fn entry_size(prev: &[u8], sep: &[u8], width: usize) -> usize
@@ -252,103 +75,236 @@ fn entry_size(prev: &[u8], sep: &[u8], width: usize) -> usize
     width + 2 + (sep.len() - f)
 }
 
-// How many bytes the entries of the scratch take so.
-fn size_entries(seps: &[u8], lens: &[u8]) -> usize
-    requires { ⌜ (length (now lens) ≤ 256) × (sum (now lens) ≤ length (now seps)) ⌝ }
-    ensures { λ r. ⌜ ((xs : List ℕ) → length xs ≡ length (now (lens .entry)) → r ≡ entriesSize 1 [] (flat (now (seps .entry)) (now (lens .entry)) xs)) × (r ≤ 258 * length (now (lens .entry))) ⌝ }
+// Stores an entry with this F and these characters so that it ends at place r.
+fn put_piece(b: &mut [u8], r: usize, front: usize, chars: &[u8], number: usize, width: usize)
+    requires { ⌜ (width ≤ 4) × (width + 2 + length (now chars) ≤ r) × (r ≤ length (now b)) × (front < 256) × (length (now chars) < 256) ⌝ }
+    ensures { λ _. ⌜ now (b .exit) ≡ splice (now (b .entry)) (r - (width + 2 + length (now (chars .entry)))) (pieceBytes width (record { front = front; chars = now (chars .entry); num = number })) ⌝ }
 {
-    let mut size = 0;
-    let mut q = 0;
-    let mut p = 0;
-    let mut i = 0;
-    while i < lens.len() {
-        let e = p + fields::wide(lens[i]);
-        size += entry_size(&seps[q..p], &seps[p..e], WIDTH);
-        q = p;
-        p = e;
-        i += 1;
-    }
-    size
+    let l = chars.len();
+    let at = r - (width + 2 + l);
+    let z = at + l;
+    fields::copy(b, at, chars);
+    b[z] = front as u8;
+    b[z + 1] = l as u8;
+    fields::write_pointer(b, z + 2, width, number);
 }
 
-// Prepares the division of entry i of a sound record of n intervals, at one cut or at two (`second` is not looked at for
-// one): fills the scratch and tells what the new record takes. It refuses nothing; the caller compares the size.
-pub fn prepare(
-    ib: &[u8],
-    n: usize,
-    i: usize,
-    three: bool,
-    first: &[u8],
-    second: &[u8],
-    seps: &mut [u8],
-    lens: &mut [u8],
-    nums: &mut [u16],
-) -> Renewal
-    requires { ⌜ Divisible n i (length (cuts three (now first) (now second))) (now ib) (now seps) (now lens) (now nums) × (length (now first) ≤ 255) × (length (now second) ≤ 255) ⌝ }
-    ensures { λ r. ⌜ Prepared n i (cuts three (now (first .entry)) (now (second .entry))) (now (ib .entry)) (now (seps .entry)) (now (lens .entry)) (now (nums .entry)) (now (seps .exit)) (now (lens .exit)) (now (nums .exit)) r ⌝ }
-{
-    let end = spread(ib, n, i, three, first, second, seps, lens, nums);
-    let entries = end.entries;
-    let free = n - entries;
-    let size = size_entries(seps, &lens[..entries]);
-    Renewal {
-        entries: entries,
-        free: free,
-        size: 24 + WIDTH * free + size,
-    }
-}
-
-// ---- the record
-
-// Stores an entry, its F as long as can be, so that it ends at place r; gives the place where it begins.
-fn put_entry(b: &mut [u8], r: usize, prev: &[u8], sep: &[u8], num: usize, width: usize) -> usize
+// Stores an entry with this separator, its F as long as can be after `prev`, so that it ends at place r; gives how many bytes it takes.
+fn put_entry(b: &mut [u8], r: usize, prev: &[u8], sep: &[u8], number: usize, width: usize) -> usize
     requires { ⌜ (width ≤ 4) × (entrySize width (now prev) (now sep) ≤ r) × (r ≤ length (now b)) × (length (now sep) ≤ 255) ⌝ }
-    ensures place { λ x. ⌜ x + entrySize width (now (prev .entry)) (now (sep .entry)) ≡ r ⌝ }
-    ensures bytes { λ x. ⌜ now (b .exit) ≡ splice (now (b .entry)) x (entryBytes width (now (prev .entry)) (now (sep .entry)) num) ⌝ }
+    ensures size { λ x. ⌜ x ≡ entrySize width (now (prev .entry)) (now (sep .entry)) ⌝ }
+    ensures bytes { λ x. ⌜ now (b .exit) ≡ splice (now (b .entry)) (r - x) (entryBytes width (now (prev .entry)) (now (sep .entry)) number) ⌝ }
 {
     let f = fields::common_front(prev, sep);
     let n = sep.len();
-    let l = n - f;
-    let at = r - (width + 2 + l);
-    let z = at + l;
-    fields::copy(b, at, &sep[f..n]);
-    b[z] = f as u8;
-    b[z + 1] = l as u8;
-    fields::write_pointer(b, z + 2, width, num);
-    at
+    put_piece(b, r, f, &sep[f..n], number, width);
+    width + 2 + (n - f)
 }
 
-// Stores the entries of the scratch from place `right` leftward, and gives the place where the last one begins.
-fn write_entries(b: &mut [u8], right: usize, seps: &[u8], lens: &[u8], nums: &[u16]) -> usize
-    requires { ⌜ (right ≤ length (now b)) × (length (now nums) ≡ length (now lens)) × (sum (now lens) ≤ length (now seps)) × (entriesSize 1 [] (flat (now seps) (now lens) (now nums)) ≤ right) ⌝ }
-    ensures place { λ x. ⌜ x + entriesSize 1 [] (flat (now (seps .entry)) (now (lens .entry)) (now (nums .entry))) ≡ right ⌝ }
-    ensures bytes { λ x. ⌜ now (b .exit) ≡ splice (now (b .entry)) x (entriesBytes 1 [] (flat (now (seps .entry)) (now (lens .entry)) (now (nums .entry)))) ⌝ }
+// ---- the size
+
+// Past `count` old entries, each with its longest F.
+fn size_run(ib: &[u8], c: Cursor, count: usize, buf: &mut [u8]) -> Cursor
+    requires { ⌜ Stands (now ib) c count (now buf) ⌝ }
+    ensures { λ r. ⌜ Passed (now (ib .entry)) c count (runHere (now (ib .entry)) c count (now (buf .entry))) (now (buf .entry)) r (now (buf .exit)) ⌝ }
 {
-    let mut r = right;
-    let mut q = 0;
-    let mut p = 0;
-    let mut i = 0;
-    while i < lens.len() {
-        let e = p + fields::wide(lens[i]);
-        let num = number_of(nums[i]);
-        r = put_entry(b, r, &seps[q..p], &seps[p..e], num, WIDTH);
-        q = p;
-        p = e;
-        i += 1;
+    let w = c.width;
+    let mut right = c.right;
+    let mut len = c.len;
+    let mut size = c.size;
+    let mut left = count;
+    while 0 < left {
+        let s = index_step::entry_at(ib, w, right);
+        let f = longest(buf, len, ib, s);
+        index_step::extend(buf, s.front, ib, s.at, s.len);
+        right = s.at;
+        len = s.front + s.len;
+        size += w + 2 + (len - f);
+        left -= 1;
     }
-    r
+    Cursor {
+        width: w,
+        right,
+        len,
+        size,
+    }
+}
+
+// Past one old entry that becomes two parts, or three. The old separator comes last, and its F is counted anew.
+fn size_parts(ib: &[u8], c: Cursor, bytes: &[u8], cuts: Cuts, buf: &mut [u8]) -> Cursor
+    requires { ⌜ Stands (now ib) c 1 (now buf) × CutsLie cuts (now bytes) ⌝ }
+    ensures { λ r. ⌜ Passed (now (ib .entry)) c 1 (partsHere (now (ib .entry)) c (cutsIn cuts (now (bytes .entry))) (now (buf .entry))) (now (buf .entry)) r (now (buf .exit)) ⌝ }
+{
+    let w = c.width;
+    let len = c.len;
+    let from = cuts.from;
+    let to = cuts.to;
+    let first = &bytes[from..to];
+    let s = index_step::entry_at(ib, w, c.right);
+    let one = entry_size(&buf[..len], first, w);
+    index_step::extend(buf, s.front, ib, s.at, s.len);
+    let end = s.front + s.len;
+    if !cuts.three {
+        let last = entry_size(first, &buf[..end], w);
+        return Cursor {
+            width: w,
+            right: s.at,
+            len: end,
+            size: c.size + one + last,
+        };
+    }
+    let from2 = cuts.from2;
+    let to2 = cuts.to2;
+    let second = &bytes[from2..to2];
+    let two = entry_size(first, second, w);
+    let last = entry_size(second, &buf[..end], w);
+    Cursor {
+        width: w,
+        right: s.at,
+        len: end,
+        size: c.size + one + two + last,
+    }
+}
+
+// Before the first entry: no separator is before it.
+fn start(ib: &[u8], w: usize) -> Cursor
+    requires { ⌜ 7 ≤ length (now ib) ⌝ }
+    ensures { λ r. ⌜ r ≡ record { width = w; right = length (now (ib .entry)) - 7; len = 0; size = 0 } ⌝ }
+{
+    Cursor {
+        width: w,
+        right: ib.len() - 7,
+        len: 0,
+        size: 0,
+    }
+}
+
+// How many bytes header, free numbers and entries take once entry i of a sound record of n intervals is divided.
+pub fn size_divided(ib: &[u8], n: usize, i: usize, bytes: &[u8], cuts: Cuts) -> usize
+    requires { ⌜ Divisible n i (cutsIn cuts (now bytes)) (now ib) × CutsLie cuts (now bytes) ⌝ }
+    ensures { λ r. ⌜ r ≡ indexSize (widthFor n) (newMeaning (widthFor n) n (now (ib .entry)) i (cutsIn cuts (now (bytes .entry)))) ⌝ }
+{
+    let w = measures::width_for(n);
+    let free = index_step::free_count(ib, w);
+    let more = if cuts.three { 2 } else { 1 };
+    let mut buf = [0u8; 255];
+    let c = size_run(ib, start(ib, w), i, &mut buf);
+    let d = size_parts(ib, c, bytes, cuts, &mut buf);
+    let e = size_run(ib, d, n - free - (i + 1), &mut buf);
+    24 + w * (free - more) + e.size
+}
+
+// ---- the bytes: entries end seven bytes before the record's end, and each is put left of those before it
+
+// Stores `count` old entries, each with its longest F.
+fn write_run(b: &mut [u8], ib: &[u8], c: Cursor, count: usize, buf: &mut [u8]) -> Cursor
+    requires { ⌜ Stands (now ib) c count (now buf) × RoomFor c (runHere (now ib) c count (now buf)) (now buf) (now b) ⌝ }
+    ensures passed { λ r. ⌜ Passed (now (ib .entry)) c count (runHere (now (ib .entry)) c count (now (buf .entry))) (now (buf .entry)) r (now (buf .exit)) ⌝ }
+    ensures stored { λ r. ⌜ Stored c (runHere (now (ib .entry)) c count (now (buf .entry))) (now (buf .entry)) (now (b .entry)) r (now (b .exit)) ⌝ }
+{
+    let w = c.width;
+    let edge = b.len() - 7;
+    let mut right = c.right;
+    let mut len = c.len;
+    let mut size = c.size;
+    let mut left = count;
+    while 0 < left {
+        let s = index_step::entry_at(ib, w, right);
+        let f = longest(buf, len, ib, s);
+        index_step::extend(buf, s.front, ib, s.at, s.len);
+        let from = s.at + (f - s.front);
+        let to = s.at + s.len;
+        put_piece(b, edge - size, f, &ib[from..to], s.number, w);
+        right = s.at;
+        len = s.front + s.len;
+        size += w + 2 + (len - f);
+        left -= 1;
+    }
+    Cursor {
+        width: w,
+        right,
+        len,
+        size,
+    }
+}
+
+// Stores the parts of one old entry. The first stays under its number; the others get numbers from the right end of the free ones.
+fn write_parts(
+    b: &mut [u8],
+    ib: &[u8],
+    c: Cursor,
+    bytes: &[u8],
+    cuts: Cuts,
+    buf: &mut [u8],
+) -> Cursor
+    requires stands { ⌜ Stands (now ib) c 1 (now buf) × CutsLie cuts (now bytes) × RoomFor c (partsHere (now ib) c (cutsIn cuts (now bytes)) (now buf)) (now buf) (now b) ⌝ }
+    requires free { ⌜ (1 ≤ c .width) × FreeLie (c .width) (now ib) × (length (cutsIn cuts (now bytes)) ≤ freeCount (c .width) (now ib)) ⌝ }
+    ensures passed { λ r. ⌜ Passed (now (ib .entry)) c 1 (partsHere (now (ib .entry)) c (cutsIn cuts (now (bytes .entry))) (now (buf .entry))) (now (buf .entry)) r (now (buf .exit)) ⌝ }
+    ensures stored { λ r. ⌜ Stored c (partsHere (now (ib .entry)) c (cutsIn cuts (now (bytes .entry))) (now (buf .entry))) (now (buf .entry)) (now (b .entry)) r (now (b .exit)) ⌝ }
+{
+    let w = c.width;
+    let edge = b.len() - 7;
+    let len = c.len;
+    let from = cuts.from;
+    let to = cuts.to;
+    let first = &bytes[from..to];
+    let s = index_step::entry_at(ib, w, c.right);
+    let one = c.size + put_entry(b, edge - c.size, &buf[..len], first, s.number, w);
+    index_step::extend(buf, s.front, ib, s.at, s.len);
+    let end = s.front + s.len;
+    let a = taken(ib, w, 0);
+    if !cuts.three {
+        let all = one + put_entry(b, edge - one, first, &buf[..end], a, w);
+        return Cursor {
+            width: w,
+            right: s.at,
+            len: end,
+            size: all,
+        };
+    }
+    let from2 = cuts.from2;
+    let to2 = cuts.to2;
+    let second = &bytes[from2..to2];
+    let two = one + put_entry(b, edge - one, first, second, a, w);
+    let d = taken(ib, w, 1);
+    let all = two + put_entry(b, edge - two, second, &buf[..end], d, w);
+    Cursor {
+        width: w,
+        right: s.at,
+        len: end,
+        size: all,
+    }
+}
+
+// Stores all entries as they are once entry i is divided, and gives how many bytes they take.
+fn write_entries(b: &mut [u8], ib: &[u8], n: usize, i: usize, bytes: &[u8], cuts: Cuts) -> usize
+    requires { ⌜ Divisible n i (cutsIn cuts (now bytes)) (now ib) × CutsLie cuts (now bytes) × (entriesSize (widthFor n) [] (newMeaning (widthFor n) n (now ib) i (cutsIn cuts (now bytes)) .entries) + 7 ≤ length (now b)) ⌝ }
+    ensures size { λ r. ⌜ r ≡ entriesSize (widthFor n) [] (newMeaning (widthFor n) n (now (ib .entry)) i (cutsIn cuts (now (bytes .entry))) .entries) ⌝ }
+    ensures bytes { λ r. ⌜ now (b .exit) ≡ splice (now (b .entry)) (length (now (b .entry)) - 7 - r) (entriesBytes (widthFor n) [] (newMeaning (widthFor n) n (now (ib .entry)) i (cutsIn cuts (now (bytes .entry))) .entries)) ⌝ }
+{
+    let w = measures::width_for(n);
+    let free = index_step::free_count(ib, w);
+    let mut buf = [0u8; 255];
+    let c = write_run(b, ib, start(ib, w), i, &mut buf);
+    let d = write_parts(b, ib, c, bytes, cuts, &mut buf);
+    let e = write_run(b, ib, d, n - free - (i + 1), &mut buf);
+    e.size
 }
 
 // Writes the record anew over the old one. Header, kept bytes and the free numbers that are left stay where they lie; the
-// entries come from the scratch, and all between them and the free numbers becomes zero.
-pub fn write(ib: &mut [u8], new: Renewal, seps: &[u8], lens: &[u8], nums: &[u16])
-    requires { ⌜ Writable new (now ib) (now seps) (now lens) (now nums) ⌝ }
-    ensures { λ _. ⌜ now (ib .exit) ≡ indexBytes 1 (length (now (ib .entry))) (renewed 1 (now (ib .entry)) (new .free) (heldIn new (now (seps .entry)) (now (lens .entry)) (now (nums .entry)))) ⌝ }
+// entries are made from a copy, and all between them and the free numbers becomes zero.
+pub fn divide(ib: &mut [u8], n: usize, i: usize, bytes: &[u8], cuts: Cuts)
+    requires { ⌜ Divisible n i (cutsIn cuts (now bytes)) (now ib) × CutsLie cuts (now bytes) ⌝ }
+    requires room { ⌜ indexSize (widthFor n) (newMeaning (widthFor n) n (now ib) i (cutsIn cuts (now bytes))) ≤ length (now ib) - 7 ⌝ }
+    ensures { λ _. ⌜ now (ib .exit) ≡ indexBytes (widthFor n) (length (now (ib .entry))) (newMeaning (widthFor n) n (now (ib .entry)) i (cutsIn cuts (now (bytes .entry)))) ⌝ }
 {
-    let k = new.entries;
-    let u = 24 + WIDTH * new.free;
-    let right = ib.len() - 7;
-    let e = write_entries(ib, right, seps, &lens[..k], &nums[..k]);
+    let size = ib.len();
+    let w = measures::width_for(n);
+    let more = if cuts.three { 2 } else { 1 };
+    let u = 24 + w * (index_step::free_count(ib, w) - more);
+    let mut old = [0u8; 32768];
+    fields::copy(&mut old, 0, ib);
+    let e = size - 7 - write_entries(ib, &old[..size], n, i, bytes, cuts);
     fields::fill(ib, u, e, 0);
     fields::write_two(ib, 18, u);
     fields::write_two(ib, 20, e);

@@ -14,3 +14,4 @@ pub mod FoundBytes
 pub mod Starting
 pub mod SearchVectors
 pub mod Changed
+pub mod Bounds

@@ -3,3 +3,4 @@ pub mod Layout
 pub mod Reading
 pub mod Search
 pub mod Role
+pub mod Bounds

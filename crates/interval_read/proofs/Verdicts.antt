@@ -1,21 +1,27 @@
 -- What a sound interval's first and last key say of all its keys.
-use Prim.Native.Nat.{ℕ, _+_, _≤_}
+use Prim.Native.Nat.{ℕ, _+_, _-_, _≤_}
 use mathlib.Core.Path.{_≡_, refl, _∙_, sym, ap}
 use mathlib.Core.Bool.{Bool, true, false}
 use mathlib.Core.List.{List, [], _∷_, map}
-use lib.ListN.{length, length-map}
+use lib.ListN.{length, take, drop, length-map}
+use lib.Seq.{take-take}
 use lib.Dec.{eqb}
 use native.Mathlib.Omega.{arith}
 use borrow.Author.Tests.{eqb-true, eqb-false}
 use Rattle.fields.specs.Choice.{pick, no}
-use Rattle.fields.specs.Bytes.{part}
-use Rattle.fields.specs.Order.{less}
+use Rattle.fields.specs.Bytes.{part, Octets}
+use Rattle.fields.specs.Order.{orderOf, isLess, less}
+use Rattle.fields.specs.declared.Order.{Order}
 use Rattle.fields.specs.Lists.{sum, every}
 use Rattle.fields.proofs.Lists.{sum-cons}
+use Rattle.fields.proofs.Octets.{octets-part}
+use Rattle.fields.proofs.Splices.{length-mid, part-is}
 use Rattle.measures.specs.declared.Measures.{Measures}
 use Rattle.interval.specs.Records.{keysOf, allWithin, ascending, ascendFrom, above, upTo}
 use Rattle.interval.specs.Reading.{displacement, rdfsIn, rdfsMany, lengths, recordsIn, formSound, sound}
 use Rattle.interval.specs.Role.{soundFree}
+use Rattle.interval.specs.Bounds.{bound}
+use Rattle.interval.proofs.Bounds.{lead-is-bound}
 use Rattle.interval.proofs.Backward.{form-tests, read-lengths, read-lengths-fine, form-and-keys}
 use Rattle.interval.proofs.Lengths.{within-low, within-rest}
 use Rattle.interval_read.specs.Verdict.{lastStart, verdictOf}
@@ -183,6 +189,13 @@ module _ (m : Measures) (ci : List ℕ) (some : 1 ≤ m .key) (inside : m .offse
 pub opens-not : (m : Measures) (low ci : List ℕ) → sound m ci ≡ false → Bad ≡ openedOf m low ci
 unfolding openedOf
 opens-not m low ci e = rw e
+
+-- A separator was compared with as many bytes of the key from place a on as it has: that is how its bound stands to the whole key.
+pub compared : (K : ℕ) (ci sep : List ℕ) (a : ℕ) (o : Order) → length sep ≤ K → a + K ≤ length ci → Octets ci
+    → o ≡ orderOf sep (take (a + length sep - a) (drop a ci)) → less (bound K sep) (part ci a K) ≡ isLess o
+compared K ci sep a o h i b e =
+    let t : take (a + length sep - a) (drop a ci) ≡ take (length sep) (part ci a K) = part-is ci a (length sep) ∙ sym (take-take (length sep) K (drop a ci) h) in
+    sym (ap isLess e ∙ rw t (lead-is-bound K sep (part ci a K) h (length-mid ci a K i) (octets-part ci a K b)))
 
 -- the ways out of `opens` and of `closes`, as they are left
 module _ (m : Measures) (ci : List ℕ) (some : 1 ≤ m .key) (inside : m .offset + m .key ≤ m .least) (count last : ℕ) (t : Told m ci count last) where

@@ -11,6 +11,7 @@ ghost use Rattle.fields.specs.Order.{less};
 ghost use Rattle.interval.specs.Records.{ascendFrom, keysOf, upTo};
 ghost use Rattle.interval.specs.Reading.{rdfs, recordsIn};
 ghost use Rattle.interval.specs.Role.{soundFree};
+ghost use Rattle.interval.specs.Bounds.{bound};
 ghost use Rattle.interval_read.specs.Verdict.{verdictOf};
 ghost use Rattle.interval_read.specs.AidWalk.{tailOf, Small, keysAt, walked, RunLies, KeysLie, WordsKnown};
 ghost use Rattle.interval_read.specs.AidOpened.{openedOf, Inside, Closable};
@@ -253,10 +254,11 @@ pub enum Opened {
     Bad,
 }
 
-// The interval judged by itself and against the bound before; the first entry has none. Keys ascend, so the first key decides.
+// The interval judged by itself and against the bound before, whose separator is lent; the first entry has none. Keys ascend, so the first
+// key decides, and of that as many bytes as the separator has: nothing has to be filled up.
 pub fn opens(ci: &[u8], m: Measures, first: bool, low: &[u8]) -> Opened
-    requires { ⌜ (4 ≤ length (now ci)) × (length (now ci) ≤ 32768) × (1 ≤ m .key) × (m .offset + m .key ≤ m .least) ⌝ }
-    ensures is { λ r. ⌜ r ≡ openedOf m (pick first [] (now (low .entry))) (now (ci .entry)) ⌝ }
+    requires { ⌜ (4 ≤ length (now ci)) × (length (now ci) ≤ 32768) × (1 ≤ m .key) × (m .offset + m .key ≤ m .least) × (length (now low) ≤ m .key) ⌝ }
+    ensures is { λ r. ⌜ r ≡ openedOf m (pick first [] (bound (m .key) (now (low .entry)))) (now (ci .entry)) ⌝ }
     ensures inside { λ r. ⌜ Inside m (now (ci .entry)) r ⌝ }
 {
     let Verdict::Sound {
@@ -275,24 +277,24 @@ pub fn opens(ci: &[u8], m: Measures, first: bool, low: &[u8]) -> Opened
         return Opened::Sound { count, last };
     }
     let from = m.offset;
-    let to = from + m.key;
-    let Order::Less = fields::compare(low, &ci[from..to]) else {
+    let to = from + low.len();
+    let Order::Less = fields::compare_bytes(low, &ci[from..to]) else {
         return Opened::Bad;
     };
     Opened::Sound { count, last }
 }
 
-// Whether no key of a sound interval is above its own bound: the last key decides.
+// Whether no key of a sound interval is above its own bound, whose separator is lent: the last key decides.
 pub fn closes(ci: &[u8], m: Measures, count: usize, last: usize, high: &[u8]) -> bool
-    requires { ⌜ Closable m (now ci) count last ⌝ }
-    ensures { λ r. ⌜ r ≡ upTo (now (high .entry)) (keysOf m (recordsIn (now (ci .entry)))) ⌝ }
+    requires { ⌜ Closable m (now ci) count last × (length (now high) ≤ m .key) ⌝ }
+    ensures { λ r. ⌜ r ≡ upTo (bound (m .key) (now (high .entry))) (keysOf m (recordsIn (now (ci .entry)))) ⌝ }
 {
     if count == 0 {
         return true;
     }
     let from = last + m.offset;
-    let to = from + m.key;
-    match fields::compare(high, &ci[from..to]) {
+    let to = from + high.len();
+    match fields::compare_bytes(high, &ci[from..to]) {
         Order::Less => false,
         Order::Same => true,
         Order::Greater => true,

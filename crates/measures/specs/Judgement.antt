@@ -13,6 +13,10 @@ use Rattle.measures.specs.declared.Judged.the-variants.{Fine, Outside}
 abbrev pub limit : ℕ
 limit = 256
 
+-- the bytes of a pointer and of a free number in the index record of n data intervals: document 01, 'Index record'
+abbrev pub widthFor : ℕ → ℕ
+widthFor n = 1
+
 -- the measures of a request: the shortest record ends with its key
 abbrev pub measures : ℕ → ℕ → ℕ → ℕ → Measures
 measures size offset key most = record { size = size; offset = offset; key = key; least = offset + key; most = most }

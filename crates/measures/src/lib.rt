@@ -2,7 +2,7 @@
 ghost use mathlib.Core.Path.{_≡_};
 ghost use lib.ListN.{length};
 ghost use Rattle.measures.specs.Sizes.{permittedSize};
-ghost use Rattle.measures.specs.Judgement.{judgedOf};
+ghost use Rattle.measures.specs.Judgement.{judgedOf, widthFor};
 
 // What every definition and function below the requests goes by. `least` is the shortest record.
 pub struct Measures {
@@ -20,6 +20,13 @@ pub enum Judged {
 
 // The most data intervals that one control area has.
 pub const LIMIT: usize = 256;
+
+// The bytes of a pointer and of a free number, by the number of data intervals.
+pub fn width_for(n: usize) -> usize
+    ensures { λ r. ⌜ r ≡ widthFor n ⌝ }
+{
+    1
+}
 
 // Source document 001, chapter 6.
 const SIZES: [usize; 28] = [

@@ -1,5 +1,5 @@
 -- Rows 6 and 7: want of an interval and want of room in the index record, said over the interval to which the key belongs.
-use Prim.Native.Nat.{ℕ, _+_, _-_, _≤_, _<_}
+use Prim.Native.Nat.{ℕ, _*_, _+_, _-_, _≤_, _<_}
 use mathlib.Core.Path.{_≡_, refl, _∙_, sym, ap}
 use mathlib.Core.List.{List, [], _∷_, _++_, map}
 use mathlib.Core.Logic.{_⊎_, inl, inr}
@@ -18,8 +18,7 @@ use Rattle.division.specs.Division.{divisionOf}
 use Rattle.division.specs.Fewest.{Fewest}
 use Rattle.division.specs.declared.Division.the-variants.{Three}
 use Rattle.division.proofs.Intervals.{fewest-unique}
-use Rattle.area.specs.Content.{Filled, Content, recordsOf, entriesOf, meaningOf}
-use Rattle.area.specs.Reading.{width}
+use Rattle.area.specs.Content.{Filled, Content, recordsOf, entriesOf, meaningOf, widthIn}
 use Rattle.change.specs.Parts.{Edit, edited, divided, entryAt}
 use Rattle.change.specs.Plan.{indexAfter, planOf}
 use Rattle.change.specs.Fitting.{Fitting}
@@ -45,10 +44,10 @@ use Rattle.promises.proofs.Rows.{held}
 use Rattle.promises.proofs.Parts.{new, new-seps}
 
 -- Entries need the bytes of their separators.
-pub entries-need : (before : List ℕ) (fs : List Filled) → entriesSize width before (entriesOf fs) ≡ entriesNeed before (sepsBy fs)
+pub entries-need : (w : ℕ) (before : List ℕ) (fs : List Filled) → entriesSize w before (entriesOf fs) ≡ entriesNeed w before (sepsBy fs)
 unfolding entriesSize entrySize
-entries-need before [] = refl
-entries-need before (f ∷ fs) = ap (λ (k : ℕ). width + 2 + (length (f .sep) - common before (f .sep)) + k) (entries-need (f .sep) fs)
+entries-need w before [] = refl
+entries-need w before (f ∷ fs) = ap (λ (k : ℕ). w + 2 + (length (f .sep) - common before (f .sep)) + k) (entries-need w (f .sep) fs)
 
 seps-append : (fs gs : List Filled) → sepsBy (fs ++ gs) ≡ sepsBy fs ++ sepsBy gs
 seps-append [] gs = refl
@@ -100,9 +99,9 @@ module _ (size offset key most : ℕ) (area : List ℕ) where
     unfolding divided
     prescribed-parts h qs p = prescribed-made m size (edited (c .filled) e) (broughtBy ch) (e .ordinal) placed qs (rw (changed-is h) at p)
 
-    needs-after : indexSize width (meaningOf (contentAfter m c e))
-        ≡ 24 + (length (c .free) - (length ps - 1))
-        + entriesNeed [] (sepsBy (take (e .entry) (c .filled)) ++ ((separators m ps ++ (entryAt (c .filled) (e .entry) .sep ∷ [])) ++ sepsBy (drop (e .entry + 1) (c .filled))))
+    needs-after : indexSize (widthIn c) (meaningOf (contentAfter m c e))
+        ≡ 24 + widthIn c * (length (c .free) - (length ps - 1))
+        + entriesNeed (widthIn c) [] (sepsBy (take (e .entry) (c .filled)) ++ ((separators m ps ++ (entryAt (c .filled) (e .entry) .sep ∷ [])) ++ sepsBy (drop (e .entry + 1) (c .filled))))
     unfolding indexSize partedAt swap
     needs-after =
         let f : Filled = entryAt (c .filled) (e .entry) in
@@ -112,12 +111,12 @@ module _ (size offset key most : ℕ) (area : List ℕ) where
         seps-append pre (new m c f ps ++ post)
         ∙ ap (λ (x : List (List ℕ)). sepsBy pre ++ x)
         (seps-append (new m c f ps) post ∙ ap (λ (x : List (List ℕ)). x ++ sepsBy post) (new-seps m c f ps (one-to-three m (c .filled) e .0))) in
-        let a = entries-need [] (pre ++ (new m c f ps ++ post)) ∙ ap (entriesNeed []) b in
+        let a = entries-need (widthIn c) [] (pre ++ (new m c f ps ++ post)) ∙ ap (entriesNeed (widthIn c) []) b in
         let l = length-take-le (length (c .free) - (length ps - 1)) (c .free) (omega arith) in
         omega (arith, a, l)
 
     -- and the index record needs so many bytes.
-    needs-is : (h : Home m c (keyIn m ch)) → indexNeeds m c (keyIn m ch) h ps ≡ indexSize width (indexAfter m c e)
+    needs-is : (h : Home m c (keyIn m ch)) → indexNeeds m c (keyIn m ch) h ps ≡ indexSize (widthIn c) (indexAfter m c e)
     unfolding home
     needs-is h =
         let i : ℕ = leadsTo (keyIn m ch) (entriesOf (c .filled)) in
@@ -125,7 +124,7 @@ module _ (size offset key most : ℕ) (area : List ℕ) where
         let o : h .pre ≡ take i (c .filled) = q .0 in
         let f : h .old ≡ entryAt (c .filled) i = q .1 in
         let t : h .post ≡ drop (i + 1) (c .filled) = q .2 in
-        rw (separators-cuts m ps, o, f, t, ← edit-entry m c ch) (sym needs-after ∙ ap (indexSize width) (after-meaning m c e))
+        rw (separators-cuts m ps, o, f, t, ← edit-entry m c ch) (sym needs-after ∙ ap (indexSize (widthIn c)) (after-meaning m c e))
 
     -- Rows 6 and 7 decide a change whose length is fine and which may be made.
     pub plan-rows : First (row 6 (WantOfInterval size offset key most area ch) (row 7 (WantOfRoom size offset key most area ch) done)) (numberOf (carryOut m area (planOf m c e) .answer))
@@ -152,7 +151,7 @@ module _ (size offset key most : ℕ) (area : List ℕ) where
           ),
         )
 
-        not-seven : (1 < length ps → indexSize width (indexAfter m c e) ≤ size - 7) → WantOfRoom size offset key most area ch → ⊥
+        not-seven : (1 < length ps → indexSize (widthIn c) (indexAfter m c e) ≤ size - 7) → WantOfRoom size offset key most area ch → ⊥
         not-seven w x =
             let y = held size offset key most area (Roomless size offset key most ch) c (s .reads) x in
             let q : y .2 ≡ ps = prescribed-parts (y .0) (y .2) (y .3) in

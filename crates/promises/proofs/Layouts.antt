@@ -8,6 +8,7 @@ use mathlib.Core.Logic.{_↔_}
 use lib.ListN.{length}
 use native.Mathlib.Omega.{arith}
 use Rattle.fields.specs.Bytes.{Octets}
+use Rattle.measures.specs.Judgement.{widthFor}
 use Rattle.measures.specs.declared.Measures.{Measures}
 use Rattle.measures.proofs.Fine.{fits-small}
 use Rattle.room.specs.Room.{need}
@@ -54,16 +55,16 @@ module _ (m : Measures) (some : 1 ≤ m .least) where
 
 module _ (S K n : ℕ) (ix : Meaning) (rules : keepsRules S K n [] [] ix ≡ true) (few : n ≤ 256) (small : S ≤ 32768) where
   -- The index record that the register writes is read back as the same entries and free numbers.
-  pub index-reads-back : length (ix .kept) ≡ 12 → indexSize 1 ix ≤ S - 7 → K ≤ 255 → readIndex 1 n (indexBytes 1 S ix) ≡ ix
-  index-reads-back twelve room short = reads-back.index-reads-back 1 S ix twelve room K n [] [] short rules (omega arith) few small
+  pub index-reads-back : length (ix .kept) ≡ 12 → indexSize (widthFor n) ix ≤ S - 7 → K ≤ 255 → readIndex (widthFor n) n (indexBytes (widthFor n) S ix) ≡ ix
+  index-reads-back twelve room short = reads-back.index-reads-back (widthFor n) S ix twelve room K n [] [] short rules (omega arith) few small
 
   -- An index record that keeps the rules, with any legal compression and with anything in its unused space, is not called damaged.
-  pub index-never-damaged : (ib : List ℕ) → index-layout.LaidOut 1 S ix ib → soundIndex 1 K n [] [] ib ≡ true
-  index-never-damaged ib l = never.index-never-damaged 1 S K n [] [] ix ib (omega arith) few small l rules
+  pub index-never-damaged : (ib : List ℕ) → index-layout.LaidOut (widthFor n) S ix ib → soundIndex (widthFor n) K n [] [] ib ≡ true
+  index-never-damaged ib l = never.index-never-damaged (widthFor n) S K n [] [] ix ib (omega arith) few small l rules
 
 -- An index record that is taken for sound keeps the rules, with the meaning that is read.
-pub index-only-laid-out : (K n : ℕ) (ib : List ℕ) → Octets ib → 31 ≤ length ib → soundIndex 1 K n [] [] ib ≡ true → index-layout.LaidOut 1 (length ib) (readIndex 1 n ib) ib
-index-only-laid-out K n ib o g s = only.index-only-laid-out 1 K n [] [] ib o g s
+pub index-only-laid-out : (K n : ℕ) (ib : List ℕ) → Octets ib → 31 ≤ length ib → soundIndex (widthFor n) K n [] [] ib ≡ true → index-layout.LaidOut (widthFor n) (length ib) (readIndex (widthFor n) n ib) ib
+index-only-laid-out K n ib o g s = only.index-only-laid-out (widthFor n) K n [] [] ib o g s
 
 -- ---- a whole area
 

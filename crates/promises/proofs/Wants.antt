@@ -9,8 +9,7 @@ use Rattle.measures.specs.Judgement.{measures, countOf}
 use Rattle.index.specs.Form.{entriesSize, indexSize}
 use Rattle.index.specs.Layout.{LaidOut}
 use Rattle.index.proofs.Shortest.{laid-fits}
-use Rattle.area.specs.Content.{Content, recordsOf, entriesOf, meaningOf}
-use Rattle.area.specs.Reading.{width}
+use Rattle.area.specs.Content.{Content, recordsOf, entriesOf, meaningOf, widthIn}
 use Rattle.requests.specs.Answers.{numberOf}
 use Rattle.requests.specs.Model.{Change, Legal}
 use Rattle.requests.specs.declared.Answer.{Answer}
@@ -53,8 +52,8 @@ module _ (size offset key most : ℕ) (area : List ℕ) (c : Content) (s : Sound
       go (inr x) = x .1
 
 -- However an index record is laid out, with whatever legal compression, it has at least the bytes that are counted out.
-pub room-shortest : (size : ℕ) (d : Content) (ib : List ℕ) → LaidOut width size (meaningOf d) ib → 24 + length (d .free) + entriesNeed [] (sepsBy (d .filled)) ≤ size - 7
+pub room-shortest : (size : ℕ) (d : Content) (ib : List ℕ) → LaidOut (widthIn d) size (meaningOf d) ib → 24 + widthIn d * length (d .free) + entriesNeed (widthIn d) [] (sepsBy (d .filled)) ≤ size - 7
 unfolding indexSize
 room-shortest size d ib l =
-    let h : 24 + width * length (d .free) + entriesSize width [] (entriesOf (d .filled)) ≤ size - 7 = laid-fits width size (meaningOf d) ib l in
-    omega (arith, h, entries-need [] (d .filled))
+    let h : 24 + widthIn d * length (d .free) + entriesSize (widthIn d) [] (entriesOf (d .filled)) ≤ size - 7 = laid-fits (widthIn d) size (meaningOf d) ib l in
+    omega (arith, h, entries-need (widthIn d) [] (d .filled))

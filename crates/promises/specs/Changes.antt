@@ -9,8 +9,7 @@ use Rattle.index.specs.Meaning.{numbers}
 use Rattle.index.specs.Form.{indexBytes}
 use Rattle.index.specs.Cuts.{separators}
 use Rattle.division.specs.Fewest.{Fewest}
-use Rattle.area.specs.Content.{Filled, Content, recordsOf, entriesOf, meaningOf, indexIn, dataIn}
-use Rattle.area.specs.Reading.{width}
+use Rattle.area.specs.Content.{Filled, Content, recordsOf, entriesOf, meaningOf, indexIn, dataIn, widthIn}
 use Rattle.requests.specs.Model.{Change, makeChange}
 use Rattle.requests.specs.declared.Answer.{Answer}
 use Rattle.requests.specs.declared.Answer.the-variants.{Done}
@@ -52,7 +51,7 @@ pub record OnlyNamedWritten (m : Measures) (before after : List ℕ) (c d : Cont
   pub written : AllForms m after new
   pub others : (k : ℕ) → (List·Memᴰ k (numbers (entriesOf new)) → ⊥) → dataIn m after k ≡ dataIn m before k
   pub index-stays : length new ≡ 1 → indexIn m after ≡ indexIn m before
-  pub index-written : 1 < length new → indexIn m after ≡ indexBytes width (m .size) (meaningOf d)
+  pub index-written : 1 < length new → indexIn m after ≡ indexBytes (widthIn d) (m .size) (meaningOf d)
   pub kept : d .kept ≡ c .kept
   pub spare : d .spare ≡ c .spare
 

@@ -4,7 +4,6 @@ use mathlib.Core.List.{List, [], _∷_, map}
 use lib.ListN.{length}
 use Rattle.fields.specs.Order.{common}
 use Rattle.area.specs.Content.{Filled}
-use Rattle.area.specs.Reading.{width}
 
 -- the records and the separators of entries, one by one
 abbrev pub recordsBy : List Filled → List (List (List ℕ))
@@ -13,7 +12,7 @@ recordsBy fs = map (λ (f : Filled). f .records) fs
 abbrev pub sepsBy : List Filled → List (List ℕ)
 sepsBy fs = map (λ (f : Filled). f .sep) fs
 
--- the bytes of entries with these separators: for each a pointer, two more, and the characters that it has not in common with the one before
-abbrev pub entriesNeed : List ℕ → List (List ℕ) → ℕ
-entriesNeed before [] = 0
-entriesNeed before (s ∷ seps) = width + 2 + (length s - common before s) + entriesNeed s seps
+-- the bytes of entries with these separators: for each a pointer of w bytes, two more, and the characters that it has not in common with the one before
+abbrev pub entriesNeed : ℕ → List ℕ → List (List ℕ) → ℕ
+entriesNeed w before [] = 0
+entriesNeed w before (s ∷ seps) = w + 2 + (length s - common before s) + entriesNeed w s seps

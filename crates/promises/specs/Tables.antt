@@ -1,7 +1,7 @@
 -- When each request is refused, as one table for each: document 01, 'What each number tells the depot'. A number and its condition, in the order in
 -- which they are looked at. The conditions speak of the measures, of what the area is read as, of lengths, of keys and addresses of its records, and of
 -- how few intervals hold records; of no search and no plan.
-use Prim.Native.Nat.{ℕ, _+_, _-_, _<_}
+use Prim.Native.Nat.{ℕ, _*_, _+_, _-_, _<_}
 use mathlib.Core.Path.{_≡_}
 use mathlib.Core.List.{List, [], _∷_, _++_}
 use mathlib.Core.Logic.{_⊎_}
@@ -11,7 +11,7 @@ use Rattle.measures.specs.declared.Measures.{Measures}
 use Rattle.interval.specs.Records.{keyOf}
 use Rattle.index.specs.Cuts.{separators}
 use Rattle.division.specs.Fewest.{Fewest}
-use Rattle.area.specs.Content.{Content, recordsOf, baseOf}
+use Rattle.area.specs.Content.{Content, recordsOf, baseOf, widthIn}
 use Rattle.area.specs.Reading.{damaged, whole, readArea}
 use Rattle.requests.specs.Model.{Change, insert, update, erase, makeChange}
 use Rattle.requests.specs.Finding.{Keyed, Lies}
@@ -81,8 +81,8 @@ changed m c ch h = makeChange m ch (h .old .records)
 -- separators of the cuts.
 abbrev pub indexNeeds : (m : Measures) (c : Content) (key : List ℕ) → Home m c key → List (List (List ℕ)) → ℕ
 indexNeeds m c key h parts =
-    24 + (length (c .free) - (length parts - 1))
-    + entriesNeed [] (sepsBy (h .pre) ++ ((separators m parts ++ (h .old .sep ∷ [])) ++ sepsBy (h .post)))
+    24 + widthIn c * (length (c .free) - (length parts - 1))
+    + entriesNeed (widthIn c) [] (sepsBy (h .pre) ++ ((separators m parts ++ (h .old .sep ∷ [])) ++ sepsBy (h .post)))
 
 module _ (size offset key most : ℕ) (ch : Change) where
   abbrev m : Measures

@@ -3,6 +3,7 @@
 use Prim.Native.Nat.{ℕ}
 use mathlib.Core.List.{List, [], _∷_, _++_}
 use lib.ListN.{length, drop, replicate}
+use Rattle.measures.specs.Judgement.{widthFor}
 use Rattle.interval.specs.Layout.{form}
 use Rattle.index.specs.Form.{indexBytes}
 use Rattle.area.specs.Content.{meaningOf}
@@ -69,11 +70,11 @@ third = 0x41 ∷ 0x30 ∷ 0x30 ∷ 0x30 ∷ 0x30 ∷ 0x30 ∷ 0x30 ∷ 0x33 ∷ 
 
 -- the sound area with the first certificate and the new one in its interval, and without the second
 abbrev pub without : List ℕ
-without = indexBytes 1 512 (meaningOf held) ++ (form 512 (first ∷ third ∷ []) ++ form 512 [])
+without = indexBytes (widthFor 2) 512 (meaningOf held) ++ (form 512 (first ∷ third ∷ []) ++ form 512 [])
 
 -- with all three in it
 abbrev pub together : List ℕ
-together = indexBytes 1 512 (meaningOf held) ++ (form 512 (first ∷ second ∷ third ∷ []) ++ form 512 [])
+together = indexBytes (widthFor 2) 512 (meaningOf held) ++ (form 512 (first ∷ second ∷ third ∷ []) ++ form 512 [])
 
 -- takes in the new certificate as it should, and invents how many intervals it wrote
 abbrev pub inventsWritten : Register

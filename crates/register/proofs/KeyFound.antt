@@ -7,7 +7,7 @@ use lib.Seq.{getD-append-seam}
 use native.Mathlib.Omega.{arith}
 use Rattle.fields.specs.Bytes.{Octets, part}
 use Rattle.fields.proofs.Splices.{part-part}
-use Rattle.measures.specs.Judgement.{Fits}
+use Rattle.measures.specs.Judgement.{Fits, widthFor}
 use Rattle.measures.specs.declared.Measures.{Measures}
 use Rattle.interval.specs.Reading.{recordsIn, Readable}
 use Rattle.interval.specs.Search.{placeOf}
@@ -48,7 +48,7 @@ module _ (m : Measures) (n : ℕ) (area : List ℕ) (o : Fits m n (length area))
   pub led : KeyIn m area key (w .content .filled)
   led = key-in-one-entry m n area (w .content) (w .reads) key (o .key-some) long octets
 
-  pub entries-are : readIndex 1 n (indexIn m area) .entries ≡ entriesOf (w .content .filled)
+  pub entries-are : readIndex (widthFor n) n (indexIn m area) .entries ≡ entriesOf (w .content .filled)
   entries-are = ap (λ x. x .entries) (sound-reads m n area (w .content) (sound-apart m n area (w .content) (w .reads)))
 
   pub number-is : r .number ≡ led .entry .num

@@ -4,6 +4,7 @@
 use mathlib.Core.Path.{_∙_, sym}
 use native.Mathlib.Omega.{arith}
 use borrow.Author.Needs.{needs}
+use Rattle.measures.specs.Judgement.{widthFor}
 use Rattle.measures.proofs.Fine.{fits-small, fits-large}
 use Rattle.index_read.proofs.Answers.{Judged, answer-sound, answer-unsound}
 use Rattle.area.specs.Content.{indexIn}
@@ -59,7 +60,7 @@ free-worst-requires : tie.Need-free-worst-requires
 free-worst-requires c κs =
     let k = c .before in
     let s = k .before .before .before .before .before .before in
-    let f = frees (s .args .m .key) (s .args .n) (indexIn (s .args .m) (s .args .area .now)) (told k .sound) (k .before .free .given .0 .0) (told k .free-is) in
+    let f = frees (widthFor (s .args .n)) (s .args .m .key) (s .args .n) (indexIn (s .args .m) (s .args .area .now)) (told k .sound) (k .before .free .given .0 .0) (told k .free-is) in
     (s .pre, f .lie, f .small)
 
 slice-aggregate-used-worst : tie.Need-slice-aggregate-used-worst
@@ -81,7 +82,7 @@ returns-2 c =
     let k = known-told-from-Then1 (c .before) in
     let s = k .before .before .before .before .before .before in
     let a = s .args in
-    let f = frees (a .m .key) (a .n) (indexIn (a .m) (a .area .now)) (told k .sound) (k .before .free .given .0 .0) (told k .free-is) in
+    let f = frees (widthFor (a .n)) (a .m .key) (a .n) (indexIn (a .m) (a .area .now)) (told k .sound) (k .before .free .given .0 .0) (told k .free-is) in
     let u = c .before .before .before .used-worst in
     let w = rw (f .are) at (c .before .before .before .before .before .free-worst .ensures) in
     let e = rw w at (u .ensures .0) in
@@ -92,7 +93,7 @@ returns-3 c =
     let k = c .before .before .before .before .before .before in
     let s = k .before .before .before .before .before .before in
     let a = s .args in
-    let f = frees (a .m .key) (a .n) (indexIn (a .m) (a .area .now)) (told k .sound) (k .before .free .given .0 .0) (told k .free-is) in
+    let f = frees (widthFor (a .n)) (a .m .key) (a .n) (indexIn (a .m) (a .area .now)) (told k .sound) (k .before .free .given .0 .0) (told k .free-is) in
     let u = c .before .before .used-worst in
     let w = rw (f .are) at (c .before .before .before .before .free-worst .ensures) in
     let e = rw w at (u .ensures .0) in

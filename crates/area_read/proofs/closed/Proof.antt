@@ -13,7 +13,7 @@ closes-requires : tie.Need-closes-requires
 closes-requires c κs =
     let s = c .before .before .before .before .before in
     let f = rw (c .before .opened .given .1) at (s .pre .3) in
-    (omega arith, omega arith, omega arith, f .0, f .1, f .2)
+    ((omega arith, omega arith, omega arith, f .0, f .1, f .2), s .pre .4)
 
 enum-told : tie.Need-enum-told
 enum-told c = search needs

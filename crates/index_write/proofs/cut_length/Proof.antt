@@ -3,7 +3,7 @@
 use native.Mathlib.Omega.{arith}
 use denote.Ref.{now}
 use borrow.Author.Needs.{needs}
-use Rattle.index_write.proofs.Putting.{cut-inside, cut-whole}
+use Rattle.index_write.proofs.Cutting.{cut-inside, cut-whole}
 use Rattle.index_write.proofs.cut_length.Statement.{statement}
 use Rattle.index_write.proofs.cut_length.Tie as tie
 

@@ -3,7 +3,7 @@
 use native.Mathlib.Omega.{arith}
 use denote.Ref.{now}
 use borrow.Author.Needs.{needs}
-use Rattle.index_write.proofs.Measuring.{size-is}
+use Rattle.index_write.proofs.Streaming.{size-is}
 use Rattle.index_write.proofs.entry_size.Statement.{statement}
 use Rattle.index_write.proofs.entry_size.Tie as tie
 

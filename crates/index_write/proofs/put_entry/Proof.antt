@@ -1,116 +1,76 @@
--- No loop. The characters after the common front, then F, L and the pointer, stored one behind the other, are the entry's bytes (entry-put).
--- They end at place r, since they are as many as entrySize says (entry-fits, entry-place).
+-- No loop. The piece that is put has the common front as F, and what its separator has more as its characters: these are the entry's bytes (entry-put).
 -- A separator has at most 255 bytes, so F and L fit a byte each.
-use mathlib.Core.Path.{_∙_}
-use lib.ListN.{length-set}
 use native.Mathlib.Omega.{arith}
 use denote.Ref.{now}
 use borrow.Author.Needs.{needs}
-use Rattle.index_write.proofs.Writing.{entry-fits, entry-place, entry-copy, entry-put}
+use Rattle.index_write.proofs.Streaming.{size-is}
+use Rattle.index_write.proofs.Putting.{chars-long, entry-room, entry-put}
 use Rattle.index_write.proofs.put_entry.Statement.{statement}
 use Rattle.index_write.proofs.put_entry.Tie as tie
+
+-- The states that the proof looks back to, by their names.
+abbrev start-from-front : tie.After-common-front → tie.Start
+start-from-front k = k .before .before .before .before
+
+abbrev front-from-end : tie.After-slice-known2 → tie.After-common-front
+front-from-end k = k .before .before .before .before .before
 
 common-front-requires : tie.Need-common-front-requires
 common-front-requires c κs = search needs
 
-sub-l : tie.Need-sub-l
-sub-l c = search needs
+sub-put-piece : tie.Need-sub-put-piece
+sub-put-piece c = search needs
 
-add-at : tie.Need-add-at
-add-at c = search needs
+part-put-piece-start : tie.Need-part-put-piece-start
+part-put-piece-start c = search needs
 
-add-at-2 : tie.Need-add-at-2
-add-at-2 c = search needs
+part-put-piece-end : tie.Need-part-put-piece-end
+part-put-piece-end c = search needs
 
-sub-at : tie.Need-sub-at
-sub-at c =
-    let q = c .before .before .before .before in
-    let a = q .args in
-    let f = c .common-front in
-    entry-fits (a .width) (now (a .b)) (now (a .prev)) (now (a .sep)) (a .r) (f .result) (a .num) (f .ensures .0) (f .ensures .2) (q .pre .1) (q .pre .2)
+put-piece-requires : tie.Need-put-piece-requires
+put-piece-requires c κs =
+    let k = c .before .before in
+    let a = start-from-front k .args in
+    let p = start-from-front k .pre in
+    let f = k .common-front in
+    let l = chars-long (a .width) (now (a .b)) (now (a .prev)) (now (a .sep)) (a .r) (f .result) (a .number) (f .ensures .0) (f .ensures .2) (p .1) in
+    let m = entry-room (a .width) (now (a .b)) (now (a .prev)) (now (a .sep)) (a .r) (f .result) (a .number) (f .ensures .0) (f .ensures .2) (p .1) in
+    (p .0, m, p .2, omega (arith, f .ensures .2, p .3), omega (arith, l, p .3))
 
-add-z : tie.Need-add-z
-add-z c = search needs
+add-result : tie.Need-add-result
+add-result c = search needs
 
-sub-copy : tie.Need-sub-copy
-sub-copy c = search needs
+sub-result : tie.Need-sub-result
+sub-result c = search needs
 
-part-copy-start : tie.Need-part-copy-start
-part-copy-start c = search needs
-
-part-copy-end : tie.Need-part-copy-end
-part-copy-end c = search needs
-
-copy-requires : tie.Need-copy-requires
-copy-requires c κs =
-    let q = c .before .before .before .before .before .before in
-    let a = q .args in
-    let f = c .before .before .common-front in
-    entry-copy (a .width) (now (a .b)) (now (a .prev)) (now (a .sep)) (a .r) (f .result) (a .num) (f .ensures .0) (f .ensures .2) (q .pre .1) (q .pre .2)
-
-cast-b : tie.Need-cast-b
-cast-b c = search needs
-
-slice-write-b : tie.Need-slice-write-b
-slice-write-b c =
-    let q = c .before .before .before .before .before .before .before .before .before in
-    let a = q .args in
-    let f = c .before .before .before .before .before .common-front in
-    omega (arith, entry-fits (a .width) (now (a .b)) (now (a .prev)) (now (a .sep)) (a .r) (f .result) (a .num) (f .ensures .0) (f .ensures .2) (q .pre .1) (q .pre .2), q .pre .2, c .before .before .copy .kept .0)
-
-cast-b-2 : tie.Need-cast-b-2
-cast-b-2 c = search needs
-
-add-b : tie.Need-add-b
-add-b c = search needs
-
-slice-write-b-2 : tie.Need-slice-write-b-2
-slice-write-b-2 c =
-    let q = c .before .before .before .before .before .before .before .before .before in
-    let a = q .args in
-    let f = c .before .before .before .before .before .common-front in
-    simp length-set (omega (arith, entry-fits (a .width) (now (a .b)) (now (a .prev)) (now (a .sep)) (a .r) (f .result) (a .num) (f .ensures .0) (f .ensures .2) (q .pre .1) (q .pre .2), q .pre .2, c .before .before .copy .kept .0))
-
-add-write-pointer : tie.Need-add-write-pointer
-add-write-pointer c = search needs
-
-write-pointer-requires : tie.Need-write-pointer-requires
-write-pointer-requires c κs =
-    let q = c .before .before .before .before .before .before .before .before .before .before in
-    let a = q .args in
-    let f = c .before .before .before .before .before .before .common-front in
-    (q .pre .0, simp (length-set, length-set) (omega (arith, entry-fits (a .width) (now (a .b)) (now (a .prev)) (now (a .sep)) (a .r) (f .result) (a .num) (f .ensures .0) (f .ensures .2) (q .pre .1) (q .pre .2), q .pre .2, c .before .before .before .copy .kept .0)))
+add-result-2 : tie.Need-add-result-2
+add-result-2 c = search needs
 
 same-length : tie.Need-same-length
-same-length c = c .before .before .write-pointer .kept .0 ∙ simp length-set (c .before .before .before .before .before .before .copy .kept .0)
+same-length c = search needs
 
 returns : tie.Need-returns
 returns c =
-    let q = c .before .before .before .before .before .before .before .before .before .before .before .before .before in
-    let a = q .args in
-    let f = c .before .before .before .before .before .before .before .before .before .common-front in
-    (entry-place (a .width) (now (a .b)) (now (a .prev)) (now (a .sep)) (a .r) (f .result) (a .num) (f .ensures .0) (f .ensures .2) (q .pre .1) (q .pre .2), entry-put (a .width) (now (a .b)) (now (a .prev)) (now (a .sep)) (a .r) (f .result) (a .num) (f .ensures .0) (f .ensures .2) (q .pre .1) (q .pre .2) (c .before .before .before .before .before .before .copy .last .0) (c .before .before .write-pointer .last .0) (c .before .before .before .before .before .before .copy .ensures) (c .before .before .write-pointer .ensures))
+    let k = front-from-end c in
+    let a = start-from-front k .args in
+    let p = start-from-front k .pre in
+    let f = k .common-front in
+    let q = c .before .before .put-piece in (
+      size-is (a .width) (now (a .prev)) (now (a .sep)) (f .result) (f .ensures .0),
+      entry-put (a .width) (now (a .b)) (now (a .prev)) (now (a .sep)) (a .r) (f .result) (a .number) (f .ensures .0) (f .ensures .2) (p .1) (q .last .0) (q .ensures),
+    )
 
 pub put-entry-spec : {M : Type 1} → statement M
 put-entry-spec =
     tie.close
     (tie.spec
     common-front-requires
-    sub-l
-    add-at
-    add-at-2
-    sub-at
-    add-z
-    sub-copy
-    part-copy-start
-    part-copy-end
-    copy-requires
-    cast-b
-    slice-write-b
-    cast-b-2
-    add-b
-    slice-write-b-2
-    add-write-pointer
-    write-pointer-requires
+    sub-put-piece
+    part-put-piece-start
+    part-put-piece-end
+    put-piece-requires
+    add-result
+    sub-result
+    add-result-2
     same-length
     returns)

@@ -1,0 +1,2 @@
+pub mod AidStep
+pub mod AidEntries
