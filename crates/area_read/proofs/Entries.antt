@@ -4,7 +4,7 @@ use mathlib.Core.Path.{_≡_, refl, _∙_, sym}
 use mathlib.Core.Bool.{Bool, true, false}
 use mathlib.Core.List.{List, [], _∷_, map}
 use lib.ListN.{length, take, drop, replicate, length-append, length-replicate, drop-of-length-le}
-use lib.Seq.{take-length, take-take}
+use lib.Seq.{take-take}
 use lib.Dec.{eqb}
 use native.Mathlib.Omega.{arith}
 use native.Mathlib.Numerals.{add-one}
@@ -30,8 +30,8 @@ use Rattle.index.specs.Rules.{boundBefore}
 use Rattle.index.specs.Pieces.{spelt}
 use Rattle.index.specs.Reading.{lengthAt, pieceAt, readIndex, soundIndex}
 use Rattle.index_step.specs.declared.Step.{Step}
-use Rattle.index_step.specs.AidStep.{frontAt, charsAt, stepAt, joinedOf, Lies}
-use Rattle.index_step.proofs.Stepping.{Standing, Stepped, standing-start, standing-step, extended-front, extended-length}
+use Rattle.index_step.specs.AidStep.{frontAt, charsAt, stepAt, joinedOf, Lies, reach}
+use Rattle.index_step.proofs.Stepping.{Standing, Stepped, standing-start, standing-step, reach-most, extended-chars, extended-front, extended-length}
 use Rattle.area.specs.Content.{dataIn, fill, recordsOf}
 use Rattle.area.specs.Soundness.{unsoundUsed, lowest}
 use Rattle.area.proofs.Places.{length-lent}
@@ -42,8 +42,9 @@ use Rattle.area_read.proofs.Lows.{lowest-met}
 -- ---- one interval
 
 -- after `extend` the buffer begins with the separator that was put together
-pub joined : (buf ib new : List ℕ) (f l at : ℕ) → f + l ≤ length buf → at + l ≤ length ib → new ≡ splice buf f (part ib at l) → take (f + l) new ≡ joinedOf f buf ib at l
-joined buf ib new f l at h i e = extended-front ib buf new buf (length buf) f l at (take-length buf) (omega arith) h i e
+pub joined : (buf ib new : List ℕ) (f l at : ℕ) → f + reach l ≤ length buf → at + reach l ≤ length ib → new ≡ splice buf f (part ib at (reach l))
+    → take (f + l) new ≡ joinedOf f buf ib at l
+joined buf ib new f l at h i e = extended-chars ib buf new f l at h i e
 
 module _ (m : Measures) (ci low high : List ℕ) (small : length ci ≤ 32768) (sized : 4 ≤ length ci) (some : 1 ≤ m .key) (inside : m .offset + m .key ≤ m .least) where
   by-bound : (b : Bool) (o : Opened) → both (sound m ci) (above low (keysOf m (recordsIn ci))) ≡ b
@@ -97,7 +98,7 @@ pick-none false k ks e = absurd (let z : _≡_ {A = ℕ} 0 1 = cc in omega arith
 pub record Going (m : Measures) (n : ℕ) (area ib : List ℕ) (worst : ℕ) (buf : List ℕ) (right before i low records : ℕ) : Type 0 where
   pub ref : List ℕ
   pub standing : Standing (widthFor n) (m .key) n ib i right before ref
-  pub whole : length buf ≡ 255
+  pub whole : length buf ≡ 263
   pub front : take before buf ≡ ref
   pub lowers : lowest worst (unsoundUsed m area [] (readIndex (widthFor n) n ib .entries))
       ≡ lowest low (unsoundUsed m area (boundBefore (m .key) [] (take i (readIndex (widthFor n) n ib .entries))) (drop i (readIndex (widthFor n) n ib .entries)))
@@ -114,13 +115,13 @@ module _ (m : Measures) (n : ℕ) (area ib : List ℕ) (worst : ℕ) where
   abbrev es : List Entry
   es = readIndex (widthFor n) n ib .entries
 
-  pub setting-out : m .key ≤ 255 → soundIndex (widthFor n) (m .key) n [] [] ib ≡ true → Going m n area ib worst (replicate 255 0) (length ib - 7) 0 0 worst 0
+  pub setting-out : 7 ≤ length ib → m .key ≤ 255 → soundIndex (widthFor n) (m .key) n [] [] ib ≡ true → Going m n area ib worst (replicate 263 0) (length ib - 7) 0 0 worst 0
   unfolding boundBefore
-  setting-out k h =
+  setting-out large k h =
       record {
         ref = [];
-        standing = standing-start w (m .key) n ib k h;
-        whole = length-replicate {A = ℕ} 255 0;
+        standing = standing-start w (m .key) n ib large k h;
+        whole = length-replicate {A = ℕ} 263 0;
         front = refl;
         lowers = refl;
         clean = λ z. z;
@@ -154,7 +155,7 @@ module _ (m : Measures) (n : ℕ) (area ib : List ℕ) (worst : ℕ) where
 
     -- for the call that takes it apart
     pub entry-lies : Lies (widthFor n) ib right
-    entry-lies = (width-most n, g .standing .lie .inside, step .room)
+    entry-lies = (width-most n, omega (arith, g .standing .lie .inside), step .room)
 
     -- what is in the buffer, in the definition's words
     low-held : lowIn m (eqb i 0) before buf ≡ boundBefore (m .key) [] (take i es)
@@ -174,7 +175,7 @@ module _ (m : Measures) (n : ℕ) (area ib : List ℕ) (worst : ℕ) where
       pub fits : s .front + s .len ≤ m .key
       fits = rw e (step .fits)
 
-      inside : s .at + s .len ≤ length ib
+      inside : s .at + reach (s .len) ≤ length ib
       inside = rw e (step .inside)
 
       pub entry-fits : Fits m n (length area)
@@ -184,25 +185,25 @@ module _ (m : Measures) (n : ℕ) (area ib : List ℕ) (worst : ℕ) where
           (omega (arith, z, fits-large f), omega (arith, z, fits-small f), f .key-some, f .key-inside, g .standing .short, omega (arith, f .key-most, g .whole), fits, inside)
 
       pub onward : (new : List ℕ) (ok : Bool) (count : ℕ) → m .key ≤ 255 → ok ≡ soundUsed m (lowIn m (eqb i 0) before buf) (highIn m buf ib s) (dataIn m area (s .number))
-          → (ok ≡ true → count ≡ length (recordsIn (dataIn m area (s .number)))) → count ≤ 32768 → new ≡ splice buf (s .front) (part ib (s .at) (s .len))
+          → (ok ≡ true → count ≡ length (recordsIn (dataIn m area (s .number)))) → count ≤ 32768 → new ≡ splice buf (s .front) (part ib (s .at) (reach (s .len)))
           → Going m n area ib worst new (s .at) (s .front + s .len) (i + 1) (pick ok low (min (s .number) low)) (records + count)
       onward new ok count key j k c is =
           rw (e, add-one i)
           (record {
             ref = sep;
             standing = step .next;
-            whole = extended-length ib buf new (g .ref) before F L (charsAt w ib right) (g .front) (step .front) room (step .inside) is' ∙ g .whole;
-            front = extended-front ib buf new (g .ref) before F L (charsAt w ib right) (g .front) (step .front) room (step .inside) is';
+            whole = extended-length ib buf new F L (charsAt w ib right) room (step .inside) is' ∙ g .whole;
+            front = extended-front ib buf new F L (charsAt w ib right) room (step .inside) is' (g .ref) before (g .front) (step .front);
             lowers = g .lowers ∙ rw split (lowest-pick ok low num (unsoundUsed m area (bound (m .key) sep) (drop (suc i) es)) ∙ rw bounds);
             clean = λ (z : unsoundUsed m area [] es ≡ []). rw bounds (none z .1);
             counts = λ (z : unsoundUsed m area [] es ≡ []). g .counts z ∙ rw (step .here) (omega (arith, records-cons m area (entry sep num) (drop (suc i) es), k' (none z .0)));
             few = omega (arith, g .few, one-more);
           })
         where
-          room : F + L ≤ length buf
-          room = omega (arith, step .fits, g .whole, key)
+          room : F + reach L ≤ length buf
+          room = omega (arith, step .fits, g .whole, key, reach-most L)
 
-          is' : new ≡ splice buf F (part ib (charsAt w ib right) L)
+          is' : new ≡ splice buf F (part ib (charsAt w ib right) (reach L))
           is' = rw e at is
 
           j' : ok ≡ soundUsed m (boundBefore (m .key) [] (take i es)) (bound (m .key) sep) (dataIn m area num)

@@ -15,7 +15,7 @@ use Rattle.index.specs.Meaning.{Entry}
 use Rattle.index.specs.Reading.{readIndex, soundIndex}
 use Rattle.index.specs.Bounds.{bound}
 use Rattle.index_step.specs.declared.Step.{Step}
-use Rattle.index_step.specs.AidStep.{joinedOf}
+use Rattle.index_step.specs.AidStep.{joinedOf, reach}
 use Rattle.area.specs.Content.{fill, recordsOf}
 use Rattle.area.specs.Soundness.{unsoundUsed}
 use Rattle.area_read.specs.declared.Seen.{Seen}
@@ -33,7 +33,7 @@ Counted m area low es records = unsoundUsed m area low es ≡ [] → records ≡
 abbrev pub EntryLies : Measures → List ℕ → List ℕ → ℕ → List ℕ → Step → Type 0
 EntryLies m ci buf before ib s =
     (4 ≤ length ci) × (length ci ≤ 32768) × (1 ≤ m .key) × (m .offset + m .key ≤ m .least) × (before ≤ m .key)
-    × (m .key ≤ length buf) × (s .front + s .len ≤ m .key) × (s .at + s .len ≤ length ib)
+    × (m .key + 8 ≤ length buf) × (s .front + s .len ≤ m .key) × (s .at + reach (s .len) ≤ length ib)
 
 -- an aid: an area that was judged, its index record sound, and how many entries that has
 abbrev pub EntriesSound : Measures → ℕ → List ℕ → List ℕ → ℕ → Type 0

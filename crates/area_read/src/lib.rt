@@ -13,12 +13,14 @@ ghost use Rattle.interval.specs.Role.{soundUsed};
 ghost use Rattle.interval_read.specs.AidOpened.{Inside};
 ghost use Rattle.index.specs.Meaning.{below};
 ghost use Rattle.index.specs.Reading.{numbersAt, readIndex};
+ghost use Rattle.index_step.specs.AidStep.{reach};
 ghost use Rattle.area.specs.Soundness.{unsoundFree, unsoundUsed, lowest};
 ghost use Rattle.area.specs.Reading.{readArea};
 ghost use Rattle.area.specs.Checked.{checkedOf};
 ghost use Rattle.area_read.specs.AidEntries.{Closed, Counted, EntryLies, EntriesSound, lowIn, highIn};
 use area::Checked;
 use index_read::Index;
+use index_step::BUFFER;
 use index_step::Step;
 use interval_read::Opened;
 use measures::Measures;
@@ -96,7 +98,7 @@ pub(crate) fn entry_seen(
     requires { ⌜ EntryLies m (now ci) (now buf) before (now ib) s ⌝ }
     ensures judged { λ r. ⌜ r .ok ≡ soundUsed m (lowIn m first before (now (buf .entry))) (highIn m (now (buf .entry)) (now (ib .entry)) s) (now (ci .entry)) ⌝ }
     ensures counted { λ r. ⌜ (r .ok ≡ true → r .count ≡ length (recordsIn (now (ci .entry)))) × (r .count ≤ 32768) ⌝ }
-    ensures renewed { λ _. ⌜ now (buf .exit) ≡ splice (now (buf .entry)) (s .front) (part (now (ib .entry)) (s .at) (s .len)) ⌝ }
+    ensures renewed { λ _. ⌜ now (buf .exit) ≡ splice (now (buf .entry)) (s .front) (part (now (ib .entry)) (s .at) (reach (s .len))) ⌝ }
 {
     let opened = interval_read::opens(ci, m, first, &buf[..before]);
     index_step::extend(buf, s.front, ib, s.at, s.len);
@@ -118,7 +120,7 @@ pub(crate) fn used_worst(
     ensures counted { λ r. ⌜ Counted m (now (area .entry)) [] (readIndex (widthFor n) n (now (ib .entry)) .entries) (r .records) ⌝ }
 {
     let w = measures::width_for(n);
-    let mut buf = [0u8; 255];
+    let mut buf = [0u8; BUFFER];
     let mut right = ib.len() - 7;
     let mut before: usize = 0;
     let mut i: usize = 0;

@@ -14,6 +14,7 @@ use Rattle.fields.proofs.common_front.Reads as common-front
 use Rattle.fields.proofs.compare_bytes.Reads as compare-bytes
 use Rattle.fields.proofs.compare.Reads as compare
 use Rattle.fields.proofs.copy.Reads as copy
+use Rattle.fields.proofs.copy_eight.Reads as copy-eight
 use Rattle.fields.proofs.fill.Reads as fill
 
 pub unique-wide : (κs : _) (args : _) (r s : ℕ) (e f : _) → wide.Learnt κs args r e → wide.Learnt κs args s f → r ≡ s
@@ -48,6 +49,9 @@ unique-compare κs args r s e f p q = agree p q
 
 pub unique-copy : (κs : _) (args : _) (r s : _) (e f : _) → copy.Learnt κs args r e → copy.Learnt κs args s f → e .0 .now ≡ f .0 .now
 unique-copy κs args r s e f p q = agree p q
+
+pub unique-copy-eight : (κs : _) (args : _) (r s : _) (e f : _) → copy-eight.Learnt κs args r e → copy-eight.Learnt κs args s f → e .0 .now ≡ f .0 .now
+unique-copy-eight κs args r s e f p q = agree p q
 
 pub unique-fill : (κs : _) (args : _) (r s : _) (e f : _) → fill.Learnt κs args r e → fill.Learnt κs args s f → e .0 .now ≡ f .0 .now
 unique-fill κs args r s e f p q = agree p q

@@ -20,8 +20,8 @@ use Rattle.index.proofs.Sounding.{sound-apart}
 use Rattle.index.proofs.Keeping.{Keeps, rules-apart}
 use Rattle.index.proofs.Leading.{lead-base, belongs-inside}
 use Rattle.index_step.specs.declared.Step.{Step}
-use Rattle.index_step.specs.AidStep.{frontAt, charsAt, stepAt, Lies}
-use Rattle.index_step.proofs.Stepping.{Standing, Stepped, standing-start, standing-step, entries-count, extended-front, extended-length}
+use Rattle.index_step.specs.AidStep.{frontAt, charsAt, stepAt, Lies, reach}
+use Rattle.index_step.proofs.Stepping.{Standing, Stepped, standing-start, standing-step, entries-count, reach-most, extended-front, extended-length}
 use Rattle.index_find.specs.AidLocate.{Searchable, Leads}
 
 -- the answer of a comparison
@@ -41,17 +41,17 @@ pub record State (ib : List ℕ) (n : ℕ) (key buf : List ℕ) (r i : ℕ) : Ty
   pub len : ℕ
   pub ref : List ℕ
   pub standing : Standing (widthFor n) (length key) n ib i r len ref
-  pub whole : length buf ≡ 255
+  pub whole : length buf ≡ 263
   pub front : take len buf ≡ ref
   pub same : leadsTo key (readIndex (widthFor n) n ib .entries) ≡ i + leadsTo key (drop i (readIndex (widthFor n) n ib .entries))
 
-pub start : (ib : List ℕ) (n : ℕ) (key : List ℕ) → Searchable ib n key → State ib n key (replicate 255 0) (length ib - 7) 0
+pub start : (ib : List ℕ) (n : ℕ) (key : List ℕ) → Searchable ib n key → State ib n key (replicate 263 0) (length ib - 7) 0
 start ib n key g =
     record {
       len = 0;
       ref = [];
-      standing = standing-start (widthFor n) (length key) n ib (g .short) (g .sound);
-      whole = length-replicate {A = ℕ} 255 0;
+      standing = standing-start (widthFor n) (length key) n ib (omega (arith, g .least)) (g .short) (g .sound);
+      whole = length-replicate {A = ℕ} 263 0;
       front = refl;
       same = omega arith;
     }
@@ -88,28 +88,28 @@ module _ (ib : List ℕ) (n : ℕ) (key buf : List ℕ) (r i : ℕ) (g : Searcha
   abbrev sep : List ℕ
   sep = spelt (st .ref) (pieceAt (widthFor n) ib r)
 
+  fits : F + reach L ≤ length buf
+  fits = omega (arith, step .fits, g .short, st .whole, reach-most L)
+
   -- for the calls
   pub entry-lies : Lies (widthFor n) ib r
-  entry-lies = (width-most n, st .standing .lie .inside, step .room)
+  entry-lies = (width-most n, omega (arith, st .standing .lie .inside), step .room)
 
-  pub extend-fits : (s : Step) → s ≡ stepAt (widthFor n) ib r → (s .front + s .len ≤ length buf) × (s .at + s .len ≤ length ib)
-  extend-fits s e = rw e (omega (arith, step .fits, g .short, st .whole), step .inside)
+  pub extend-fits : (s : Step) → s ≡ stepAt (widthFor n) ib r → (s .front + reach (s .len) ≤ length buf) × (s .at + reach (s .len) ≤ length ib)
+  extend-fits s e = rw e (fits, step .inside)
 
   pub below-fits : (s : Step) → s ≡ stepAt (widthFor n) ib r → s .front + s .len ≤ length key
   below-fits s e = rw e (step .fits)
 
-  module _ (s : Step) (e : s ≡ stepAt (widthFor n) ib r) (new : List ℕ) (is : new ≡ splice buf (s .front) (part ib (s .at) (s .len))) where
-    is' : new ≡ splice buf F (part ib (charsAt w ib r) L)
+  module _ (s : Step) (e : s ≡ stepAt (widthFor n) ib r) (new : List ℕ) (is : new ≡ splice buf (s .front) (part ib (s .at) (reach (s .len)))) where
+    is' : new ≡ splice buf F (part ib (charsAt w ib r) (reach L))
     is' = rw e at is
 
-    pub whole-on : length new ≡ 255
-    whole-on =
-        extended-length ib buf new (st .ref) (st .len) F L (charsAt w ib r) (st .front) (step .front) (omega (arith, step .fits, g .short, st .whole)) (step .inside) is'
-        ∙ st .whole
+    pub whole-on : length new ≡ 263
+    whole-on = extended-length ib buf new F L (charsAt w ib r) fits (step .inside) is' ∙ st .whole
 
     front-on : take (F + L) new ≡ sep
-    front-on =
-        extended-front ib buf new (st .ref) (st .len) F L (charsAt w ib r) (st .front) (step .front) (omega (arith, step .fits, g .short, st .whole)) (step .inside) is'
+    front-on = extended-front ib buf new F L (charsAt w ib r) fits (step .inside) is' (st .ref) (st .len) (st .front) (step .front)
 
     -- the test, in the definition's words
     tested : leadsTo key es ≡ i + pick (less (take (F + L) new) (take (F + L) key)) (suc (leadsTo key (drop (suc i) es))) 0

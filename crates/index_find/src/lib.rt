@@ -5,6 +5,7 @@ ghost use lib.ListN.{length, take};
 ghost use Rattle.fields.specs.Order.{less};
 ghost use Rattle.index_find.specs.AidLocate.{Searchable, Leads};
 use fields::Order;
+use index_step::BUFFER;
 
 // The entry that a key leads to: its place among the entries, from 0, and the number of its interval.
 pub struct Located {
@@ -30,7 +31,7 @@ pub fn locate(ib: &[u8], n: usize, key: &[u8]) -> Located
     ensures { λ r. ⌜ Leads (now (ib .entry)) n (now (key .entry)) r ⌝ }
 {
     let w = measures::width_for(n);
-    let mut buf = [0u8; 255];
+    let mut buf = [0u8; BUFFER];
     let mut r = ib.len() - 7;
     let mut i = 0;
     while i < n {

@@ -1,21 +1,22 @@
--- Laws of one entry: how it is taken apart, and the buffer that holds its separator.
+-- Laws of one entry: how it is taken apart, and how far the copy of its characters reaches.
 use Prim.Native.Nat.{ℕ, _+_, _-_, _≤_, _<_, min}
 use mathlib.Core.Path.{_≡_, refl, _∙_, sym, ap}
 use mathlib.Core.Bool.{Bool, true, false}
-use mathlib.Core.List.{List, _++_, append-assoc}
-use lib.ListN.{length, getD, take, drop, length-append, length-take, length-drop}
-use lib.Seq.{length-take-le, take-at, getD-take}
+use mathlib.Core.List.{List}
+use lib.ListN.{length, getD, take, drop, length-take, length-drop}
+use lib.Seq.{getD-take}
 use lib.Dec.{leb}
 use native.Mathlib.Omega.{arith}
 use borrow.Author.Tests.{le-leb, lt-leb, leb-true, leb-false}
 use Rattle.fields.specs.Choice.{pick, both}
-use Rattle.fields.specs.Bytes.{part, number, splice}
+use Rattle.fields.specs.Bytes.{part, number}
 use Rattle.fields.proofs.Choices.{both-split, off}
-use Rattle.fields.proofs.Splices.{length-splice, length-mid}
+use Rattle.fields.proofs.Splices.{length-mid}
 use Rattle.index.specs.Pieces.{Piece, pieceSize}
 use Rattle.index.specs.Reading.{lengthAt, pieceAt}
 use Rattle.index_step.specs.declared.Step.{Step}
-use Rattle.index_step.specs.AidStep.{frontAt, charsAt, stepAt}
+use Rattle.index_step.specs.AidStep.{frontAt, charsAt, stepAt, reach}
+use Rattle.index_step.proofs.Stepping.{reach-most}
 use Rattle.index_read.specs.AidParsing.{parses, parsedOf}
 use Rattle.index_read.specs.declared.Parsed.the-variants.{Of, Bad}
 
@@ -126,18 +127,10 @@ module _ (w : ℕ) (ib : List ℕ) (r edge len K f l at num : ℕ) (g : Good w i
   pub place-is : r - pieceSize w (pieceAt w ib r) ≡ at
   place-is = omega (arith, size-is, g .at-is, g .len-is)
 
--- ---- the buffer that holds a separator
-
--- A buffer that was extended begins with the new separator, and is as long as before.
-module _ (buf chars new : List ℕ) (f l : ℕ) (fits : f + l ≤ length buf) (long : length chars ≡ l) (is : new ≡ splice buf f chars) where
-  pub extended-front : take (f + l) new ≡ take f buf ++ chars
-  unfolding splice
-  extended-front =
-      let e : length (take f buf ++ chars) ≡ f + l = omega (arith, length-append (take f buf) chars, length-take-le f buf (omega arith), long) in
-      rw is (ap (λ (x : List ℕ). take (f + l) x) (sym (append-assoc (take f buf) chars _)) ∙ take-at (take f buf ++ chars) _ (f + l) e)
-
-  pub extended-length : length new ≡ length buf
-  extended-length = ap length is ∙ length-splice buf f chars (omega arith)
+-- what is copied of its characters lies in the record, and in a buffer that has room for a separator and eight bytes more
+pub reaches : (w : ℕ) (ib : List ℕ) (r edge len K f l at num n : ℕ) → Good w ib r edge len K f l at num → r + 7 ≤ length ib → K + 8 ≤ n
+    → (f + reach l ≤ n) × (at + reach l ≤ length ib)
+reaches w ib r edge len K f l at num n g inside whole = (omega (arith, g .fits, reach-most l), omega (arith, g .at-is, g .len-is, g .room, reach-most l))
 
 -- ---- the last byte
 

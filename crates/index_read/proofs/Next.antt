@@ -13,11 +13,12 @@ use Rattle.fields.specs.Bytes.{part, number, splice}
 use Rattle.fields.proofs.Choices.{both-split, both-false}
 use Rattle.index.specs.Bounds.{separator}
 use Rattle.index.specs.Reading.{lengthAt}
-use Rattle.index_step.specs.AidStep.{frontAt, charsAt}
+use Rattle.index_step.specs.AidStep.{frontAt, charsAt, reach}
+use Rattle.index_step.proofs.Stepping.{extended-chars}
 use Rattle.index_read.specs.AidParsing.{parses, parsedOf}
 use Rattle.index_read.specs.AidWalk.{boundRises, nextIn, entryOf}
 use Rattle.index_read.specs.declared.Parsed.the-variants.{Of, Bad}
-use Rattle.index_read.proofs.Entry.{Good, good, bad-of, chars-length, extended-front}
+use Rattle.index_read.proofs.Entry.{Good, good, bad-of, chars-length, reaches}
 
 -- no test makes a bad answer good
 pick-bad : (t : Bool) → pick t Bad Bad ≡ Bad
@@ -29,7 +30,7 @@ module _ (w : ℕ) (ib : List ℕ) (r edge len K : ℕ) (first : Bool) (buf : Li
   unfolding entryOf
   entry-unparsed h = sym (rw h (pick-bad (both (boundRises first K (take len buf) (nextIn w ib r buf)) (separator K (nextIn w ib r buf)))))
 
-  module _ (f l at num : ℕ) (parsed : parsedOf w ib r edge len K ≡ Of f l at num) (inside : r ≤ length ib) (whole : K ≤ length buf) where
+  module _ (f l at num : ℕ) (parsed : parsedOf w ib r edge len K ≡ Of f l at num) (inside : r + 7 ≤ length ib) (whole : K + 8 ≤ length buf) where
     g : Good w ib r edge len K f l at num
     g = good w ib r edge len K f l at num parsed
 
@@ -42,15 +43,17 @@ module _ (w : ℕ) (ib : List ℕ) (r edge len K : ℕ) (first : Bool) (buf : Li
     sep-length : length sep ≡ f + l
     sep-length =
         omega
-        (arith, length-append (take f buf) (part ib at l), length-take-le f buf (omega (arith, g .fits)), chars-length w ib r edge len K f l at num g inside)
+        (arith, length-append (take f buf) (part ib at l), length-take-le f buf (omega (arith, g .fits)), chars-length w ib r edge len K f l at num g (omega arith))
 
     pub entry-low : false ≡ boundRises first K (take len buf) sep → Bad ≡ entryOf w ib r edge len K first buf
     unfolding entryOf
     entry-low h = sym (rw (next-is, ← h))
 
-    module _ (new : List ℕ) (is : new ≡ splice buf f (part ib at l)) where
+    module _ (new : List ℕ) (is : new ≡ splice buf f (part ib at (reach l))) where
       last-same : getD (take (f + l) new) (f + l - 1) 0 ≡ getD sep (length sep - 1) 0
-      last-same = rw (extended-front buf (part ib at l) new f l (omega (arith, g .fits)) (chars-length w ib r edge len K f l at num g inside) is, sep-length)
+      last-same =
+          let q = reaches w ib r edge len K f l at num (length buf) g inside whole in
+          rw (extended-chars ib buf new f l at (q .0) (q .1) is, sep-length)
 
       pub entry-high : getD (take (f + l) new) (f + l - 1) 0 ≡ 255 → Bad ≡ entryOf w ib r edge len K first buf
       unfolding entryOf separator

@@ -15,12 +15,13 @@ use Rattle.fields.proofs.Choices.{false-true, both-split, both-join, off, both-
 use Rattle.index.specs.Bounds.{empty, bound, separator}
 use Rattle.index.specs.Pieces.{spelt, pieceSize}
 use Rattle.index.specs.Reading.{lengthAt, pieceAt, piecesAt}
-use Rattle.index_step.specs.AidStep.{frontAt, charsAt}
+use Rattle.index_step.specs.AidStep.{frontAt, charsAt, reach}
+use Rattle.index_step.proofs.Stepping.{extended-chars, extended-length}
 use Rattle.index_read.specs.AidParsing.{parsedOf}
 use Rattle.index_read.specs.AidWalk.{boundRises, nextIn, entryOf, chain, pieceNumbers, marking, seenAfter, usedAll, fineFrom}
 use Rattle.index_read.specs.declared.Marks.{Marks}
 use Rattle.index_read.specs.declared.Parsed.the-variants.{Of, Bad}
-use Rattle.index_read.proofs.Entry.{Good, good, parses-joined, size-is, place-is, chars-length, extended-front, extended-length}
+use Rattle.index_read.proofs.Entry.{Good, good, parses-joined, size-is, place-is, chars-length, reaches}
 use Rattle.index_read.proofs.Next.{entry-good, entry-bad}
 use Rattle.index_step.proofs.Walking.{pieces-next}
 use Rattle.index_read.proofs.Linking.{Link, link}
@@ -77,23 +78,23 @@ pub record State (w K n e : ℕ) (ib : List ℕ) (count : ℕ) (m₀ m : Marks) 
   pub ref : List ℕ
   pub long : length ref ≡ len
   pub short : len ≤ K
-  pub whole : length buf ≡ 255
+  pub whole : length buf ≡ 263
   pub held : take len buf ≡ ref
   pub fine : separator len ref ≡ true
-  pub inside : r ≤ length ib
+  pub inside : r + 7 ≤ length ib
   pub few : left ≤ count
   pub counts : m .used + left < 2 ^ 64
   pub same : fineFrom w K n e ib (m₀ .seen) [] [] (length ib - 7) count ≡ fineFrom w K n e ib (m .seen) (lowOf (eqb left count) K ref) ref r left
   pub marks : usedAll m₀ (pieceNumbers (piecesAt w ib (length ib - 7) count)) ≡ usedAll m (pieceNumbers (piecesAt w ib r left))
 
-pub start : (w K n e : ℕ) (ib : List ℕ) (count : ℕ) (m₀ : Marks) → K ≤ 255 → m₀ .used + count < 2 ^ 64
-    → State w K n e ib count m₀ m₀ (replicate 255 0) 0 (length ib - 7) count
-start w K n e ib count m₀ h g =
+pub start : (w K n e : ℕ) (ib : List ℕ) (count : ℕ) (m₀ : Marks) → 7 ≤ length ib → K ≤ 255 → m₀ .used + count < 2 ^ 64
+    → State w K n e ib count m₀ m₀ (replicate 263 0) 0 (length ib - 7) count
+start w K n e ib count m₀ large h g =
     record {
       ref = [];
       long = refl;
       short = omega arith;
-      whole = length-replicate {A = ℕ} 255 0;
+      whole = length-replicate {A = ℕ} 263 0;
       held = refl;
       fine = unfold separator in refl;
       inside = omega arith;
@@ -146,7 +147,7 @@ module _ (w K n e : ℕ) (ib : List ℕ) (count : ℕ) (m₀ m : Marks) (buf : L
   next-is h = rw (front-held (frontAt w ib r) h)
 
   pub bad-entry : entryOf w ib r e len K (eqb left count) buf ≡ Bad → false ≡ all
-  bad-entry h = not-all (λ p. no (link w K ib e r low (st .ref) left (st .inside) more (apart p .0)))
+  bad-entry h = not-all (λ p. no (link w K ib e r low (st .ref) left (omega (arith, st .inside)) more (apart p .0)))
     where
       no : Link w K ib e r low (st .ref) left → ⊥
       no k =
@@ -182,10 +183,10 @@ module _ (w K n e : ℕ) (ib : List ℕ) (count : ℕ) (m₀ m : Marks) (buf : L
     next-sep = next-is (omega (arith, fits .front, fits .front-is)) ∙ sep-is
 
     place : r - pieceSize w (pieceAt w ib r) ≡ at
-    place = place-is w ib r e len K f l at num fits (st .inside)
+    place = place-is w ib r e len K f l at num fits (omega (arith, st .inside))
 
     t1 : leb (e + pieceSize w (pieceAt w ib r)) r ≡ true
-    t1 = le-leb (e + pieceSize w (pieceAt w ib r)) r (omega (arith, size-is w ib r e len K f l at num fits (st .inside), fits .room))
+    t1 = le-leb (e + pieceSize w (pieceAt w ib r)) r (omega (arith, size-is w ib r e len K f l at num fits (omega (arith, st .inside)), fits .room))
 
     t2 : leb (frontAt w ib r) (length (st .ref)) ≡ true
     t2 = le-leb (frontAt w ib r) (length (st .ref)) (omega (arith, fits .front, fits .front-is, st .long))
@@ -204,7 +205,7 @@ module _ (w K n e : ℕ) (ib : List ℕ) (count : ℕ) (m₀ m : Marks) (buf : L
     sep-long : length sep ≡ f + l
     sep-long =
         omega
-        (arith, length-append (take f (st .ref)) (part ib at l), length-take-le f (st .ref) (omega (arith, fits .front, st .long)), chars-length w ib r e len K f l at num fits (st .inside))
+        (arith, length-append (take f (st .ref)) (part ib at l), length-take-le f (st .ref) (omega (arith, fits .front, st .long)), chars-length w ib r e len K f l at num fits (omega (arith, st .inside)))
 
     abbrev m' : Marks
     m' = record { seen = set (m .seen) num 1; used = m .used + 1; free = m .free }
@@ -216,15 +217,12 @@ module _ (w K n e : ℕ) (ib : List ℕ) (count : ℕ) (m₀ m : Marks) (buf : L
         let a : m .used + suc (length xs) ≡ m .used + 1 + length xs = omega arith in
         rw (pieces-next w ib r left more, place, ← fits .num-is, a)
 
-    module _ (new : List ℕ) (is : new ≡ splice buf f (part ib at l)) (most : K ≤ 255) where
-      inside-buf : f + l ≤ length buf
-      inside-buf = omega (arith, fits .fits, st .whole)
-
-      chars-long : length (part ib at l) ≡ l
-      chars-long = chars-length w ib r e len K f l at num fits (st .inside)
+    module _ (new : List ℕ) (is : new ≡ splice buf f (part ib at (reach l))) (most : K ≤ 255) where
+      reach-in : (f + reach l ≤ length buf) × (at + reach l ≤ length ib)
+      reach-in = reaches w ib r e len K f l at num (length buf) fits (st .inside) (omega (arith, st .whole))
 
       held-on : take (f + l) new ≡ sep
-      held-on = extended-front buf (part ib at l) new f l inside-buf chars-long is ∙ rw (front-held f (fits .front))
+      held-on = extended-chars ib buf new f l at (reach-in .0) (reach-in .1) is ∙ rw (front-held f (fits .front))
 
       pub onward : num < n → getD (m .seen) num 0 ≡ 0 → State w K n e ib count m₀ m' new (f + l) at (left - 1)
       onward h z =
@@ -233,7 +231,7 @@ module _ (w K n e : ℕ) (ib : List ℕ) (count : ℕ) (m₀ m : Marks) (buf : L
             ref = sep;
             long = sep-long;
             short = fits .fits;
-            whole = extended-length buf (part ib at l) new f l inside-buf chars-long is ∙ st .whole;
+            whole = extended-length ib buf new f l at (reach-in .0) (reach-in .1) is ∙ st .whole;
             held = held-on;
             fine = separator-own K sep (f + l) sep-long t3;
             inside = omega (arith, fits .at-is, st .inside);

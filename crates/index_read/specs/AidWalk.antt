@@ -13,7 +13,7 @@ use Rattle.measures.specs.Judgement.{limit}
 use Rattle.index.specs.Bounds.{empty, bound, separator}
 use Rattle.index.specs.Pieces.{Piece, spelt, pieceSize}
 use Rattle.index.specs.Reading.{unusedAt, lastAt, sectionAt, freeCount, lengthAt, piecesAt}
-use Rattle.index_step.specs.AidStep.{frontAt, charsAt, joinedOf}
+use Rattle.index_step.specs.AidStep.{frontAt, charsAt, joinedOf, reach}
 use Rattle.index_read.specs.AidParsing.{parsedOf}
 use Rattle.index_read.specs.declared.Marks.{Marks}
 use Rattle.index_read.specs.declared.Parsed.{Parsed}
@@ -54,7 +54,7 @@ entryOf w ib r edge len K first buf =
 -- after a good entry the buffer begins with its separator
 abbrev pub Renewed : List ℕ → List ℕ → List ℕ → Parsed → Type 0
 Renewed ib old new Bad = Unit {0}
-Renewed ib old new (Of f l at number) = new ≡ splice old f (part ib at l)
+Renewed ib old new (Of f l at number) = new ≡ splice old f (part ib at (reach l))
 
 -- ---- all entries
 

@@ -14,6 +14,7 @@ ghost use Rattle.index_read.specs.AidParsing.{parsedOf};
 ghost use Rattle.index_read.specs.AidWalk.{Ascends, placesOf, entryOf, Renewed, marking};
 ghost use Rattle.index_read.specs.AidWalk.{fineFrom, pieceNumbers, emptyMarks, freeAll, usedAll, Walkable};
 use fields::Order;
+use index_step::BUFFER;
 use measures::LIMIT;
 
 // Which interval numbers were met, and how many of them as free and by entries.
@@ -158,7 +159,7 @@ pub(crate) fn next_entry(
     len: usize,
     by: Limits,
 ) -> Parsed
-    requires { ⌜ (1 ≤ by .width) × (by .width ≤ 4) × (r ≤ length (now ib)) × (by .edge < 65536) × (by .key ≤ length (now buf)) ⌝ }
+    requires { ⌜ (1 ≤ by .width) × (by .width ≤ 4) × (r + 7 ≤ length (now ib)) × (by .edge < 65536) × (by .key + 8 ≤ length (now buf)) ⌝ }
     requires held { ⌜ (len ≤ by .key) × (separator len (take len (now buf)) ≡ true) ⌝ }
     ensures is { λ x. ⌜ x ≡ entryOf (by .width) (now (ib .entry)) r (by .edge) len (by .key) first (now (buf .entry)) ⌝ }
     ensures renewed { λ x. ⌜ Renewed (now (ib .entry)) (now (buf .entry)) (now (buf .exit)) x ⌝ }
@@ -241,7 +242,7 @@ pub(crate) fn walk_entries(marks: Marks, ib: &[u8], count: usize, by: Limits) ->
     ensures marks { λ r. ⌜ (r .ok ≡ true → r .marks ≡ usedAll marks (pieceNumbers (piecesAt (by .width) (now (ib .entry)) (length (now (ib .entry)) - 7) count))) ⌝ }
 {
     let mut m = marks;
-    let mut buf = [0u8; 255];
+    let mut buf = [0u8; BUFFER];
     let mut len = 0;
     let mut r = ib.len() - 7;
     let mut left = count;

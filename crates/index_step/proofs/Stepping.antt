@@ -3,13 +3,13 @@
 -- the buffer begins with after `extend`.
 use Prim.Native.Nat.{ℕ, zero, suc, _+_, _-_, _≤_, _<_}
 use mathlib.Core.Path.{_≡_, refl, _∙_, sym, ap}
-use mathlib.Core.Bool.{true}
-use mathlib.Core.List.{List, [], _∷_, _++_, append-assoc}
-use lib.ListN.{length, take, drop, length-append}
-use lib.Seq.{length-take-le, take-take, take-at}
-use lib.Dec.{eqb}
+use mathlib.Core.Bool.{Bool, true, false}
+use mathlib.Core.List.{List, [], _∷_, _++_}
+use lib.ListN.{length, take, drop}
+use lib.Seq.{length-take-le, take-take, take-append-le}
+use lib.Dec.{eqb, ltb}
 use native.Mathlib.Omega.{arith}
-use borrow.Author.Tests.{ne-eqb}
+use borrow.Author.Tests.{ne-eqb, ltb-false, lt-ltb, le-ltb}
 use Rattle.fields.specs.Choice.{pick}
 use Rattle.fields.specs.Bytes.{part, number, splice}
 use Rattle.fields.proofs.Splices.{length-splice, length-mid}
@@ -25,9 +25,38 @@ use Rattle.index.proofs.Counting.{below-apart}
 use Rattle.index.proofs.Apart.{length-piecesAt, entries-are}
 use Rattle.index.proofs.Compressing.{length-spell}
 use Rattle.index.proofs.Inserting.{before-snoc}
-use Rattle.index_step.specs.AidStep.{frontAt, charsAt}
+use Rattle.index_step.specs.AidStep.{frontAt, charsAt, reach}
 use Rattle.index_step.specs.AidEntries.{EntriesLie}
 use Rattle.index_step.proofs.Walking.{Next, next, rises-short}
+
+-- ---- how far the copy reaches
+
+pub reach-least : (l : ℕ) → l ≤ reach l
+reach-least l = go (ltb 8 l) refl
+  where
+    go : (t : Bool) → ltb 8 l ≡ t → l ≤ pick t l 8
+    go true h = omega arith
+    go false h = ltb-false 8 l h
+
+pub reach-most : (l : ℕ) → reach l ≤ l + 8
+reach-most l = go (ltb 8 l)
+  where
+    go : (t : Bool) → pick t l 8 ≤ l + 8
+    go true = omega arith
+    go false = omega arith
+
+pub reach-long : (l : ℕ) → 8 < l → reach l ≡ l
+reach-long l h = rw (lt-ltb 8 l h)
+
+pub reach-few : (l : ℕ) → l ≤ 8 → reach l ≡ 8
+reach-few l h = rw (le-ltb 8 l h)
+
+take-append-add : (xs ys : List ℕ) (f l : ℕ) → length xs ≡ f → take (f + l) (xs ++ ys) ≡ xs ++ take l ys
+take-append-add [] ys f l h = let z : f + l ≡ l = omega arith in rw z
+take-append-add (x ∷ xs) ys zero l h = absurd (omega arith)
+take-append-add (x ∷ xs) ys (suc f) l h =
+    let z : suc f + l ≡ suc (f + l) = omega arith in
+    rw (z, take-append-add xs ys f l (omega arith))
 
 -- ---- where a pass stands
 
@@ -48,9 +77,9 @@ unfolding readIndex piecesIn
 entries-count w n ib = length-spell [] (piecesAt w ib (length ib - 7) (n - freeCount w ib)) ∙ length-piecesAt w ib (length ib - 7) (n - freeCount w ib)
 
 -- All entries of a sound record can be read.
-pub entries-lie : (w K n : ℕ) (ib : List ℕ) → K ≤ 255 → soundIndex w K n [] [] ib ≡ true → EntriesLie w ib (length ib - 7) (n - freeCount w ib) []
+pub entries-lie : (w K n : ℕ) (ib : List ℕ) → 7 ≤ length ib → K ≤ 255 → soundIndex w K n [] [] ib ≡ true → EntriesLie w ib (length ib - 7) (n - freeCount w ib) []
 unfolding piecesIn
-entries-lie w K n ib few h =
+entries-lie w K n ib large few h =
     let s : Sound w K n [] [] ib = sound-apart w K n [] [] ib h in
     let k : Keeps (length ib) K n [] [] (readIndex w n ib) = rules-apart (length ib) K n [] [] (readIndex w n ib) (s .rules) in
     record {
@@ -60,9 +89,9 @@ entries-lie w K n ib few h =
       few = rises-short K [] _ few (rw (entries-are w n ib) at (k .rising));
     }
 
-pub standing-start : (w K n : ℕ) (ib : List ℕ) → K ≤ 255 → soundIndex w K n [] [] ib ≡ true → Standing w K n ib 0 (length ib - 7) 0 []
+pub standing-start : (w K n : ℕ) (ib : List ℕ) → 7 ≤ length ib → K ≤ 255 → soundIndex w K n [] [] ib ≡ true → Standing w K n ib 0 (length ib - 7) 0 []
 unfolding boundBefore
-standing-start w K n ib few h =
+standing-start w K n ib large few h =
     let s : Sound w K n [] [] ib = sound-apart w K n [] [] ib h in
     let k : Keeps (length ib) K n [] [] (readIndex w n ib) = rules-apart (length ib) K n [] [] (readIndex w n ib) (s .rules) in
     let z : length (readIndex w n ib .entries) - 0 ≡ n - freeCount w ib = omega (arith, entries-count w n ib) in
@@ -72,7 +101,7 @@ standing-start w K n ib few h =
       short = omega arith;
       rest = entries-are w n ib ∙ rw z (unfold piecesIn in refl);
       low = refl;
-      lie = rw z (entries-lie w K n ib few h);
+      lie = rw z (entries-lie w K n ib large few h);
       rising = k .rising;
       named = sound-below w K n [] [] ib h .1;
     }
@@ -96,7 +125,7 @@ pub record Stepped (w K n : ℕ) (ib : List ℕ) (i r len : ℕ) (ref : List ℕ
   pub room : w + 2 + lengthAt w ib r ≤ r
   pub front : frontAt w ib r ≤ len
   pub fits : frontAt w ib r + lengthAt w ib r ≤ K
-  pub inside : charsAt w ib r + lengthAt w ib r ≤ length ib
+  pub inside : charsAt w ib r + reach (lengthAt w ib r) ≤ length ib
   pub here : drop i (readIndex w n ib .entries) ≡ entry (spelt ref (pieceAt w ib r)) (number w ib (r - w)) ∷ drop (suc i) (readIndex w n ib .entries)
   pub within : number w ib (r - w) < n
   pub next : Standing w K n ib (suc i) (charsAt w ib r) (frontAt w ib r + lengthAt w ib r) (spelt ref (pieceAt w ib r))
@@ -146,7 +175,7 @@ module _ (w K n : ℕ) (ib : List ℕ) (i r len : ℕ) (ref : List ℕ) (s : Sta
         room = known .room;
         front = omega (arith, known .front, s .long);
         fits = fits;
-        inside = omega (arith, known .room, s .lie .inside);
+        inside = omega (arith, known .room, s .lie .inside, reach-most (lengthAt w ib r));
         here = here-is;
         within = numbers-there .0;
         next =
@@ -164,18 +193,24 @@ module _ (w K n : ℕ) (ib : List ℕ) (i r len : ℕ) (ref : List ℕ) (s : Sta
 
 -- ---- the buffer beside it
 
--- A buffer that began with ref and was extended begins with the next separator, and is as long as before.
-module _ (ib buf new ref : List ℕ) (len f l at : ℕ) (held : take len buf ≡ ref) (front : f ≤ len) (fits : f + l ≤ length buf) (inside : at + l ≤ length ib)
-    (is : new ≡ splice buf f (part ib at l)) where
-  chars-long : length (part ib at l) ≡ l
-  chars-long = length-mid ib at l inside
+-- A buffer that was extended begins with the next separator, and is as long as before.
+module _ (ib buf new : List ℕ) (f l at : ℕ) (fits : f + reach l ≤ length buf) (inside : at + reach l ≤ length ib) (is : new ≡ splice buf f (part ib at (reach l))) where
+  chars-long : length (part ib at (reach l)) ≡ reach l
+  chars-long = length-mid ib at (reach l) inside
 
-  pub extended-front : take (f + l) new ≡ take f ref ++ part ib at l
+  pub extended-chars : take (f + l) new ≡ take f buf ++ part ib at l
   unfolding splice
-  extended-front =
-      let t : take f buf ≡ take f ref = sym (take-take f len buf front) ∙ rw held in
-      let e : length (take f ref ++ part ib at l) ≡ f + l = omega (arith, length-append (take f ref) (part ib at l), ap length t, length-take-le f buf (omega arith), chars-long) in
-      rw (is, t) (ap (λ (x : List ℕ). take (f + l) x) (sym (append-assoc (take f ref) (part ib at l) _)) ∙ take-at (take f ref ++ part ib at l) _ (f + l) e)
+  extended-chars =
+      let k : length (take f buf) ≡ f = length-take-le f buf (omega arith) in
+      let t : take l (part ib at (reach l) ++ drop (f + length (part ib at (reach l))) buf) ≡ part ib at l =
+      take-append-le l (part ib at (reach l)) _ (omega (arith, chars-long, reach-least l)) ∙ take-take l (reach l) (drop at ib) (reach-least l) in
+      rw is (take-append-add (take f buf) (part ib at (reach l) ++ drop (f + length (part ib at (reach l))) buf) f l k ∙ rw t)
 
   pub extended-length : length new ≡ length buf
-  extended-length = ap length is ∙ length-splice buf f (part ib at l) (omega (arith, chars-long))
+  extended-length = ap length is ∙ length-splice buf f (part ib at (reach l)) (omega (arith, chars-long))
+
+  -- so it is where it began with ref before
+  pub extended-front : (ref : List ℕ) (len : ℕ) → take len buf ≡ ref → f ≤ len → take (f + l) new ≡ take f ref ++ part ib at l
+  extended-front ref len held front =
+      let t : take f buf ≡ take f ref = sym (take-take f len buf front) ∙ rw held in
+      extended-chars ∙ rw t

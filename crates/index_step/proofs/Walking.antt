@@ -127,7 +127,7 @@ unfolding piecesAt piecesSize frontsFit spell every
 next w b r k ref readable =
     let p : Piece = pieceAt w b r in
     let room : pieceSize w p ≤ r = omega (arith, readable .room) in
-    let l : length (p .chars) ≡ lengthAt w b r = chars-long w b r (readable .inside) room in
+    let l : length (p .chars) ≡ lengthAt w b r = chars-long w b r (omega (arith, readable .inside)) room in
     let f = both-split (leb (p .front) (length ref)) (frontsFit (spelt ref p) (piecesAt w b (r - pieceSize w p) k)) (readable .fronts) in
     let s = both-split (leb (length (spelt ref p)) 255) (short (spell (spelt ref p) (piecesAt w b (r - pieceSize w p) k))) (readable .few) in
     let front : p .front ≤ length ref = leb-true (p .front) (length ref) (f .0) in

@@ -1,5 +1,5 @@
 -- Aids: what a pass over entries asks for: document 01, 'Index record'. w is the width of a pointer.
-use Prim.Native.Nat.{ℕ, _≤_}
+use Prim.Native.Nat.{ℕ, _+_, _≤_}
 use mathlib.Core.Path.{_≡_}
 use mathlib.Core.Bool.{Bool, true}
 use mathlib.Core.List.{List}
@@ -14,9 +14,9 @@ use Rattle.index.specs.Reading.{piecesAt}
 abbrev pub short : List Entry → Bool
 short es = every (λ (e : Entry). leb (length (e .sep)) 255) es
 
--- Entries can be read from place r of a record on, k of them: they lie in it, each F is legal after ref, each separator is short.
+-- Entries can be read from place r of a record on, k of them: they lie in it, left of RDF and CIDF; each F is legal after ref, each separator is short.
 pub record EntriesLie (w : ℕ) (ib : List ℕ) (r k : ℕ) (ref : List ℕ) : Type 0 where
-  pub inside : r ≤ length ib
+  pub inside : r + 7 ≤ length ib
   pub room : piecesSize w (piecesAt w ib r k) ≤ r
   pub fronts : frontsFit ref (piecesAt w ib r k) ≡ true
   pub few : short (spell ref (piecesAt w ib r k)) ≡ true

@@ -2,6 +2,8 @@
 use Prim.Native.Nat.{ℕ, _+_, _-_, _≤_}
 use mathlib.Core.List.{List, _++_}
 use lib.ListN.{length, getD, take}
+use lib.Dec.{ltb}
+use Rattle.fields.specs.Choice.{pick}
 use Rattle.fields.specs.Bytes.{number, part}
 use Rattle.index.specs.Reading.{lengthAt}
 use Rattle.index_step.specs.declared.Step.{Step}
@@ -24,3 +26,7 @@ Lies w ib r = (w ≤ 4) × (r ≤ length ib) × (w + 2 + lengthAt w ib r ≤ r)
 -- the separator that F bytes of the one before, which buf begins with, and the characters at a place make
 abbrev pub joinedOf : ℕ → List ℕ → List ℕ → ℕ → ℕ → List ℕ
 joinedOf front buf ib at len = take front buf ++ part ib at len
+
+-- how many bytes are copied for so many characters: eight at least
+abbrev pub reach : ℕ → ℕ
+reach l = pick (ltb 8 l) l 8

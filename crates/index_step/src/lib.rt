@@ -4,7 +4,7 @@ ghost use mathlib.Core.Path.{_≡_};
 ghost use lib.ListN.{length};
 ghost use Rattle.fields.specs.Bytes.{part, splice};
 ghost use Rattle.index.specs.Reading.{unusedAt, freeCount};
-ghost use Rattle.index_step.specs.AidStep.{stepAt, Lies};
+ghost use Rattle.index_step.specs.AidStep.{stepAt, Lies, reach};
 
 // How many numbers of w bytes stand free, by the displacement to the unused space.
 pub fn free_count(ib: &[u8], w: usize) -> usize
@@ -13,6 +13,9 @@ pub fn free_count(ib: &[u8], w: usize) -> usize
 {
     (fields::read_two(ib, 18) - 24) / w
 }
+
+// A buffer for the separator that runs along: it has at most 255 bytes, and a copy may reach eight bytes further.
+pub const BUFFER: usize = 263;
 
 // An entry: F, how many characters it has and where they begin, and its number.
 pub struct Step {
@@ -40,11 +43,16 @@ pub fn entry_at(ib: &[u8], w: usize, r: usize) -> Step
 }
 
 // Puts an entry's separator into buf, which begins with the one that F refers to: F bytes stay, its L characters are copied over what
-// follows them. Whose separator that is, is the caller's matter.
+// follows them. Of eight characters or fewer eight bytes are copied at once: behind the separator may stand anything, and a loop over a
+// few would cost more than all else here. Whose separator it is that F refers to, is the caller's matter.
 pub fn extend(buf: &mut [u8], front: usize, ib: &[u8], at: usize, len: usize)
-    requires { ⌜ (front + len ≤ length (now buf)) × (at + len ≤ length (now ib)) ⌝ }
-    ensures { λ _. ⌜ now (buf .exit) ≡ splice (now (buf .entry)) front (part (now (ib .entry)) at len) ⌝ }
+    requires { ⌜ (front + reach len ≤ length (now buf)) × (at + reach len ≤ length (now ib)) ⌝ }
+    ensures { λ _. ⌜ now (buf .exit) ≡ splice (now (buf .entry)) front (part (now (ib .entry)) at (reach len)) ⌝ }
 {
-    let z = at + len;
-    fields::copy(buf, front, &ib[at..z]);
+    if 8 < len {
+        let z = at + len;
+        fields::copy(buf, front, &ib[at..z]);
+        return;
+    }
+    fields::copy_eight(buf, front, ib, at);
 }

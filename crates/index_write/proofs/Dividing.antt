@@ -164,7 +164,7 @@ module _ (n i : ℕ) (u : Cuts) (bytes ib : List ℕ) (given : Divisible n i (cu
   many-is = omega (arith, there)
 
   readable : EntriesLie w ib r (i + suc k) []
-  readable = rw many-is at (entries-lie w (given .key) n ib (given .short) (given .sound))
+  readable = rw many-is at (entries-lie w (given .key) n ib (omega (arith, given .large)) (given .short) (given .sound))
 
   first-readable : EntriesLie w ib r i []
   first-readable = readable-first w ib r i (suc k) [] readable
@@ -259,12 +259,12 @@ module _ (n i : ℕ) (u : Cuts) (bytes ib : List ℕ) (given : Divisible n i (cu
     -- ---- one pass after another
 
     module _ (a : Cursor) (a-is : a ≡ record { width = widthFor n; right = length ib - 7; len = 0; size = 0 }) (buf : List ℕ) where
-      pub first-stands : 255 ≤ length buf → Stands ib a i buf
+      pub first-stands : 263 ≤ length buf → Stands ib a i buf
       first-stands h =
           rw a-is
           (record { wide = width-most n; whole = h; long = omega arith; lie = first-readable; small = omega (arith, there, given .few) })
 
-      pub first-writes : 255 ≤ length buf → (b : List ℕ) → Roomy b → Stands ib a i buf × RoomFor a (runHere ib a i buf) buf b
+      pub first-writes : 263 ≤ length buf → (b : List ℕ) → Roomy b → Stands ib a i buf × RoomFor a (runHere ib a i buf) buf b
       first-writes h b room = (first-stands h, rw a-is (omega (arith, room, new-size)))
 
       -- after those before the divided one
@@ -281,7 +281,7 @@ module _ (n i : ℕ) (u : Cuts) (bytes ib : List ℕ) (given : Divisible n i (cu
         size1 : c .size ≡ entriesSize w [] pre
         size1 = omega (arith, from .size)
 
-        pub second-stands : 255 ≤ length buf1 → Stands ib c 1 buf1
+        pub second-stands : 263 ≤ length buf1 → Stands ib c 1 buf1
         second-stands h =
             record {
               wide = rw (from .width) (width-most n);
@@ -292,7 +292,7 @@ module _ (n i : ℕ) (u : Cuts) (bytes ib : List ℕ) (given : Divisible n i (cu
             }
 
         -- its parts have room and numbers
-        pub second-writes : 255 ≤ length buf1 → (b b1 : List ℕ) → Roomy b → length b1 ≡ length b
+        pub second-writes : 263 ≤ length buf1 → (b b1 : List ℕ) → Roomy b → length b1 ≡ length b
             → (Stands ib c 1 buf1 × CutsLie u bytes × RoomFor c (partsHere ib c (cutsIn u bytes) buf1) buf1 b1)
             × ((1 ≤ c .width) × FreeLie (c .width) ib × (length (cutsIn u bytes) ≤ freeCount (c .width) ib))
         second-writes h b b1 room l = (
@@ -320,7 +320,7 @@ module _ (n i : ℕ) (u : Cuts) (bytes ib : List ℕ) (given : Divisible n i (cu
             post-are : runHere ib d (n - free - (i + 1)) buf2 ≡ post
             post-are = rw (free-is, width2, ref2, right2)
 
-            pub third-stands : 255 ≤ length buf2 → Stands ib d (n - free - (i + 1)) buf2
+            pub third-stands : 263 ≤ length buf2 → Stands ib d (n - free - (i + 1)) buf2
             third-stands h =
                 record {
                   wide = rw width2 (width-most n);
@@ -330,7 +330,7 @@ module _ (n i : ℕ) (u : Cuts) (bytes ib : List ℕ) (given : Divisible n i (cu
                   small = omega (arith, free-is, size2, pre-size, parts-size, there, given .few);
                 }
 
-            pub third-writes : 255 ≤ length buf2 → (b b2 : List ℕ) → Roomy b → length b2 ≡ length b
+            pub third-writes : 263 ≤ length buf2 → (b b2 : List ℕ) → Roomy b → length b2 ≡ length b
                 → Stands ib d (n - free - (i + 1)) buf2 × RoomFor d (runHere ib d (n - free - (i + 1)) buf2) buf2 b2
             third-writes h b b2 room l = (third-stands h, rw (post-are, width2, ref2) (omega (arith, room, new-size, size2, l)))
 

@@ -9,13 +9,13 @@ use native.Mathlib.Omega.{arith}
 use Rattle.fields.specs.Bytes.{part, splice}
 use Rattle.index.specs.Meaning.{Entry, entry, separatorBefore}
 use Rattle.index.specs.Pieces.{spelt, spell, piecesSize}
-use Rattle.index.specs.Reading.{freeCount, pieceAt, piecesAt, numbersAt}
+use Rattle.index.specs.Reading.{freeCount, pieceAt, piecesAt, numbersAt, lengthAt}
 use Rattle.index.specs.Divided.{cuts, partsOf}
 use Rattle.index.specs.Form.{entrySize, entriesSize}
-use Rattle.index_step.specs.AidStep.{stepAt, Lies}
+use Rattle.index_step.specs.AidStep.{stepAt, Lies, reach}
 use Rattle.index_step.specs.declared.Step.{Step}
 use Rattle.index_step.proofs.Walking.{Next, next}
-use Rattle.index_step.proofs.Stepping.{extended-front, extended-length}
+use Rattle.index_step.proofs.Stepping.{reach-most, extended-front, extended-length}
 use Rattle.index_write.specs.AidStream.{Stands, Passed}
 use Rattle.index_write.specs.declared.Cursor.{Cursor}
 
@@ -38,7 +38,7 @@ module _ (ib : List ℕ) (c : Cursor) (buf : List ℕ) (stands : Stands ib c 1 b
   known = next (c .width) ib (c .right) 0 (take (c .len) buf) (stands .lie)
 
   pub one-lies : Lies (c .width) ib (c .right)
-  one-lies = (stands .wide, stands .lie .inside, known .room)
+  one-lies = (stands .wide, omega (arith, stands .lie .inside), known .room)
 
   module _ (s : Step) (s-is : s ≡ stepAt (c .width) ib (c .right)) where
     pub one-front : s .front ≤ c .len
@@ -50,16 +50,19 @@ module _ (ib : List ℕ) (c : Cursor) (buf : List ℕ) (stands : Stands ib c 1 b
     pub one-chars : s .at + s .len ≤ length ib
     one-chars = rw s-is (omega (arith, known .room, stands .lie .inside))
 
-    module _ (new : List ℕ) (is : new ≡ splice buf (s .front) (part ib (s .at) (s .len))) where
-      fits : s .front + s .len ≤ length buf
-      fits = omega (arith, one-few, stands .whole)
+    pub one-reaches : (s .front + reach (s .len) ≤ length buf) × (s .at + reach (s .len) ≤ length ib)
+    one-reaches =
+        let m = reach-most (lengthAt (c .width) ib (c .right)) in
+        rw s-is (omega (arith, known .few, stands .whole, m), omega (arith, known .room, stands .lie .inside, m))
 
+    module _ (new : List ℕ) (is : new ≡ splice buf (s .front) (part ib (s .at) (reach (s .len)))) where
       pub one-long : s .front + s .len ≤ length new
-      one-long = omega (arith, fits, extended-length ib buf new (take (c .len) buf) (c .len) (s .front) (s .len) (s .at) refl one-front fits one-chars is)
+      one-long =
+          omega (arith, one-few, stands .whole, extended-length ib buf new (s .front) (s .len) (s .at) (one-reaches .0) (one-reaches .1) is)
 
       pub one-ref : take (s .front + s .len) new ≡ spelt (take (c .len) buf) (pieceAt (c .width) ib (c .right))
       one-ref =
-          extended-front ib buf new (take (c .len) buf) (c .len) (s .front) (s .len) (s .at) refl one-front fits one-chars is ∙ rw s-is
+          extended-front ib buf new (s .front) (s .len) (s .at) (one-reaches .0) (one-reaches .1) is (take (c .len) buf) (c .len) refl one-front ∙ rw s-is
 
       one-place : s .at + piecesSize (c .width) (piecesAt (c .width) ib (c .right) 1) ≡ c .right
       unfolding piecesAt piecesSize

@@ -15,10 +15,10 @@ use Rattle.index.specs.Form.{entrySize, entryBytes, entriesSize, entriesBytes}
 use Rattle.index.specs.Divided.{cuts, partsOf}
 use Rattle.index.proofs.Apart.{length-numbersAt}
 use Rattle.index.proofs.Compressing.{length-entryBytes, length-entriesBytes}
-use Rattle.index_step.specs.AidStep.{stepAt}
+use Rattle.index_step.specs.AidStep.{stepAt, reach}
 use Rattle.index_step.specs.declared.Step.{Step}
 use Rattle.index_step.proofs.Walking.{Next, next}
-use Rattle.index_step.proofs.Stepping.{extended-front, extended-length}
+use Rattle.index_step.proofs.Stepping.{reach-most, extended-front, extended-length}
 use Rattle.index_write.specs.AidStream.{cutsIn, CutsLie, Stands, partsHere, Passed, Stored, RoomFor}
 use Rattle.index_write.specs.declared.Cursor.{Cursor}
 use Rattle.index_write.specs.declared.Cuts.{Cuts}
@@ -106,7 +106,7 @@ module _ (ib : List ℕ) (c : Cursor) (cut : Cuts) (bytes buf b : List ℕ) (s :
 
   -- for the calls
   pub part-lies : (c .width ≤ 4) × (c .right ≤ length ib) × (c .width + 2 + lengthAt (c .width) ib (c .right) ≤ c .right)
-  part-lies = (s .wide, s .lie .inside, known .room)
+  part-lies = (s .wide, omega (arith, s .lie .inside), known .room)
 
   pub before-long : c .len ≡ length (take (c .len) buf)
   before-long = sym (length-take-le (c .len) buf (omega (arith, s .long, s .whole)))
@@ -126,8 +126,11 @@ module _ (ib : List ℕ) (c : Cursor) (cut : Cuts) (bytes buf b : List ℕ) (s :
         room,
       )
 
-  pub part-steps : (t : Step) → t ≡ stepAt (c .width) ib (c .right) → (t .front ≤ c .len) × (t .front + t .len ≤ 255) × (t .at + t .len ≤ length ib)
-  part-steps t t-is = rw t-is (omega (arith, known .front, before-long), known .few, omega (arith, known .room, s .lie .inside))
+  pub part-steps : (t : Step) → t ≡ stepAt (c .width) ib (c .right) → (t .front ≤ c .len) × (t .front + t .len ≤ 255)
+      × (t .front + reach (t .len) ≤ length buf) × (t .at + reach (t .len) ≤ length ib)
+  part-steps t t-is =
+      let m = reach-most (lengthAt (c .width) ib (c .right)) in
+      rw t-is (omega (arith, known .front, before-long), known .few, omega (arith, known .few, s .whole, m), omega (arith, known .room, s .lie .inside, m))
 
 -- ---- its parts
 
@@ -137,7 +140,7 @@ pub record Begun (ib : List ℕ) (c : Cursor) (cut : Cuts) (bytes buf b : List �
   pub lies : CutsLie cut bytes
   pub room : RoomFor c (partsHere ib c (cutsIn cut bytes) buf) buf b
   pub step : t ≡ stepAt (c .width) ib (c .right)
-  pub extended : new ≡ splice buf (t .front) (part ib (t .at) (t .len))
+  pub extended : new ≡ splice buf (t .front) (part ib (t .at) (reach (t .len)))
   pub size : x1 ≡ entrySize (c .width) (take (c .len) buf) (take (cut .to - cut .from) (drop (cut .from) bytes))
   pub stored : b1 ≡ splice b (length b - 7 - c .size - x1) (entryBytes (c .width) (take (c .len) buf) (take (cut .to - cut .from) (drop (cut .from) bytes)) (t .number))
   pub taken : a ≡ getD (numbersAt (c .width) ib 24 (freeCount (c .width) ib)) (freeCount (c .width) ib - 1) 0
@@ -177,18 +180,15 @@ module _ {ib : List ℕ} {c : Cursor} {cut : Cuts} {bytes buf b : List ℕ} {t :
   many : length (numbersAt (c .width) ib 24 (freeCount (c .width) ib)) ≡ freeCount (c .width) ib
   many = length-numbersAt (c .width) ib 24 (freeCount (c .width) ib)
 
-  steps : (t .front ≤ c .len) × (t .front + t .len ≤ 255) × (t .at + t .len ≤ length ib)
+  steps : (t .front ≤ c .len) × (t .front + t .len ≤ 255) × (t .front + reach (t .len) ≤ length buf) × (t .at + reach (t .len) ≤ length ib)
   steps = part-steps ib c cut bytes buf b (g .stands) (g .lies) (g .room) t (g .step)
-
-  inside : t .front + t .len ≤ length buf
-  inside = omega (arith, steps .1, g .stands .whole)
 
   -- the buffer begins with the old entry's separator
   new-is : take (t .front + t .len) new ≡ sep
-  new-is = extended-front ib buf new ref (c .len) (t .front) (t .len) (t .at) refl (steps .0) inside (steps .2) (g .extended) ∙ rw (g .step)
+  new-is = extended-front ib buf new (t .front) (t .len) (t .at) (steps .2) (steps .3) (g .extended) ref (c .len) refl (steps .0) ∙ rw (g .step)
 
   pub new-inside : t .front + t .len ≤ length new
-  new-inside = omega (arith, extended-length ib buf new ref (c .len) (t .front) (t .len) (t .at) refl (steps .0) inside (steps .2) (g .extended), inside)
+  new-inside = omega (arith, extended-length ib buf new (t .front) (t .len) (t .at) (steps .2) (steps .3) (g .extended), steps .1, g .stands .whole)
 
   pub new-long : t .front + t .len ≡ length (take (t .front + t .len) new)
   new-long = sym (length-take-le (t .front + t .len) new new-inside)

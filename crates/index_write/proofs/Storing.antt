@@ -15,11 +15,11 @@ use Rattle.index.specs.Layout.{pieceBytes}
 use Rattle.index.specs.Form.{entrySize, entryBytes, entriesSize, entriesBytes}
 use Rattle.index.proofs.Compressing.{length-entryBytes, length-entriesBytes}
 use Rattle.index.proofs.Forming.{entries-cons}
-use Rattle.index_step.specs.AidStep.{frontAt, charsAt, stepAt, joinedOf}
+use Rattle.index_step.specs.AidStep.{frontAt, charsAt, stepAt, joinedOf, reach}
 use Rattle.index_step.specs.declared.Step.{Step}
 use Rattle.index_write.specs.AidStream.{Stands, runHere, RoomFor}
 use Rattle.index_write.specs.declared.Cursor.{Cursor}
-use Rattle.index_write.proofs.Streaming.{size-is, none-bytes, Going, known, split-next, run-front, run-few, run-chars, run-joined, new-ref, run-turn}
+use Rattle.index_write.proofs.Streaming.{size-is, none-bytes, Going, known, split-next, run-front, run-few, run-chars, run-reaches, run-joined, new-ref, run-turn}
 
 -- how far the bytes have come: what the entries of the run take is what those take that are left, and what is done
 pub record Storing (ib : List ℕ) (c : Cursor) (count : ℕ) (buf₀ b₀ : List ℕ) (right len size left : ℕ) (buf b : List ℕ) : Type 0 where
@@ -145,10 +145,13 @@ module _ {ib : List ℕ} {c : Cursor} {count : ℕ} {buf₀ b₀ : List ℕ} {ri
 
   module _ (more : 0 < left) {t : Step} (t-is : t ≡ stepAt (c .width) ib right) where
     pub step-lies : (t .front ≤ len) × (t .front + t .len ≤ 255) × (t .at + t .len ≤ length ib)
+        × (t .front + reach (t .len) ≤ length buf) × (t .at + reach (t .len) ≤ length ib)
     step-lies = rw t-is (
       run-front ib c count buf₀ s right len size left buf g more,
       run-few ib c count buf₀ s right len size left buf g more,
       run-chars ib c count buf₀ s right len size left buf g more,
+      run-reaches ib c count buf₀ s right len size left buf g more .0,
+      run-reaches ib c count buf₀ s right len size left buf g more .1,
     )
 
     module _ {f : ℕ} (f-is : f ≡ common (take len buf) (joinedOf (t .front) buf ib (t .at) (t .len))) (low : t .front ≤ f) (high : f ≤ t .front + t .len) where
@@ -161,13 +164,13 @@ module _ {ib : List ℕ} {c : Cursor} {count : ℕ} {buf₀ b₀ : List ℕ} {ri
       pub step-room : c .width + 2 + length (take (t .at + t .len - (t .at + (f - t .front))) (drop (t .at + (f - t .front)) ib)) ≤ length b₀ - 7 - size
       step-room = rw t-is (store-room more f f-now (rw t-is at low) (rw t-is at high))
 
-      pub step-turn : {b' new : List ℕ} → new ≡ splice buf (t .front) (part ib (t .at) (t .len))
+      pub step-turn : {b' new : List ℕ} → new ≡ splice buf (t .front) (part ib (t .at) (reach (t .len)))
           → b' ≡ splice b (length b₀ - 7 - size - (c .width + 2 + length (take (t .at + t .len - (t .at + (f - t .front))) (drop (t .at + (f - t .front)) ib))))
           (pieceBytes (c .width) (record { front = f; chars = take (t .at + t .len - (t .at + (f - t .front))) (drop (t .at + (f - t .front)) ib); num = t .number }))
           → Going ib c count buf₀ (t .at) (t .front + t .len) (size + (c .width + 2 + (t .front + t .len - f))) (left - 1) new
           × Storing ib c count buf₀ b₀ (t .at) (t .front + t .len) (size + (c .width + 2 + (t .front + t .len - f))) (left - 1) new b'
       step-turn {b' = b'} {new = new} is put =
-          let is' : new ≡ splice buf (frontAt (c .width) ib right) (part ib (charsAt (c .width) ib right) (lengthAt (c .width) ib right)) = rw t-is at is in
+          let is' : new ≡ splice buf (frontAt (c .width) ib right) (part ib (charsAt (c .width) ib right) (reach (lengthAt (c .width) ib right))) = rw t-is at is in
           rw t-is (
             run-turn ib c count buf₀ s right len size left buf g more f f-now new is',
             store-turn more f f-now (rw t-is at low) (rw t-is at high) b' new (new-ref ib c count buf₀ s right len size left buf g more f f-now new is') (rw t-is at put),

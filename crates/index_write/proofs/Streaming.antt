@@ -14,11 +14,11 @@ use Rattle.index.specs.Reading.{lengthAt, pieceAt, piecesAt}
 use Rattle.index.specs.Layout.{piecesBytes}
 use Rattle.index.specs.Form.{packed, entrySize, entryBytes, entriesSize, entriesBytes}
 use Rattle.index.proofs.Forming.{entries-cons}
-use Rattle.index_step.specs.AidStep.{frontAt, charsAt, stepAt, joinedOf}
+use Rattle.index_step.specs.AidStep.{frontAt, charsAt, stepAt, joinedOf, reach}
 use Rattle.index_step.specs.declared.Step.{Step}
 use Rattle.index_step.specs.AidEntries.{EntriesLie}
 use Rattle.index_step.proofs.Walking.{pieces-next, Next, next, before-append}
-use Rattle.index_step.proofs.Stepping.{extended-front, extended-length}
+use Rattle.index_step.proofs.Stepping.{reach-most, extended-front, extended-length}
 use Rattle.index_write.specs.AidStream.{Stands, runHere, Passed}
 use Rattle.index_write.specs.declared.Cursor.{Cursor}
 
@@ -102,7 +102,7 @@ pub record Here (w : ℕ) (ib : List ℕ) (right len : ℕ) (buf : List ℕ) : T
   pub held : len ≤ length buf
   pub front : frontAt w ib right ≤ len
   pub few : frontAt w ib right + lengthAt w ib right ≤ 255
-  pub room : frontAt w ib right + lengthAt w ib right ≤ length buf
+  pub reaches : (frontAt w ib right + reach (lengthAt w ib right) ≤ length buf) × (charsAt w ib right + reach (lengthAt w ib right) ≤ length ib)
   pub chars : charsAt w ib right + lengthAt w ib right ≤ length ib
   pub joined : take (frontAt w ib right) buf ++ part ib (charsAt w ib right) (lengthAt w ib right) ≡ spelt (take len buf) (pieceAt w ib right)
 
@@ -138,7 +138,7 @@ module _ (ib : List ℕ) (c : Cursor) (count : ℕ) (buf₀ : List ℕ) (s : Sta
 
     -- for the calls
     pub run-lies : (c .width ≤ 4) × (right ≤ length ib) × (c .width + 2 + lengthAt (c .width) ib right ≤ right)
-    run-lies = (s .wide, g .lie .inside, known .room)
+    run-lies = (s .wide, omega (arith, g .lie .inside), known .room)
 
     pub run-front : frontAt (c .width) ib right ≤ len
     run-front = omega (arith, known .front, ref-long)
@@ -148,6 +148,10 @@ module _ (ib : List ℕ) (c : Cursor) (count : ℕ) (buf₀ : List ℕ) (s : Sta
 
     pub run-chars : charsAt (c .width) ib right + lengthAt (c .width) ib right ≤ length ib
     run-chars = omega (arith, known .room, g .lie .inside)
+
+    pub run-reaches : (frontAt (c .width) ib right + reach (lengthAt (c .width) ib right) ≤ length buf)
+        × (charsAt (c .width) ib right + reach (lengthAt (c .width) ib right) ≤ length ib)
+    run-reaches = (omega (arith, run-few, g .same, s .whole, reach-most L), omega (arith, known .room, g .lie .inside, reach-most L))
 
     -- the separator before, as the buffer has it
     pub run-joined : take (frontAt (c .width) ib right) buf ++ part ib (charsAt (c .width) ib right) (lengthAt (c .width) ib right) ≡ spelt (take len buf) (pieceAt (c .width) ib right)
@@ -160,7 +164,7 @@ module _ (ib : List ℕ) (c : Cursor) (count : ℕ) (buf₀ : List ℕ) (s : Sta
           held = omega (arith, g .long, g .same, s .whole);
           front = run-front;
           few = run-few;
-          room = omega (arith, run-few, g .same, s .whole);
+          reaches = run-reaches;
           chars = run-chars;
           joined = run-joined;
         }
@@ -176,9 +180,9 @@ module _ (ib : List ℕ) (c : Cursor) (count : ℕ) (buf₀ : List ℕ) (s : Sta
     unfolding piecesSize
     size-next = rw (pieces-next (c .width) ib right left more, place-is) (omega (arith, known .size))
 
-    module _ (f : ℕ) (f-is : f ≡ common (take len buf) sep) (new : List ℕ) (is : new ≡ splice buf F (part ib at L)) where
+    module _ (f : ℕ) (f-is : f ≡ common (take len buf) sep) (new : List ℕ) (is : new ≡ splice buf F (part ib at (reach L))) where
       pub new-ref : take (F + L) new ≡ sep
-      new-ref = extended-front ib buf new (take len buf) len F L at refl run-front (omega (arith, run-few, g .same, s .whole)) run-chars is
+      new-ref = extended-front ib buf new F L at (run-reaches .0) (run-reaches .1) is (take len buf) len refl run-front
 
       -- what it takes
       pub run-size : w + 2 + (F + L - f) ≡ entrySize (c .width) (take len buf) sep
@@ -199,13 +203,13 @@ module _ (ib : List ℕ) (c : Cursor) (count : ℕ) (buf₀ : List ℕ) (s : Sta
             place = omega (arith, g .place, size-next, known .room);
             lie = rw new-ref (rw place-is at (known .others));
             long = run-few;
-            same = extended-length ib buf new (take len buf) len F L at refl run-front (omega (arith, run-few, g .same, s .whole)) run-chars is ∙ g .same;
+            same = extended-length ib buf new F L at (run-reaches .0) (run-reaches .1) is ∙ g .same;
             small = omega (arith, g .small, length-append (g .done) (e ∷ []), s .wide, run-few);
           }
 
     -- the same in the words of the step that was taken
     pub run-step : (st : Step) → st ≡ stepAt (c .width) ib right → (f : ℕ) → f ≡ common (take len buf) (joinedOf (st .front) buf ib (st .at) (st .len)) → (new : List ℕ)
-        → new ≡ splice buf (st .front) (part ib (st .at) (st .len))
+        → new ≡ splice buf (st .front) (part ib (st .at) (reach (st .len)))
         → Going ib c count buf₀ (st .at) (st .front + st .len) (size + (c .width + 2 + (st .front + st .len - f))) (left - 1) new
     run-step st h f f-is new is = rw h (run-turn f (rw (h, run-joined) at f-is) new (rw h at is))
 

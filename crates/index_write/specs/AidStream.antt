@@ -37,7 +37,7 @@ pub record CutsLie (c : Cuts) (bytes : List ℕ) : Type 0 where
 -- overflow the size.
 pub record Stands (ib : List ℕ) (c : Cursor) (count : ℕ) (buf : List ℕ) : Type 0 where
   pub wide : c .width ≤ 4
-  pub whole : 255 ≤ length buf
+  pub whole : 263 ≤ length buf
   pub long : c .len ≤ 255
   pub lie : EntriesLie (c .width) ib (c .right) count (take (c .len) buf)
   pub small : c .size + 261 * (count + 2) < 18446744073709551616

@@ -14,6 +14,7 @@ ghost use Rattle.index.specs.Form.{entrySize, entryBytes, entriesSize, entriesB
 ghost use Rattle.index.specs.Divided.{newMeaning};
 ghost use Rattle.index_step.specs.AidStep.{joinedOf};
 ghost use Rattle.index_write.specs.AidStream.{cutsIn, CutsLie, Stands, runHere, partsHere, Passed, Stored, RoomFor, FreeLie, Divisible};
+use index_step::BUFFER;
 use index_step::Step;
 
 // Where a pass stands: the next entry of the old record, with a pointer of `width` bytes, ends at `right`; the separator before it is the
@@ -187,7 +188,7 @@ pub fn size_divided(ib: &[u8], n: usize, i: usize, bytes: &[u8], cuts: Cuts) -> 
     let w = measures::width_for(n);
     let free = index_step::free_count(ib, w);
     let more = if cuts.three { 2 } else { 1 };
-    let mut buf = [0u8; 255];
+    let mut buf = [0u8; BUFFER];
     let c = size_run(ib, start(ib, w), i, &mut buf);
     let d = size_parts(ib, c, bytes, cuts, &mut buf);
     let e = size_run(ib, d, n - free - (i + 1), &mut buf);
@@ -284,7 +285,7 @@ fn write_entries(b: &mut [u8], ib: &[u8], n: usize, i: usize, bytes: &[u8], cuts
 {
     let w = measures::width_for(n);
     let free = index_step::free_count(ib, w);
-    let mut buf = [0u8; 255];
+    let mut buf = [0u8; BUFFER];
     let c = write_run(b, ib, start(ib, w), i, &mut buf);
     let d = write_parts(b, ib, c, bytes, cuts, &mut buf);
     let e = write_run(b, ib, d, n - free - (i + 1), &mut buf);

@@ -9,6 +9,7 @@ use native.Mathlib.Omega.{arith}
 use borrow.Author.Needs.{needs}
 use Rattle.index_step.specs.AidStep.{joinedOf}
 use Rattle.area_read.specs.AidEntries.{lowIn, highIn}
+use Rattle.index_step.proofs.Stepping.{reach-most}
 use Rattle.area_read.proofs.Entries.{joined, seen-is}
 use Rattle.area_read.proofs.entry_seen.Statement.{statement}
 use Rattle.area_read.proofs.entry_seen.Tie as tie
@@ -51,7 +52,9 @@ opens-requires c κs =
     (omega arith, omega arith, omega arith, omega arith, omega (arith, z))
 
 extend-requires : tie.Need-extend-requires
-extend-requires c κs = search needs
+extend-requires c κs =
+    let a = start-of (c .before) .args in
+    (omega (arith, reach-most (a .s .len)), omega arith)
 
 add-end : tie.Need-add-end
 add-end c = search needs
@@ -77,7 +80,7 @@ returns c =
     let o = opened-of e .opens in
     let x = e .extend in
     let b : take (a .s .front + a .s .len) (x .last .0) ≡ joinedOf (a .s .front) (a .buf .now) (a .ib .now) (a .s .at) (a .s .len) =
-    joined (a .buf .now) (a .ib .now) (x .last .0) (a .s .front) (a .s .len) (a .s .at) (omega arith) (omega arith) (x .ensures) in
+    joined (a .buf .now) (a .ib .now) (x .last .0) (a .s .front) (a .s .len) (a .s .at) (omega (arith, reach-most (a .s .len))) (omega arith) (x .ensures) in
     let s = seen-is (a .m) (a .ci .now) (lowIn (a .m) (a .first) (a .before) (a .buf .now)) (highIn (a .m) (a .buf .now) (a .ib .now) (a .s))
     (omega arith) (omega arith) (omega arith) (omega arith) (o .result) (o .ensures .0) (c .closed .result) (rw b at (c .closed .ensures)) in
     (s .0, (s .1, x .ensures))

@@ -1,5 +1,5 @@
 -- Invariant (Going): the walk stands before entry i of a sound index record, which ends at place right; the separator before has `before` bytes,
--- and buf, 255 bytes, begins with it. The lowest of `worst` and the unsound numbers of all entries is the lowest of `lowest` and those
+-- and buf, 263 bytes, begins with it. The lowest of `worst` and the unsound numbers of all entries is the lowest of `lowest` and those
 -- of the entries from i on. Where all intervals in use are sound, `records` and the records of the entries from i on make up all of them.
 -- At most 32768 records were counted for each entry passed, so the sum can't overflow.
 -- Measure: the entries not yet passed.
@@ -63,7 +63,7 @@ loop-holds : tie.Need-loop-holds Inv-loop μ-loop
 loop-holds c =
     let s = c .before .before .before in
     let a = s .args in
-    setting-out (a .m) (a .n) (a .area .now) (a .ib .now) (a .worst) (s .pre .0 .key-most) (s .pre .2)
+    setting-out (a .m) (a .n) (a .area .now) (a .ib .now) (a .worst) (omega (arith, s .pre .1, fits-large (s .pre .0))) (s .pre .0 .key-most) (s .pre .2)
 
 entry-at-requires : tie.Need-entry-at-requires Inv-loop μ-loop
 entry-at-requires c κs =

@@ -45,7 +45,7 @@ stepped : (c : tie.After-entry-at Inv-loop μ-loop)
     → c .entry-at .result ≡ stepAt (widthFor (start-of (c .before) .args .n)) (now (start-of (c .before) .args .ib)) (c .before .before .loop .r)
 stepped c = rw (c .before .before .before .width-for .ensures) at (c .entry-at .ensures .0)
 
-wholes : (c : tie.After-extend Inv-loop μ-loop) → length (c .extend .last .0) ≡ 255
+wholes : (c : tie.After-extend Inv-loop μ-loop) → length (c .extend .last .0) ≡ 263
 wholes c =
     let e = c .before .before in
     let a = start-of (e .before) .args in

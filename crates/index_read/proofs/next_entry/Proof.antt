@@ -1,6 +1,7 @@
 -- No loop. Each way out has a law in Next: entry-unparsed, entry-low (bound not above the one before), entry-high (last byte X'FF'), entry-on.
 -- After extend the first F + L bytes of the buffer are the new separator (extended-front), so its last byte can be read from the buffer.
--- An entry that was taken apart has its characters within the record (chars-inside), and F + L is at most a key's length: ascends and extend ask that.
+-- An entry that was taken apart has its characters within the record (chars-inside), and F + L is at most a key's length; so the copy has its place
+-- in the buffer and in the record (reaches).
 use Prim.Native.Nat.{_+_, _≤_}
 use mathlib.Core.Path.{_≡_, sym, _∙_}
 use lib.ListN.{length}
@@ -10,7 +11,7 @@ use borrow.Author.Tests.{not-true, not-false}
 use borrow.Author.Needs.{needs}
 use Rattle.index_read.specs.AidParsing.{parsedOf}
 use Rattle.index_read.specs.declared.Parsed.the-variants.{Of}
-use Rattle.index_read.proofs.Entry.{Good, good, chars-inside}
+use Rattle.index_read.proofs.Entry.{Good, good, chars-inside, reaches}
 use Rattle.index_read.proofs.Next.{entry-unparsed, entry-low, entry-high, entry-on}
 use Rattle.index_read.proofs.next_entry.Statement.{statement}
 use Rattle.index_read.proofs.next_entry.Tie as tie
@@ -50,7 +51,7 @@ goods : (c : tie.After-known-told)
 goods c = good _ _ _ _ _ _ _ _ _ _ (parsed c)
 
 insides : (c : tie.After-known-told) → c .before .front .given .0 .1 .1 .0 + c .before .front .given .0 .1 .0 ≤ length (now (c .before .before .before .before .before .before .args .ib))
-insides c = chars-inside _ _ _ _ _ _ _ _ _ _ (goods c) (c .before .before .before .before .before .before .pre .0 .2)
+insides c = chars-inside _ _ _ _ _ _ _ _ _ _ (goods c) (omega (arith, c .before .before .before .before .before .before .pre .0 .2))
 
 piece-at-requires : tie.Need-piece-at-requires
 piece-at-requires c κs = search needs
@@ -85,7 +86,8 @@ returns-2 c = let a = start-from-front (c .before .before .before .before) .args
 
 extend-requires : tie.Need-extend-requires
 extend-requires c κs = let q = c .before .before .before .before in
-    (omega (arith, goods q .fits, start-from-front (c .before .before .before .before .before) .pre .0 .4), insides q)
+    let p = start-from-front (c .before .before .before .before .before) .pre .0 in
+    reaches _ _ _ _ _ _ _ _ _ _ _ (goods q) (p .2) (p .4)
 
 add-last-of : tie.Need-add-last-of
 add-last-of c = omega (arith, goods (known-told-from-buf (c .before .before)) .fits)

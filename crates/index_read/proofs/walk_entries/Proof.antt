@@ -12,6 +12,7 @@ use Rattle.fields.specs.Bytes.{part, splice}
 use Rattle.fields.proofs.Choices.{false-true}
 use Rattle.index_read.specs.AidWalk.{entryOf}
 use Rattle.index_read.specs.declared.Parsed.the-variants.{Of}
+use Rattle.index_step.specs.AidStep.{reach}
 use Rattle.index_read.proofs.Entry.{Good}
 use Rattle.index_read.proofs.Walking.{State, start, bad-entry, fits, too-big, again, onward, not-there, there, marks-end}
 use Rattle.index_read.proofs.walk_entries.Statement.{statement}
@@ -63,7 +64,7 @@ goods c =
 
 renewed : (c : tie.After-known-told Inv-loop μ-loop)
     → c .before .before .before .before .next-entry .last .0 ≡ splice (loop-from-front (c .before) .loop .buf) (c .before .front .given .0 .0)
-    (part (now (start-from-buf2 (c .before .before .before) .args .ib)) (c .before .front .given .0 .1 .1 .0) (c .before .front .given .0 .1 .0))
+    (part (now (start-from-buf2 (c .before .before .before) .args .ib)) (c .before .front .given .0 .1 .1 .0) (reach (c .before .front .given .0 .1 .0)))
 renewed c = rw (c .before .front .given .1) at (c .before .before .before .before .next-entry .ensures .1)
 
 sub-r : tie.Need-sub-r Inv-loop μ-loop
@@ -72,7 +73,7 @@ sub-r c = search needs
 loop-holds : tie.Need-loop-holds Inv-loop μ-loop
 loop-holds c = let a = c .before .args in
     let p = c .before .pre in
-    start (a .by .width) (a .by .key) (a .by .n) (a .by .edge) (now (a .ib)) (a .count) (a .marks) (p .5) (p .7)
+    start (a .by .width) (a .by .key) (a .by .n) (a .by .edge) (now (a .ib)) (a .count) (a .marks) (p .2) (p .5) (p .7)
 
 slice-aggregate-next-entry : tie.Need-slice-aggregate-next-entry Inv-loop μ-loop
 slice-aggregate-next-entry c = sym (c .before .before .loop .inv .whole)

@@ -65,10 +65,10 @@ left c =
     (c .before .before .width-for .ensures) (free-is (c .before))
 
 -- the buffer stays as long as it was
-run-long : (c : tie.After-size-run) → 255 ≤ length (c .size-run .last .1 .1 .1 .0)
+run-long : (c : tie.After-size-run) → 263 ≤ length (c .size-run .last .1 .1 .1 .0)
 run-long c = omega (arith, c .size-run .kept .1 .1 .1 .0)
 
-parts-long : (c : tie.After-size-parts) → 255 ≤ length (c .size-parts .last .1 .1 .1 .1 .0)
+parts-long : (c : tie.After-size-parts) → 263 ≤ length (c .size-parts .last .1 .1 .1 .1 .0)
 parts-long c = omega (arith, run-long (run-from-parts c), c .size-parts .kept .1 .1 .1 .1 .0)
 
 -- what the three passes count

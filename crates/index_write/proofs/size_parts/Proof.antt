@@ -9,7 +9,7 @@ use denote.Ref.{now}
 use borrow.Author.Needs.{needs}
 use borrow.Author.Tests.{not-true, not-false}
 use Rattle.fields.specs.Bytes.{part}
-use Rattle.index_write.proofs.PartSizes.{one-lies, one-few, one-chars, one-long, two-passed, three-passed}
+use Rattle.index_write.proofs.PartSizes.{one-lies, one-few, one-reaches, one-long, two-passed, three-passed}
 use Rattle.index_write.proofs.size_parts.Statement.{statement}
 use Rattle.index_write.proofs.size_parts.Tie as tie
 
@@ -80,7 +80,7 @@ extend-requires : tie.Need-extend-requires
 extend-requires c κs =
     let e = c .before .before .before in
     let b = start-from-first (e .before) in
-    (omega (arith, few e, b .pre .0 .whole), one-chars (now (b .args .ib)) (b .args .c) (now (b .args .buf)) (b .pre .0) (e .entry-at .result) (e .entry-at .ensures .0))
+    one-reaches (now (b .args .ib)) (b .args .c) (now (b .args .buf)) (b .pre .0) (e .entry-at .result) (e .entry-at .ensures .0)
 
 add-end : tie.Need-add-end
 add-end c = search needs

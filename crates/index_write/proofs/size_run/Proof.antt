@@ -57,7 +57,7 @@ extend-requires : tie.Need-extend-requires Inv-loop μ-loop
 extend-requires c κs =
     let h = here (c .before .before .before .before) in
     let e = c .before .before .before .entry-at in
-    rw (e .ensures .0) (h .room, h .chars)
+    rw (e .ensures .0) (h .reaches)
 
 add-len : tie.Need-add-len Inv-loop μ-loop
 add-len c =

@@ -37,13 +37,13 @@ begins : (c : tie.After-start)
 begins c = begins-by (c .start .result) (c .before .before .before .width-for .result) _ _ (c .start .ensures) (c .before .before .before .width-for .ensures)
 
 -- both buffers stay as long as they were
-run-long : (c : tie.After-write-run) → 255 ≤ length (c .write-run .last .1 .1 .1 .1 .0)
+run-long : (c : tie.After-write-run) → 263 ≤ length (c .write-run .last .1 .1 .1 .1 .0)
 run-long c = omega (arith, c .write-run .kept .1 .1 .1 .1 .0)
 
 run-same : (c : tie.After-write-run) → length (c .write-run .last .0) ≡ length (now (start-from-count (count-from-run c) .args .b))
 run-same c = c .write-run .kept .0
 
-parts-long : (c : tie.After-write-parts) → 255 ≤ length (c .write-parts .last .1 .1 .1 .1 .1 .0)
+parts-long : (c : tie.After-write-parts) → 263 ≤ length (c .write-parts .last .1 .1 .1 .1 .1 .0)
 parts-long c = omega (arith, run-long (run-from-parts c), c .write-parts .kept .1 .1 .1 .1 .1 .0)
 
 parts-same : (c : tie.After-write-parts) → length (c .write-parts .last .0) ≡ length (now (start-from-count (count-from-run (run-from-parts c)) .args .b))

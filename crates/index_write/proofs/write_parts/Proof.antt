@@ -9,6 +9,7 @@ use borrow.Author.Needs.{needs}
 use borrow.Author.Tests.{not-true, not-false}
 use Rattle.fields.specs.Bytes.{part}
 use Rattle.index.specs.Form.{entrySize}
+use Rattle.index_step.specs.AidStep.{reach}
 use Rattle.index_write.proofs.PartsStored.{cuts-some, cuts-two, part-lies, before-long, first-short, second-short, first-fits, part-steps, Begun}
 use Rattle.index_write.proofs.PartsStored.{new-inside, new-long, new-short, two-fits, two-done, second-fits, last-fits, three-done}
 use Rattle.index_write.proofs.write_parts.Statement.{statement}
@@ -49,7 +50,8 @@ put-from-last k = k .before .before .before .before .before .before
 
 steps : (k : tie.After-entry-at)
     → (k .entry-at .result .front ≤ start-from-entry k .args .c .len) × (k .entry-at .result .front + k .entry-at .result .len ≤ 255)
-    × (k .entry-at .result .at + k .entry-at .result .len ≤ length (now (start-from-entry k .args .ib)))
+    × (k .entry-at .result .front + reach (k .entry-at .result .len) ≤ length (now (start-from-entry k .args .buf)))
+    × (k .entry-at .result .at + reach (k .entry-at .result .len) ≤ length (now (start-from-entry k .args .ib)))
 steps k =
     let a = start-from-entry k .args in
     let p = start-from-entry k .pre .0 in
@@ -140,7 +142,7 @@ add-one c =
 extend-requires : tie.Need-extend-requires
 extend-requires c κs =
     let e = entry-from-put (c .before .before .before .before) in
-    (omega (arith, steps e .1, start-from-entry e .pre .0 .0 .whole), steps e .2)
+    (steps e .2, steps e .3)
 
 add-end : tie.Need-add-end
 add-end c = search needs

@@ -9,6 +9,7 @@ use denote.Ref.{now}
 use borrow.Author.Needs.{needs}
 use Rattle.index_write.specs.declared.Cursor.{Cursor}
 use Rattle.index_write.proofs.Streaming.{Going, going-start, run-lies, run-done}
+use Rattle.index_step.specs.AidStep.{reach}
 use Rattle.index_write.proofs.Storing.{Storing, storing-start, store-fits, store-same, step-lies, step-chars, step-room, step-turn, store-all}
 use Rattle.index_write.proofs.write_run.Statement.{statement}
 use Rattle.index_write.proofs.write_run.Tie as tie
@@ -54,6 +55,8 @@ same k =
 lies : (k : tie.After-entry-at Inv-loop μ-loop)
     → (k .entry-at .result .front ≤ k .before .before .loop .len) × (k .entry-at .result .front + k .entry-at .result .len ≤ 255)
     × (k .entry-at .result .at + k .entry-at .result .len ≤ length (now (start-from-loop (k .before .before) .args .ib)))
+    × (k .entry-at .result .front + reach (k .entry-at .result .len) ≤ length (k .before .before .loop .buf))
+    × (k .entry-at .result .at + reach (k .entry-at .result .len) ≤ length (now (start-from-loop (k .before .before) .args .ib)))
 lies k =
     let p = start-from-loop (k .before .before) .pre in
     let l = k .before .before .loop in
@@ -85,9 +88,7 @@ longest-requires c κs =
 extend-requires : tie.Need-extend-requires Inv-loop μ-loop
 extend-requires c κs =
     let k = entry-from-longest (c .before) in
-    let l = k .before .before .loop in
-    let s = start-from-loop (k .before .before) .pre .0 in
-    (omega (arith, lies k .1, l .inv .0 .same, s .whole), lies k .2)
+    (lies k .3, lies k .4)
 
 sub-from : tie.Need-sub-from Inv-loop μ-loop
 sub-from c = c .before .before .before .before .before .longest .ensures .1 .0
