@@ -12,7 +12,7 @@ use Rattle.fields.specs.Bytes.{Octets, splice, number, digits}
 use Rattle.fields.specs.Order.{orderOf, common}
 use Rattle.fields.specs.Lists.{sum, concat, every}
 use Rattle.fields.proofs.Choices.{both-split}
-use Rattle.measures.specs.Judgement.{Fits}
+use Rattle.measures.specs.Judgement.{Fits, widthFor}
 use Rattle.measures.specs.Sizes.{anyBelow, permittedSize}
 use Rattle.room.specs.Room.{rdfCount, push, groups, need}
 use Rattle.interval.specs.Records.{ascendFrom, ascending}
@@ -37,7 +37,7 @@ pub some-sound : readArea depot 2 bytes ≡ whole held
 unfolding bytes number digits orderOf common sum rdfCount push groups need concat ascendFrom ascending every groupBytes groupsBytes layout form rdfs rdfsIn
     wellFormed lengths cut recordsIn formSound sound bound separator count once namedOnce rises closed keepsRules spell frontsFit piecesSize lastChars pieceBytes
     piecesBytes freeBytes header trailer indexLayout packed entriesSize entrySize indexSize indexBytes numbersAt piecesAt piecesIn readIndex frame places soundIndex
-    soundFree soundUsed unsoundFree unsoundUsed unsoundData lowest readArea
+    soundFree soundUsed unsoundFree unsoundUsed unsoundData lowest readArea widthFor
 some-sound = refl
 
 -- And damage is told where it is: a byte of the index record; the free interval; both data intervals, of which the lower is told; a free interval that is
@@ -49,7 +49,7 @@ pub some-damaged : (readArea depot 2 (splice bytes 0 (0 ∷ [])) ≡ damaged 0)
 unfolding bytes exchanged splice number digits orderOf common sum rdfCount push groups need concat ascendFrom ascending every groupBytes groupsBytes layout form
     rdfs rdfsIn wellFormed lengths cut recordsIn formSound sound bound separator count once namedOnce rises closed keepsRules spell frontsFit piecesSize lastChars
     pieceBytes piecesBytes freeBytes header trailer indexLayout packed entriesSize entrySize indexSize indexBytes numbersAt piecesAt piecesIn readIndex frame places
-    soundIndex soundFree soundUsed unsoundFree unsoundUsed unsoundData lowest readArea
+    soundIndex soundFree soundUsed unsoundFree unsoundUsed unsoundData lowest readArea widthFor
 some-damaged = (refl, refl, refl, refl)
 
 -- ---- the example keeps what the laws ask
@@ -65,12 +65,12 @@ all-octets (x ∷ xs) h (suc i) = all-octets xs (both-split (ltb x 256) (allOcte
 
 some-octets : allOctets bytes ≡ true
 unfolding bytes digits common sum rdfCount push groups need concat groupBytes groupsBytes layout form
-    piecesSize lastChars pieceBytes piecesBytes freeBytes header trailer indexLayout packed entriesSize entrySize indexSize indexBytes
+    piecesSize lastChars pieceBytes piecesBytes freeBytes header trailer indexLayout packed entriesSize entrySize indexSize indexBytes widthFor
 some-octets = refl
 
 some-length : length bytes ≡ 1536
 unfolding bytes digits common sum rdfCount push groups need concat groupBytes groupsBytes layout form piecesSize lastChars pieceBytes piecesBytes freeBytes header
-    trailer indexLayout packed entriesSize entrySize indexSize indexBytes
+    trailer indexLayout packed entriesSize entrySize indexSize indexBytes widthFor
 some-length = refl
 
 -- Its measures and its length are not refused.

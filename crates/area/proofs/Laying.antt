@@ -9,7 +9,8 @@ use native.Mathlib.Omega.{arith}
 use borrow.Author.Tests.{ltb-true}
 use Rattle.fields.specs.Lists.{every}
 use Rattle.fields.proofs.Choices.{both-split}
-use Rattle.measures.specs.Judgement.{widthFor}
+use Rattle.measures.specs.Judgement.{widthFor, limit}
+use Rattle.measures.proofs.Width.{width-some, width-holds}
 use Rattle.measures.specs.declared.Measures.{Measures}
 use Rattle.measures.proofs.Fine.{fits-large}
 use Rattle.index.specs.Bounds.{bound}
@@ -44,13 +45,13 @@ module _ (m : Measures) (area : List ℕ) (some : 1 ≤ m .least) (small : m .si
       let high : List ℕ = bound (m .key) (f .sep) in
       rw (laid-used-reads m (dataIn m area (f .num)) some small low high (f .records) (l .0), laid-fill high fs (l .1))
 
-  module _ (n : ℕ) (few : n ≤ 256) where
+  module _ (n : ℕ) (few : n ≤ limit) where
     -- An index interval that is laid out is sound and is read as its meaning.
     pub index-sound : (ix : Meaning) → IndexInterval m n ix (indexIn m area) → soundIndex (widthFor n) (m .key) n [] [] (indexIn m area) ≡ true
-    index-sound ix i = index-never-damaged (widthFor n) (m .size) (m .key) n [] [] ix (indexIn m area) (omega arith) few small (i .laid) (i .rules)
+    index-sound ix i = index-never-damaged (widthFor n) (m .size) (m .key) n [] [] ix (indexIn m area) (width-some n) (width-holds n few) small (i .laid) (i .rules)
 
     pub index-read : (ix : Meaning) → IndexInterval m n ix (indexIn m area) → readIndex (widthFor n) n (indexIn m area) ≡ ix
-    index-read ix i = index-reads (widthFor n) (m .size) (m .key) n [] [] ix (indexIn m area) (omega arith) few small (i .laid) (i .rules)
+    index-read ix i = index-reads (widthFor n) (m .size) (m .key) n [] [] ix (indexIn m area) (width-some n) (width-holds n few) small (i .laid) (i .rules)
 
     -- An area whose index interval and data intervals are laid out as c, each by its grammar and in its role, is never called damaged, and is read as c.
     pub area-never-damaged : (c : Content) → AreaLaidOut m n area c → readArea m n area ≡ whole c
@@ -96,7 +97,7 @@ module _ (m : Measures) (n : ℕ) (area : List ℕ) (lent : Lent m n area) where
       let g : 31 ≤ length (indexIn m area) = omega (arith, fits-large (lent .fits)) in
       record {
         laid = rw l at (index-only-laid-out (widthFor n) (m .key) n [] [] (indexIn m area) o g s);
-        rules = rw l at (index-keeps-rules 1 (m .key) n [] [] (indexIn m area) o g s);
+        rules = rw l at (index-keeps-rules (widthFor n) (m .key) n [] [] (indexIn m area) o g s);
       }
 
   -- An area that is read as c was laid out as c, each interval by its grammar and in its role.

@@ -5,6 +5,7 @@ pub mod Sounding
 pub mod Intervals
 pub mod Ascending
 pub mod Parts
+pub mod Widths
 pub mod Laying
 pub mod Roles
 pub mod Placing

@@ -6,7 +6,7 @@ use lib.ListN.{length, take, drop}
 use native.Mathlib.Omega.{arith}
 use native.Mathlib.Nat.{mul-le-mul, add-mul, one-mul}
 use Rattle.fields.proofs.Splices.{part-is}
-use Rattle.measures.specs.Judgement.{Fits}
+use Rattle.measures.specs.Judgement.{Fits, limit}
 use Rattle.measures.specs.declared.Measures.{Measures}
 use Rattle.measures.proofs.Fine.{fits-small}
 use Rattle.area.specs.Content.{indexIn, dataIn}
@@ -17,10 +17,10 @@ module _ (m : Measures) (n : ℕ) (area : List ℕ) (o : Fits m n (length area))
   pub data-ends : (k : ℕ) → k < n → (k + 1) * m .size + m .size ≤ length area
   data-ends k h = data-inside m n area (o .bytes) k h
 
-  pub data-small : (k : ℕ) → k < n → (k + 1) * m .size ≤ 8388608
+  pub data-small : (k : ℕ) → k < n → (k + 1) * m .size ≤ limit * 32768
   data-small k h =
-      let b : k + 1 ≤ 256 = omega (arith, o .few) in
-      let a : (k + 1) * m .size ≤ 256 * 32768 = mul-le-mul b (fits-small o) in
+      let b : k + 1 ≤ limit = omega (arith, o .few) in
+      let a : (k + 1) * m .size ≤ limit * 32768 = mul-le-mul b (fits-small o) in
       omega arith
 
   -- and has the size of an interval

@@ -9,7 +9,7 @@ use Rattle.fields.specs.Order.{orderOf, common}
 use Rattle.fields.specs.Lists.{sum, swap, every}
 use Rattle.fields.proofs.Octets.{octets-cons, octets-replicate}
 use Rattle.fields.proofs.Lists.{concat-one}
-use Rattle.measures.specs.Judgement.{measures}
+use Rattle.measures.specs.Judgement.{measures, widthFor}
 use Rattle.measures.specs.declared.Measures.{Measures}
 use Rattle.measures.proofs.Fine.{fits-small}
 use Rattle.room.specs.Room.{rdfCount, push, groups, need, fits}
@@ -104,7 +104,7 @@ some-divided = refl
 
 -- and it is made.
 pub some-made : planOf sizes held insertion ≡ stores (storesOf sizes held insertion (divided sizes (held .filled) insertion))
-unfolding separators partsOf dividedAt indexSize entriesSize entrySize common cutSeparator swap
+unfolding separators partsOf dividedAt indexSize entriesSize entrySize common cutSeparator swap widthFor
 some-made =
     make-stores sizes held insertion
     (rw some-divided (omega arith), λ (h : 1 < length (divided sizes (held .filled) insertion)). rw some-divided (omega arith))

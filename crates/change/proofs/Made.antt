@@ -15,6 +15,8 @@ use Rattle.interval.specs.Layout.{form}
 use Rattle.index.specs.Form.{indexSize, indexBytes}
 use Rattle.division.specs.Fewest.{AllHeld, Fewest}
 use Rattle.division.proofs.Intervals.{fewest-unique}
+use Rattle.measures.specs.Judgement.{widthFor}
+use Rattle.area.proofs.Widths.{width-rules}
 use Rattle.area.specs.Content.{Content, indexIn, recordsOf, meaningOf, widthIn}
 use Rattle.area.specs.Reading.{whole, readArea}
 use Rattle.area.specs.Layout.{Lent, AreaLaidOut}
@@ -108,18 +110,19 @@ module _ (m : Measures) (n : ℕ) (area : List ℕ) (c : Content) (e : Edit) (f 
             let x : meaningOf (partedAt m c (e .entry) (p ∷ r ∷ ps)) ≡ indexAfter m c e =
             ap (λ (ds : List (List (List ℕ))). meaningOf (partedAt m c (e .entry) ds)) (sym q) ∙ after-meaning m c e in
             let k : suc (length ps) ≤ length (c .free) = omega (arith, w .0 .0) in
-            let t : indexSize (widthIn c) (indexAfter m c e) ≤ m .size - 7 = w .0 .1 (omega arith) in
-            let z : suc (suc (length ps)) - 1 ≡ suc (length ps) = omega arith in
             let a = fit-laid m n area c e f in
+            let v : widthIn c ≡ widthFor n = width-rules (m .size) (m .key) n c (a .index .rules) in
+            let t : indexSize (widthFor n) (indexAfter m c e) ≤ m .size - 7 = rw v at (w .0 .1 (omega arith)) in
+            let z : suc (suc (length ps)) - 1 ≡ suc (length ps) = omega arith in
             record {
               first = p;
               later = r ∷ ps;
               are = q;
               enough = k;
               ordered = o;
-              making = rw s (making-more m n area (f .lent) c a (e .entry) (f .proper .entry) p (r ∷ ps) k o (indexAfter m c e) x t);
-              index = rw (s, lt-ltb 1 (suc (suc (length ps))) (omega arith)) (more-index m n area (f .lent) c a (e .entry) (f .proper .entry) p (r ∷ ps) k o (indexAfter m c e) x t);
-              named = rw (s, lt-ltb 1 (suc (suc (length ps))) (omega arith), z) (more-places m n area (f .lent) c a (e .entry) (f .proper .entry) p (r ∷ ps) k o (indexAfter m c e) x t);
+              making = rw (s, v) (making-more m n area (f .lent) c a (e .entry) (f .proper .entry) p (r ∷ ps) k o (indexAfter m c e) x t);
+              index = rw (s, lt-ltb 1 (suc (suc (length ps))) (omega arith), v) (more-index m n area (f .lent) c a (e .entry) (f .proper .entry) p (r ∷ ps) k o (indexAfter m c e) x t);
+              named = rw (s, lt-ltb 1 (suc (suc (length ps))) (omega arith), z, v) (more-places m n area (f .lent) c a (e .entry) (f .proper .entry) p (r ∷ ps) k o (indexAfter m c e) x t);
               stays = λ (h : length (p ∷ r ∷ ps) ≡ 1). absurd (omega arith);
               divides = λ (h : 1 < length (p ∷ r ∷ ps)). rw s (length-more (m .size) (taken (suc (length ps)) (c .free)) (r ∷ ps) _ _ (length-taken (suc (length ps)) (c .free)));
             }

@@ -63,7 +63,7 @@ module _ (m : Measures) (n : ℕ) (area : List ℕ) (lent : Lent m n area) (c : 
   means-bytes : MeansBytes (meaningOf c)
   means-bytes =
       rw (index-read m area some (fits-small (lent .fits)) n (lent .fits .few) (meaningOf c) (laid .index))
-      at (read-bytes 1 n (indexIn m area) (octets-index m area (lent .octets)))
+      at (read-bytes (widthFor n) n (indexIn m area) (octets-index m area (lent .octets)))
 
   module _ (p : List (List ℕ)) (ps : List (List (List ℕ))) (enough : length ps ≤ length (c .free)) (o : Ordered m low high (p ∷ ps)) where
     -- The content with the parts keeps all rules of the index record.

@@ -37,6 +37,7 @@ use Rattle.area.specs.Content.{Filled, Content, meaningOf, widthIn}
 use Rattle.area.specs.Reading.{readArea, whole}
 use Rattle.area.proofs.Sounding.{Sound, sound-apart, sound-reads, sound-rules, same-content}
 use Rattle.area.proofs.Filled.{length-entries}
+use Rattle.area.proofs.Widths.{width-named}
 use Rattle.change.specs.Stores.{Store, stored}
 use Rattle.change.specs.Parts.{Edit, entryAt, edited, divided, taken}
 use Rattle.change.specs.Plan.{stores, noInterval, noRoom, planOf, indexAfter, takenStores, storesOf}
@@ -290,8 +291,11 @@ module _ (m : Measures) (n : ℕ) (area : List ℕ) (entry number : ℕ) (bytes 
           index-new m n area c e entry (cuts three a b) r i
           (cuts-are m bytes lens three first second (c .filled) e (d .before) (d .after) (d .order) q ∙ rw (ha, hb))
 
-      size-is : needed ≡ indexSize (widthFor n) (indexAfter m c e)
-      size-is = size ∙ ap (indexSize (widthFor n)) means
+      width-is : widthIn c ≡ widthFor n
+      width-is = width-named n c (sound-rules m n area c (sound-apart m n area c r) .naming)
+
+      size-is : needed ≡ indexSize (widthIn c) (indexAfter m c e)
+      size-is = size ∙ ap (indexSize (widthFor n)) means ∙ rw width-is
 
     -- The new index record has no room.
     pub way-room : m .size - 7 < needed → MadeDivided m n area entry (partsAt three first second (cut bytes lens)) NoRoom area
@@ -326,10 +330,10 @@ module _ (m : Measures) (n : ℕ) (area : List ℕ) (entry number : ℕ) (bytes 
           k : length (take (m .size) area) ≡ m .size
           k = length-take-le (m .size) area (omega (arith, o .bytes, o .some))
 
-          is-new : ib ≡ indexBytes (widthFor n) (m .size) (indexAfter m c e)
+          is-new : ib ≡ indexBytes (widthIn c) (m .size) (indexAfter m c e)
           is-new =
               let v : ib ≡ indexBytes (widthFor n) (m .size) (newMeaning (widthFor n) n (take (m .size) area) entry (cuts three a b)) = rw (way-index, k) at w in
-              v ∙ ap (indexBytes (widthFor n) (m .size)) (means c e r i q)
+              v ∙ ap (indexBytes (widthFor n) (m .size)) (means c e r i q) ∙ rw (width-is c e r i q)
 
           same : d .entered .content ≡ c
           same = same-content m n area (d .entered .content) c (d .entered .reads) r
@@ -343,7 +347,7 @@ module _ (m : Measures) (n : ℕ) (area : List ℕ) (entry number : ℕ) (bytes 
           left : after ≡ splice (splice middle 0 (indexBytes (widthIn c) (m .size) (indexAfter m c e))) ((entryAt (c .filled) (e .entry) .num + 1) * m .size) (form (m .size) (take first rs))
           left = h ∙ rw (mid-splice middle ib 0 (m .size) long, front, ← named-so, is-new)
 
-          fits : indexSize (widthFor n) (indexAfter m c e) ≤ m .size - 7
+          fits : indexSize (widthIn c) (indexAfter m c e) ≤ m .size - 7
           fits = omega (arith, size-is c e r i q)
 
           go : (u : Bool) → divided m (c .filled) e ≡ partsAt u first second rs → pick {A = ℕ} u 2 1 ≤ length (c .free)

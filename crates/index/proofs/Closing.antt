@@ -6,8 +6,7 @@ use mathlib.Core.List.{List, [], _∷_, _++_}
 use lib.ListN.{length, take}
 use lib.Dec.{eqb, leb}
 use native.Mathlib.Omega.{arith}
-use native.Mathlib.Nat.{div-one}
-use borrow.Author.Tests.{eqb-true, leb-true, leb-false, eq-eqb, ne-eqb, le-leb, lt-leb}
+use borrow.Author.Tests.{eqb-true, leb-true, leb-false, le-leb, lt-leb}
 use Rattle.fields.specs.Choice.{both}
 use Rattle.fields.specs.Bytes.{Octets}
 use Rattle.fields.specs.Order.{less}
@@ -158,14 +157,3 @@ sound-base w K n low ib = go (closed [] (spell [] (piecesIn w n ib))) refl
           both-none
               (basePlaces w n ib) (frontsFit [] (piecesIn w n ib)),
         )
-
--- With one-byte numbers the free count is what U says, and the first equation is that U is 24 at least.
-pub count-one : (ib : List ℕ) → freeCount 1 ib ≡ unusedAt ib - 24
-count-one ib = div-one (unusedAt ib - 24)
-
-pub unused-one : (ib : List ℕ) → eqb (24 + 1 * freeCount 1 ib) (unusedAt ib) ≡ leb 24 (unusedAt ib)
-unused-one ib = rw (count-one ib) (go (leb 24 (unusedAt ib)) refl)
-  where
-    go : (t : Bool) → leb 24 (unusedAt ib) ≡ t → eqb (24 + 1 * (unusedAt ib - 24)) (unusedAt ib) ≡ t
-    go true h = eq-eqb (24 + 1 * (unusedAt ib - 24)) (unusedAt ib) (omega (arith, leb-true 24 (unusedAt ib) h))
-    go false h = ne-eqb (24 + 1 * (unusedAt ib - 24)) (unusedAt ib) (omega (arith, leb-false 24 (unusedAt ib) h))

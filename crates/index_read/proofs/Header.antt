@@ -67,8 +67,8 @@ base-kept b = rw (kept-at b 0 (omega arith), kept-at b 1 (omega arith), kept-at 
 pub base-is : (b : List ℕ) (n x : ℕ) → x ≡ number 4 b 4 → leb (x + n * length b) 4294967296 ≡ baseFine (length b) n (part b 4 12)
 base-is b n x e = rw (e, base-kept b)
 
-pub product-small : (n s : ℕ) → n ≤ limit → s ≤ 32768 → n * s ≤ 8388608
-product-small n s h k = let m : n * s ≤ 256 * 32768 = mul-le-mul h k in omega arith
+pub product-small : (n s : ℕ) → n ≤ limit → s ≤ 32768 → n * s ≤ limit * 32768
+product-small n s h k = let m : n * s ≤ limit * 32768 = mul-le-mul h k in omega arith
 
 -- ---- the displacements
 

@@ -47,9 +47,6 @@ module _ (ib : List ℕ) (c : Cursor) (buf : List ℕ) (stands : Stands ib c 1 b
     pub one-few : s .front + s .len ≤ 255
     one-few = rw s-is (known .few)
 
-    pub one-chars : s .at + s .len ≤ length ib
-    one-chars = rw s-is (omega (arith, known .room, stands .lie .inside))
-
     pub one-reaches : (s .front + reach (s .len) ≤ length buf) × (s .at + reach (s .len) ≤ length ib)
     one-reaches =
         let m = reach-most (lengthAt (c .width) ib (c .right)) in

@@ -9,19 +9,18 @@ use native.Mathlib.Omega.{arith}
 use Rattle.fields.specs.Bytes.{part, splice}
 use Rattle.fields.proofs.Splices.{length-mid, splice-nil, splice-splice}
 use Rattle.index.specs.Meaning.{Entry, entry, separatorBefore}
-use Rattle.index.specs.Pieces.{spelt, spell, piecesSize}
-use Rattle.index.specs.Reading.{freeCount, lengthAt, pieceAt, piecesAt, numbersAt}
+use Rattle.index.specs.Pieces.{spelt}
+use Rattle.index.specs.Reading.{freeCount, pieceAt, numbersAt}
 use Rattle.index.specs.Form.{entrySize, entryBytes, entriesSize, entriesBytes}
 use Rattle.index.specs.Divided.{cuts, partsOf}
 use Rattle.index.proofs.Apart.{length-numbersAt}
 use Rattle.index.proofs.Compressing.{length-entryBytes, length-entriesBytes}
 use Rattle.index_step.specs.AidStep.{stepAt, reach}
 use Rattle.index_step.specs.declared.Step.{Step}
-use Rattle.index_step.proofs.Walking.{Next, next}
-use Rattle.index_step.proofs.Stepping.{reach-most, extended-front, extended-length}
 use Rattle.index_write.specs.AidStream.{cutsIn, CutsLie, Stands, partsHere, Passed, Stored, RoomFor}
 use Rattle.index_write.specs.declared.Cursor.{Cursor}
 use Rattle.index_write.specs.declared.Cuts.{Cuts}
+use Rattle.index_write.proofs.PartSizes.{two-size, three-size, one-few, one-long, one-ref, one-passed}
 use Rattle.index_write.proofs.Streaming.{size-append, one-size, bytes-append, one-bytes, none-bytes}
 
 -- ---- which numbers the parts have
@@ -49,15 +48,6 @@ module _ (w : ℕ) (ref : List ℕ) (three : Bool) (first second free sep : List
       go : (t : Bool) → entrySize w ref first ≤ entriesSize w ref (partsOf (cuts t first second) free (entry sep own))
       go true = unfold partsOf entriesSize in omega arith
       go false = unfold partsOf entriesSize in omega arith
-
-  size-two : three ≡ false → entriesSize w ref (partsOf (cuts three first second) free (entry sep own)) ≡ entrySize w ref first + entrySize w first sep
-  unfolding partsOf entriesSize
-  size-two t = rw t (omega arith)
-
-  size-three : three ≡ true
-      → entriesSize w ref (partsOf (cuts three first second) free (entry sep own)) ≡ entrySize w ref first + entrySize w first second + entrySize w second sep
-  unfolding partsOf entriesSize
-  size-three t = rw t (omega arith)
 
 pub cuts-some : (cut : Cuts) (bytes : List ℕ) → 1 ≤ length (cutsIn cut bytes)
 cuts-some cut bytes = go (cut .three)
@@ -101,13 +91,6 @@ put-more w ref base b es size b' p prev sep num x new before x-is fits is =
 
 module _ (ib : List ℕ) (c : Cursor) (cut : Cuts) (bytes buf b : List ℕ) (s : Stands ib c 1 buf) (lies : CutsLie cut bytes)
     (room : RoomFor c (partsHere ib c (cutsIn cut bytes) buf) buf b) where
-  known : Next (c .width) ib (c .right) 0 (take (c .len) buf)
-  known = next (c .width) ib (c .right) 0 (take (c .len) buf) (s .lie)
-
-  -- for the calls
-  pub part-lies : (c .width ≤ 4) × (c .right ≤ length ib) × (c .width + 2 + lengthAt (c .width) ib (c .right) ≤ c .right)
-  part-lies = (s .wide, omega (arith, s .lie .inside), known .room)
-
   pub before-long : c .len ≡ length (take (c .len) buf)
   before-long = sym (length-take-le (c .len) buf (omega (arith, s .long, s .whole)))
 
@@ -125,12 +108,6 @@ module _ (ib : List ℕ) (c : Cursor) (cut : Cuts) (bytes buf b : List ℕ) (s :
             (numbersAt (c .width) ib 24 (freeCount (c .width) ib)) (spelt (take (c .len) buf) (pieceAt (c .width) ib (c .right))) (pieceAt (c .width) ib (c .right) .num),
         room,
       )
-
-  pub part-steps : (t : Step) → t ≡ stepAt (c .width) ib (c .right) → (t .front ≤ c .len) × (t .front + t .len ≤ 255)
-      × (t .front + reach (t .len) ≤ length buf) × (t .at + reach (t .len) ≤ length ib)
-  part-steps t t-is =
-      let m = reach-most (lengthAt (c .width) ib (c .right)) in
-      rw t-is (omega (arith, known .front, before-long), known .few, omega (arith, known .few, s .whole, m), omega (arith, known .room, s .lie .inside, m))
 
 -- ---- its parts
 
@@ -174,42 +151,27 @@ module _ {ib : List ℕ} {c : Cursor} {cut : Cuts} {bytes buf b : List ℕ} {t :
   abbrev after : ℕ → Cursor
   after size = record { width = c .width; right = t .at; len = t .front + t .len; size = size }
 
-  next-is : Next (c .width) ib (c .right) 0 (take (c .len) buf)
-  next-is = known ib c cut bytes buf b (g .stands) (g .lies) (g .room)
-
   many : length (numbersAt (c .width) ib 24 (freeCount (c .width) ib)) ≡ freeCount (c .width) ib
   many = length-numbersAt (c .width) ib 24 (freeCount (c .width) ib)
 
-  steps : (t .front ≤ c .len) × (t .front + t .len ≤ 255) × (t .front + reach (t .len) ≤ length buf) × (t .at + reach (t .len) ≤ length ib)
-  steps = part-steps ib c cut bytes buf b (g .stands) (g .lies) (g .room) t (g .step)
-
   -- the buffer begins with the old entry's separator
   new-is : take (t .front + t .len) new ≡ sep
-  new-is = extended-front ib buf new (t .front) (t .len) (t .at) (steps .2) (steps .3) (g .extended) ref (c .len) refl (steps .0) ∙ rw (g .step)
+  new-is = one-ref ib c buf (g .stands) t (g .step) new (g .extended)
 
   pub new-inside : t .front + t .len ≤ length new
-  new-inside = omega (arith, extended-length ib buf new (t .front) (t .len) (t .at) (steps .2) (steps .3) (g .extended), steps .1, g .stands .whole)
+  new-inside = one-long ib c buf (g .stands) t (g .step) new (g .extended)
 
   pub new-long : t .front + t .len ≡ length (take (t .front + t .len) new)
   new-long = sym (length-take-le (t .front + t .len) new new-inside)
 
   pub new-short : length (take (t .front + t .len) new) ≤ 255
-  new-short = omega (arith, new-long, steps .1)
+  new-short = omega (arith, new-long, one-few ib c buf (g .stands) t (g .step))
 
   -- where the pass stands after it, once its parts are stored
   passed : (es : List Entry) (size : ℕ) (b' : List ℕ) → partsHere ib c (cutsIn cut bytes) buf ≡ es → Put w ref (c .size) b es size b'
       → Passed ib c 1 (partsHere ib c (cutsIn cut bytes) buf) buf (after size) new × Stored c (partsHere ib c (cutsIn cut bytes) buf) buf b (after size) b'
-  unfolding piecesAt piecesSize spell separatorBefore
-  passed es size b' e p = (
-    record {
-      width = refl;
-      right = rw (g .step) (omega (arith, next-is .size, next-is .room));
-      size = rw e (p .sized);
-      ref = new-is;
-      long = steps .1;
-    },
-    rw e (p .bytes),
-  )
+  passed es size b' e p =
+      (one-passed ib c buf (g .stands) t (g .step) new (g .extended) (partsHere ib c (cutsIn cut bytes) buf) size (rw e (p .sized)), rw e (p .bytes))
 
   first-put : Put w ref (c .size) b (entry first own ∷ []) (c .size + x1) b1
   unfolding separatorBefore
@@ -221,7 +183,7 @@ module _ {ib : List ℕ} {c : Cursor} {cut : Cuts} {bytes buf b : List ℕ} {t :
 
   module _ (two : cut .three ≡ false) where
     pub two-fits : c .size + x1 + entrySize (c .width) (take (cut .to - cut .from) (drop (cut .from) bytes)) (take (t .front + t .len) new) + 7 ≤ length b
-    two-fits = rw new-is (omega (arith, g .size, size-two w ref (cut .three) first second free sep own two, g .room))
+    two-fits = rw new-is (omega (arith, g .size, two-size w ref first second free (entry sep own) (cut .three) two, g .room))
 
     pub two-done : (x2 : ℕ) (b2 : List ℕ) → x2 ≡ entrySize (c .width) (take (cut .to - cut .from) (drop (cut .from) bytes)) (take (t .front + t .len) new)
         → b2 ≡ splice b1 (length b - 7 - (c .size + x1) - x2) (entryBytes (c .width) (take (cut .to - cut .from) (drop (cut .from) bytes)) (take (t .front + t .len) new) a)
@@ -237,7 +199,7 @@ module _ {ib : List ℕ} {c : Cursor} {cut : Cuts} {bytes buf b : List ℕ} {t :
 
   module _ (three : cut .three ≡ true) where
     all-fit : c .size + x1 + entrySize w first second + entrySize w second sep + 7 ≤ length b
-    all-fit = omega (arith, g .size, size-three w ref (cut .three) first second free sep own three, g .room)
+    all-fit = omega (arith, g .size, three-size w ref first second free (entry sep own) (cut .three) three, g .room)
 
     pub second-fits : c .size + x1
         + entrySize (c .width) (take (cut .to - cut .from) (drop (cut .from) bytes)) (take (cut .to2 - cut .from2) (drop (cut .from2) bytes))

@@ -14,7 +14,7 @@ abbrev pub limit : ℕ
 limit = 256
 
 -- the bytes of a pointer and of a free number in the index record of n data intervals: document 01, 'Index record'
-abbrev pub widthFor : ℕ → ℕ
+unfoldable pub widthFor : ℕ → ℕ
 widthFor n = 1
 
 -- the measures of a request: the shortest record ends with its key

@@ -11,7 +11,9 @@ use Rattle.measures.specs.declared.Measures.{Measures}
 use Rattle.index.specs.Meaning.{numbers}
 use Rattle.index.specs.Search.{leadsTo}
 use Rattle.index.specs.Cuts.{separators}
-use Rattle.area.specs.Content.{Filled, Content, recordsOf, entriesOf}
+use Rattle.measures.specs.Judgement.{widthFor}
+use Rattle.area.specs.Content.{Filled, Content, recordsOf, entriesOf, widthIn}
+use Rattle.area.proofs.Widths.{width-rules}
 use Rattle.area.specs.Reading.{whole, readArea}
 use Rattle.change.specs.Stores.{stored}
 use Rattle.change.specs.Parts.{Edit, edited, divided, taken}
@@ -20,8 +22,8 @@ use Rattle.change.specs.Fitting.{Fitting}
 use Rattle.change.specs.Places.{namedFor}
 use Rattle.change.proofs.Planning.{planned}
 use Rattle.change.proofs.After.{after-meaning}
-use Rattle.change.proofs.Fitted.{edited-parting, one-to-three}
-use Rattle.change.proofs.Made.{made-whole, made-fewest, made-only-named, made-written, made-index, made-count}
+use Rattle.change.proofs.Fitted.{fit-laid, edited-parting, one-to-three}
+use Rattle.change.proofs.Made.{made-laid, made-whole, made-fewest, made-only-named, made-written, made-index, made-count}
 use Rattle.requests.specs.Answers.{numberOf}
 use Rattle.requests.specs.Model.{Change}
 use Rattle.requests.specs.Reading.{checkOf}
@@ -95,6 +97,9 @@ module _ (size offset key most : ℕ) (m : Measures) (n : ℕ) (area : List ℕ)
         let f : Filled = ledTo c (keyIn m ch) in
         let many : length (new m c f ps) ≡ length ps = new-many m c f ps some in
         let ix = made-index m n area c e fits (did .ss) (did .planned) in
+        let u : widthIn c ≡ widthFor n = width-rules (m .size) (m .key) n c (fit-laid m n area c e fits .index .rules) in
+        let v : widthIn (contentAfter m c e) ≡ widthFor n =
+        width-rules (m .size) (m .key) n (contentAfter m c e) (made-laid m n area c e fits (did .ss) (did .planned) .index .rules) in
         record {
           taken = taken (length ps - 1) (c .free);
           named = new-numbers m c f ps some;
@@ -109,7 +114,7 @@ module _ (size offset key most : ℕ) (m : Measures) (n : ℕ) (area : List ℕ)
               (λ (j : List·Memᴰ (k + 1) (namedFor c (e .entry) (length ps))).
               no (rw (new-numbers m c f ps some, ← place) (named-among c (e .entry) (length ps) k j))));
           index-stays = λ (h : length (new m c f ps) ≡ 1). rw left (rw (le-ltb 1 (length ps) (omega arith)) at ix);
-          index-written = λ (h : 1 < length (new m c f ps)). rw (left, is-after, after-meaning m c e) (rw (lt-ltb 1 (length ps) (omega arith)) at ix);
+          index-written = λ (h : 1 < length (new m c f ps)). rw (left, is-after, v, after-meaning m c e) (rw (lt-ltb 1 (length ps) (omega arith), u) at ix);
           kept = rw is-after;
           spare = rw is-after;
         }

@@ -113,7 +113,7 @@ module _ (size offset key most : ℕ) (area : List ℕ) where
         (seps-append (new m c f ps) post ∙ ap (λ (x : List (List ℕ)). x ++ sepsBy post) (new-seps m c f ps (one-to-three m (c .filled) e .0))) in
         let a = entries-need (widthIn c) [] (pre ++ (new m c f ps ++ post)) ∙ ap (entriesNeed (widthIn c) []) b in
         let l = length-take-le (length (c .free) - (length ps - 1)) (c .free) (omega arith) in
-        omega (arith, a, l)
+        omega (arith, a, ap (λ (x : ℕ). widthIn c * x) l)
 
     -- and the index record needs so many bytes.
     needs-is : (h : Home m c (keyIn m ch)) → indexNeeds m c (keyIn m ch) h ps ≡ indexSize (widthIn c) (indexAfter m c e)

@@ -8,7 +8,8 @@ use mathlib.Core.Logic.{_↔_}
 use lib.ListN.{length}
 use native.Mathlib.Omega.{arith}
 use Rattle.fields.specs.Bytes.{Octets}
-use Rattle.measures.specs.Judgement.{widthFor}
+use Rattle.measures.specs.Judgement.{widthFor, limit}
+use Rattle.measures.proofs.Width.{width-some, width-holds}
 use Rattle.measures.specs.declared.Measures.{Measures}
 use Rattle.measures.proofs.Fine.{fits-small}
 use Rattle.room.specs.Room.{need}
@@ -53,14 +54,14 @@ module _ (m : Measures) (some : 1 ≤ m .least) where
 
 -- ---- the index record, with pointers of one byte
 
-module _ (S K n : ℕ) (ix : Meaning) (rules : keepsRules S K n [] [] ix ≡ true) (few : n ≤ 256) (small : S ≤ 32768) where
+module _ (S K n : ℕ) (ix : Meaning) (rules : keepsRules S K n [] [] ix ≡ true) (few : n ≤ limit) (small : S ≤ 32768) where
   -- The index record that the register writes is read back as the same entries and free numbers.
   pub index-reads-back : length (ix .kept) ≡ 12 → indexSize (widthFor n) ix ≤ S - 7 → K ≤ 255 → readIndex (widthFor n) n (indexBytes (widthFor n) S ix) ≡ ix
-  index-reads-back twelve room short = reads-back.index-reads-back (widthFor n) S ix twelve room K n [] [] short rules (omega arith) few small
+  index-reads-back twelve room short = reads-back.index-reads-back (widthFor n) S ix twelve room K n [] [] short rules (width-some n) (width-holds n few) small
 
   -- An index record that keeps the rules, with any legal compression and with anything in its unused space, is not called damaged.
   pub index-never-damaged : (ib : List ℕ) → index-layout.LaidOut (widthFor n) S ix ib → soundIndex (widthFor n) K n [] [] ib ≡ true
-  index-never-damaged ib l = never.index-never-damaged (widthFor n) S K n [] [] ix ib (omega arith) few small l rules
+  index-never-damaged ib l = never.index-never-damaged (widthFor n) S K n [] [] ix ib (width-some n) (width-holds n few) small l rules
 
 -- An index record that is taken for sound keeps the rules, with the meaning that is read.
 pub index-only-laid-out : (K n : ℕ) (ib : List ℕ) → Octets ib → 31 ≤ length ib → soundIndex (widthFor n) K n [] [] ib ≡ true → index-layout.LaidOut (widthFor n) (length ib) (readIndex (widthFor n) n ib) ib

@@ -8,7 +8,7 @@ use native.Mathlib.Omega.{arith}
 use Rattle.fields.specs.Bytes.{number, digits}
 use Rattle.fields.specs.Order.{orderOf, common}
 use Rattle.fields.specs.Lists.{sum, concat, every}
-use Rattle.measures.specs.Judgement.{countOf}
+use Rattle.measures.specs.Judgement.{countOf, widthFor}
 use Rattle.measures.proofs.Fine.{accepted, fits-count}
 use Rattle.room.specs.Room.{rdfCount, push, groups, need}
 use Rattle.interval.specs.Records.{keyOf, ascendFrom, ascending}
@@ -120,7 +120,7 @@ together-read : readArea depot 2 together ≡ whole (holding (first ∷ second �
 unfolding number digits orderOf common sum rdfCount push groups need concat ascendFrom ascending every groupBytes groupsBytes layout form rdfs rdfsIn wellFormed
     lengths cut recordsIn formSound sound bound separator count once namedOnce rises closed keepsRules spell frontsFit piecesSize lastChars pieceBytes piecesBytes
     freeBytes header trailer indexLayout packed entriesSize entrySize indexSize indexBytes numbersAt piecesAt piecesIn readIndex frame places soundIndex soundFree
-    soundUsed unsoundFree unsoundUsed unsoundData lowest readArea
+    soundUsed unsoundFree unsoundUsed unsoundData lowest readArea widthFor
 together-read = refl
 
 -- ---- counts
@@ -185,7 +185,7 @@ without-read : readArea depot 2 without ≡ whole (holding (first ∷ third ∷ 
 unfolding number digits orderOf common sum rdfCount push groups need concat ascendFrom ascending every groupBytes groupsBytes layout form rdfs rdfsIn wellFormed
     lengths cut recordsIn formSound sound bound separator count once namedOnce rises closed keepsRules spell frontsFit piecesSize lastChars pieceBytes piecesBytes
     freeBytes header trailer indexLayout packed entriesSize entrySize indexSize indexBytes numbersAt piecesAt piecesIn readIndex frame places soundIndex soundFree
-    soundUsed unsoundFree unsoundUsed unsoundData lowest readArea
+    soundUsed unsoundFree unsoundUsed unsoundData lowest readArea widthFor
 without-read = refl
 
 -- A register that loses the last certificate that it had breaks `history`.

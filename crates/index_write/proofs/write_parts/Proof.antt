@@ -9,8 +9,8 @@ use borrow.Author.Needs.{needs}
 use borrow.Author.Tests.{not-true, not-false}
 use Rattle.fields.specs.Bytes.{part}
 use Rattle.index.specs.Form.{entrySize}
-use Rattle.index_step.specs.AidStep.{reach}
-use Rattle.index_write.proofs.PartsStored.{cuts-some, cuts-two, part-lies, before-long, first-short, second-short, first-fits, part-steps, Begun}
+use Rattle.index_write.proofs.PartSizes.{one-lies, one-reaches}
+use Rattle.index_write.proofs.PartsStored.{cuts-some, cuts-two, before-long, first-short, second-short, first-fits, Begun}
 use Rattle.index_write.proofs.PartsStored.{new-inside, new-long, new-short, two-fits, two-done, second-fits, last-fits, three-done}
 use Rattle.index_write.proofs.write_parts.Statement.{statement}
 use Rattle.index_write.proofs.write_parts.Tie as tie
@@ -47,15 +47,6 @@ abbrev put-from-last : tie.After-put-entry4 → tie.After-put-entry3
 put-from-last k = k .before .before .before .before .before .before
 
 -- ---- what is known at them
-
-steps : (k : tie.After-entry-at)
-    → (k .entry-at .result .front ≤ start-from-entry k .args .c .len) × (k .entry-at .result .front + k .entry-at .result .len ≤ 255)
-    × (k .entry-at .result .front + reach (k .entry-at .result .len) ≤ length (now (start-from-entry k .args .buf)))
-    × (k .entry-at .result .at + reach (k .entry-at .result .len) ≤ length (now (start-from-entry k .args .ib)))
-steps k =
-    let a = start-from-entry k .args in
-    let p = start-from-entry k .pre .0 in
-    part-steps (now (a .ib)) (a .c) (a .cuts) (now (a .bytes)) (now (a .buf)) (now (a .b)) (p .0) (p .1) (p .2) (k .entry-at .result) (k .entry-at .ensures .0)
 
 fits-first : (k : tie.After-put-entry)
     → start-from-entry (entry-from-put k) .args .c .size + k .put-entry .result + 7 ≤ length (now (start-from-entry (entry-from-put k) .args .b))
@@ -113,7 +104,7 @@ entry-at-requires : tie.Need-entry-at-requires
 entry-at-requires c κs =
     let a = c .before .before .before .before .before .args in
     let p = c .before .before .before .before .before .pre .0 in
-    part-lies (now (a .ib)) (a .c) (a .cuts) (now (a .bytes)) (now (a .buf)) (now (a .b)) (p .0) (p .1) (p .2)
+    one-lies (now (a .ib)) (a .c) (now (a .buf)) (p .0)
 
 sub-put-entry : tie.Need-sub-put-entry
 sub-put-entry c = search needs
@@ -142,7 +133,8 @@ add-one c =
 extend-requires : tie.Need-extend-requires
 extend-requires c κs =
     let e = entry-from-put (c .before .before .before .before) in
-    (steps e .2, steps e .3)
+    let a = start-from-entry e .args in
+    one-reaches (now (a .ib)) (a .c) (now (a .buf)) (start-from-entry e .pre .0 .0) (e .entry-at .result) (e .entry-at .ensures .0)
 
 add-end : tie.Need-add-end
 add-end c = search needs
