@@ -1,7 +1,8 @@
 /* Times the register's requests of two builds in turn: speed FOLDER BEFORE.so [AFTER.so].
    FOLDER holds the areas that make_areas.py wrote. Each figure is the best of many rounds; within a round the builds take turns, so that
    whatever else the machine does falls on both. The plain sum that ratios are told by is one loop over the area's bytes, not inlined and
-   not vectorised. Prints, for each area and request, nanoseconds of each build, the part of the sum that it is, and after / before. */
+   not vectorised. Prints, for each area and request, nanoseconds of each build, the part of the sum that it is, and after / before.
+   speed FOLDER BUILD.so loop AREA REQUEST TIMES does one request so many times, for a profiler. */
 #include <dlfcn.h>
 #include <stdint.h>
 #include <stdio.h>
@@ -125,6 +126,14 @@ int main(int argc, char **argv)
     static const char *areas[] = {"a20", "a127", "a200", "b20"};
     static volatile uint64_t keep;
     (void)keep;
+    if (argc == 7 && !strcmp(argv[3], "loop")) {
+        struct build one = load(argv[2]);
+        struct area a = read_area(argv[1], argv[4]);
+        for (int w = 0; w < KINDS; w++)
+            if (!strcmp(names[w], argv[5]))
+                return printf("%.0f ns\n", timed(&one, &a, w, atoi(argv[6]))), 0;
+        return fprintf(stderr, "no request is called %s\n", argv[5]), 1;
+    }
     if (argc < 3)
         return fprintf(stderr, "speed FOLDER BEFORE.so [AFTER.so]\n"), 1;
     int builds = argc > 3 ? 2 : 1;

@@ -24,9 +24,9 @@ tailFine ci = both (no (busy ci)) (eqb (rdfsAt ci + 3 * rdfsMany ci + 4) (length
 unfoldable pub tailOf : List ℕ → Tail
 tailOf ci = pick (tailFine ci) (Of (displacement ci) (rdfsAt ci) (rdfsMany ci)) Bad
 
--- what is told of an interval of S bytes lies in it
+-- what is told of an interval of S bytes lies in it, the RDFs against the CIDF
 abbrev pub Small : ℕ → Tail → Type 0
-Small S (Of bytes at many) = (bytes ≤ S) × (at + 3 * many ≤ S)
+Small S (Of bytes at many) = (bytes ≤ S) × (at + 3 * many + 4 ≡ S)
 Small S Bad = Unit {0}
 
 -- the keys of so many records of one length, the first key at a place

@@ -179,9 +179,10 @@ pub(crate) fn run_rises(
     rises(ci, key, prev, at, len, count)
 }
 
-// The walk over the `many` RDFs from place p on and over the records that they describe, which must have `bytes` bytes.
+// The walk over the `many` RDFs from place p on and over the records that they describe, which must have `bytes` bytes. The RDFs end
+// where the CIDF begins, so the first of them is read without waiting for what the CIDF says.
 pub(crate) fn walk(ci: &[u8], m: Measures, bytes: usize, p: usize, many: usize) -> Verdict
-    requires { ⌜ (p + 3 * many ≤ length (now ci)) × (bytes ≤ length (now ci)) × (length (now ci) ≤ 32768) × (1 ≤ m .key) × (m .offset + m .key ≤ m .least) ⌝ }
+    requires { ⌜ (p + 3 * many + 4 ≡ length (now ci)) × (bytes ≤ length (now ci)) × (length (now ci) ≤ 32768) × (1 ≤ m .key) × (m .offset + m .key ≤ m .least) ⌝ }
     ensures { λ r. ⌜ r ≡ walked m (now (ci .entry)) bytes many (rdfs (now (ci .entry)) p many) ⌝ }
 {
     let offset = m.offset;
@@ -189,11 +190,12 @@ pub(crate) fn walk(ci: &[u8], m: Measures, bytes: usize, p: usize, many: usize) 
     let least = m.least;
     let most = m.most;
     let mut left = many;
+    let mut q = ci.len() - 4;
     let mut at = 0;
     let mut seen = 0;
     let mut last = 0;
     while 0 < left {
-        let Front::Run { len, count, used } = rdf::group_at(ci, p, left, least, most) else {
+        let Front::Run { len, count, used } = rdf::group_before(ci, q, left, least, most) else {
             return Verdict::Unsound;
         };
         let end = at + len * count;
@@ -207,6 +209,7 @@ pub(crate) fn walk(ci: &[u8], m: Measures, bytes: usize, p: usize, many: usize) 
         at = end;
         seen = seen + count;
         left = left - used;
+        q = q - 3 * used;
     }
     if at == bytes {
         Verdict::Sound {

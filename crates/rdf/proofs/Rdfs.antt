@@ -1,6 +1,6 @@
 -- The RDFs of an interval one after another, and what a run adds up to.
 use Prim.Native.Nat.{ℕ, zero, suc, _+_, _-_, _*_, _≤_, _<_}
-use mathlib.Core.Path.{_≡_}
+use mathlib.Core.Path.{_≡_, _∙_}
 use mathlib.Core.List.{List, _∷_, _++_}
 use lib.ListN.{length, getD, drop, replicate, length-append, length-replicate}
 use native.Mathlib.Omega.{arith}
@@ -39,3 +39,11 @@ prod16 a b h k =
     let k' : b ≤ 65535 = omega arith in
     let m : a * b ≤ 65535 * 65535 = mul-le-mul h' k' in
     omega arith
+
+-- the same for those that end at place q
+pub rdfs-before : (b : List ℕ) (q n : ℕ) → 0 < n → 3 * n ≤ q
+    → rdfs b (q - 3 * n) n ≡ record { control = getD b (q - 3) 0; num = number 2 b (q - 3 + 1) } ∷ rdfs b (q - 3 - 3 * (n - 1)) (n - 1)
+rdfs-before b q n h k =
+    let e : q - 3 * n + 3 * (n - 1) ≡ q - 3 = omega arith in
+    let f : q - 3 * n ≡ q - 3 - 3 * (n - 1) = omega arith in
+    rdfs-cons b (q - 3 * n) n h ∙ rw (e, f)

@@ -11,6 +11,7 @@ use Rattle.rdf.proofs.is_busy.Reads as is-busy
 use Rattle.rdf.proofs.below_flag.Reads as below-flag
 use Rattle.rdf.proofs.with_flag.Reads as with-flag
 use Rattle.rdf.proofs.group_at.Reads as group-at
+use Rattle.rdf.proofs.group_before.Reads as group-before
 
 pub unique-take-apart : (κs : _) (args : _) (r s : Control) (e f : _) → take-apart.Learnt κs args r e → take-apart.Learnt κs args s f → r ≡ s
 unique-take-apart κs args r s e f p q = agree p q
@@ -29,3 +30,6 @@ unique-with-flag κs args r s e f p q = agree p q
 
 pub unique-group-at : (κs : _) (args : _) (r s : Front) (e f : _) → group-at.Learnt κs args r e → group-at.Learnt κs args s f → r ≡ s
 unique-group-at κs args r s e f p q = agree (p .0) (q .0)
+
+pub unique-group-before : (κs : _) (args : _) (r s : Front) (e f : _) → group-before.Learnt κs args r e → group-before.Learnt κs args s f → r ≡ s
+unique-group-before κs args r s e f p q = agree (p .0) (q .0)

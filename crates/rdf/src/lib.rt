@@ -77,13 +77,14 @@ pub enum Front {
     Damaged,
 }
 
-// The first group of the n RDFs that lie from place p on; its length must be from least to most.
-pub fn group_at(b: &[u8], p: usize, n: usize, least: usize, most: usize) -> Front
-    requires { ⌜ (0 < n) × (p + 3 * n ≤ length (now b)) ⌝ }
-    ensures is { λ r. ⌜ r ≡ frontOf least most (rdfs (now (b .entry)) p n) ⌝ }
+// The first group of the n RDFs that end at place q; its length must be from least to most. Where they begin need not be known for it: the
+// first stands rightmost.
+pub fn group_before(b: &[u8], q: usize, n: usize, least: usize, most: usize) -> Front
+    requires { ⌜ (0 < n) × (3 * n ≤ q) × (q ≤ length (now b)) ⌝ }
+    ensures is { λ r. ⌜ r ≡ frontOf least most (rdfs (now (b .entry)) (q - 3 * n) n) ⌝ }
     ensures small { λ r. ⌜ Small n r ⌝ }
 {
-    let at = p + 3 * (n - 1);
+    let at = q - 3;
     let len = fields::read_two(b, at + 1);
     if len < least {
         return Front::Damaged;
@@ -97,22 +98,22 @@ pub fn group_at(b: &[u8], p: usize, n: usize, least: usize, most: usize) -> Fron
             count: 1,
             used: 1,
         },
-        Control::Paired => pair_at(b, p, n - 1, len),
+        Control::Paired => pair_before(b, at, n - 1, len),
         Control::Count => Front::Damaged,
         Control::Bad => Front::Damaged,
     }
 }
 
 // The run whose length was read, if the n RDFs that are left begin with its count. The unused space left of them is no RDF.
-pub(crate) fn pair_at(b: &[u8], p: usize, n: usize, len: usize) -> Front
-    requires { ⌜ (p + 3 * n ≤ length (now b)) × (len < 65536) ⌝ }
-    ensures is { λ r. ⌜ r ≡ pairOf len (rdfs (now (b .entry)) p n) ⌝ }
+pub(crate) fn pair_before(b: &[u8], q: usize, n: usize, len: usize) -> Front
+    requires { ⌜ (3 * n ≤ q) × (q ≤ length (now b)) × (len < 65536) ⌝ }
+    ensures is { λ r. ⌜ r ≡ pairOf len (rdfs (now (b .entry)) (q - 3 * n) n) ⌝ }
     ensures small { λ r. ⌜ Small (n + 1) r ⌝ }
 {
     if n == 0 {
         return Front::Damaged;
     }
-    let at = p + 3 * (n - 1);
+    let at = q - 3;
     let Control::Count = take_apart(b[at]) else {
         return Front::Damaged;
     };
@@ -125,4 +126,13 @@ pub(crate) fn pair_at(b: &[u8], p: usize, n: usize, len: usize) -> Front
         count: count,
         used: 2,
     }
+}
+
+// The first group of the n RDFs that lie from place p on.
+pub fn group_at(b: &[u8], p: usize, n: usize, least: usize, most: usize) -> Front
+    requires { ⌜ (0 < n) × (p + 3 * n ≤ length (now b)) ⌝ }
+    ensures is { λ r. ⌜ r ≡ frontOf least most (rdfs (now (b .entry)) p n) ⌝ }
+    ensures small { λ r. ⌜ Small n r ⌝ }
+{
+    group_before(b, p + 3 * n, n, least, most)
 }

@@ -1,10 +1,10 @@
 -- Invariant: the judgement on all RDFs from the start is that on the left unread ones (record Come), for records from place at on,
 -- after the key of the record at last, or after none where no record was seen. seen counts the records passed.
--- The last of all records is the one at last, unless more come. last is at most at, at is at most bytes, seen is at most at.
+-- The unread RDFs end at q. The last of all records is the one at last, unless more come. last is at most at, at is at most bytes, seen is at most at.
 -- Measure: left, the unread RDFs; a group takes at least one.
 -- steps: the first group stands for its part of the RDFs; goes-on passes it; no-group, too-long and falls make the interval unsound.
 -- ended: with no RDF left the interval is sound exactly if the records end at bytes.
-use Prim.Native.Nat.{ℕ, _≤_, _<_}
+use Prim.Native.Nat.{ℕ, _+_, _-_, _*_, _≤_, _<_}
 use mathlib.Core.Path.{_≡_, refl, _∙_, sym}
 use mathlib.Core.List.{List, []}
 use native.Mathlib.Omega.{arith}
@@ -21,11 +21,11 @@ use Rattle.interval_read.proofs.walk.Statement.{statement}
 use Rattle.interval_read.proofs.walk.Tie as tie
 
 abbrev Inv-loop : tie.InvT-loop
-Inv-loop ci bytes p many offset key least most left₀ at₀ seen₀ last₀ left at seen last =
-    (left ≤ many) × Come offset key least most ci bytes (rdfs ci p many) (rdfs ci p left) at seen last
+Inv-loop ci bytes p many offset key least most left₀ q₀ at₀ seen₀ last₀ left q at seen last =
+    ((left ≤ many) × (q ≡ p + 3 * left)) × Come offset key least most ci bytes (rdfs ci p many) (rdfs ci p left) at seen last
 
 abbrev μ-loop : tie.MeasureT-loop
-μ-loop ci bytes p many offset key least most left₀ at₀ seen₀ last₀ left at seen last = left
+μ-loop ci bytes p many offset key least most left₀ q₀ at₀ seen₀ last₀ left q at seen last = left
 
 -- The states that the proof looks back to, by their names.
 abbrev start-from-len : tie.After-len Inv-loop μ-loop → tie.Start Inv-loop μ-loop
@@ -52,9 +52,11 @@ group : (c : tie.After-known-told Inv-loop μ-loop)
 group c =
     let a = start-from-len (c .before) .args in
     let n = c .before .before .before .before .before .loop .left in
-    let g = c .before .before .before .group-at in
+    let g = c .before .before .before .group-before in
+    let q = c .before .before .before .before .before .loop .inv .0 .1 in
+    let z : c .before .before .before .before .before .loop .q - 3 * n ≡ a .p = omega (arith, q) in
     let e : Run (c .before .len .given .0 .0) (c .before .len .given .0 .1 .0) (c .before .len .given .0 .1 .1 .0) ≡ frontOf (a .m .least) (a .m .most)
-    (rdfs (a .ci .now) (a .p) n) = sym (c .before .len .given .1) ∙ g .ensures .0 in
+    (rdfs (a .ci .now) (a .p) n) = sym (c .before .len .given .1) ∙ rw z at (g .ensures .0) in
     let f = rw (c .before .len .given .1) at (g .ensures .1) in
     record {
       step = steps (a .ci .now) (a .p) n (a .m .least) (a .m .most) (c .before .before .before .before .loop-test .taken) (c .before .len .given .0 .0)
@@ -70,10 +72,16 @@ group c =
 loop-holds : tie.Need-loop-holds Inv-loop μ-loop
 loop-holds c =
     let a = c .before .args in
-    (omega arith, set-out (a .m) (a .ci .now) (a .bytes) (rdfs (a .ci .now) (a .p) (a .many)))
+    ((omega arith, omega (arith, c .before .pre .0)), set-out (a .m) (a .ci .now) (a .bytes) (rdfs (a .ci .now) (a .p) (a .many)))
 
-group-at-requires : tie.Need-group-at-requires Inv-loop μ-loop
-group-at-requires c κs = search needs
+sub-q : tie.Need-sub-q Inv-loop μ-loop
+sub-q c = search needs
+
+group-before-requires : tie.Need-group-before-requires Inv-loop μ-loop
+group-before-requires c κs =
+    let o = c .before .loop in
+    let p = c .before .before .before .pre .0 in
+    (omega arith, omega (arith, o .inv .0 .1), omega (arith, o .inv .0 .1, o .inv .0 .0, p))
 
 enum-known-len : tie.Need-enum-known-len Inv-loop μ-loop
 enum-known-len c = search needs
@@ -86,8 +94,9 @@ returns c =
     let a = c .before .before .before .before .before .before .args in
     let o = c .before .before .before .before .loop in
     let some = c .before .before .before .loop-test .taken in
+    let z : o .q - 3 * o .left ≡ a .p = omega (arith, o .inv .0 .1) in
     sym (no-group (a .m) (a .ci .now) (a .bytes) (rdfs (a .ci .now) (a .p) (a .many)) (a .many) (a .p) (o .left) (o .at) (o .seen) (o .last) (o .inv .1) some
-    (stops (a .ci .now) (a .p) (o .left) (a .m .least) (a .m .most) some (sym (c .enum-told .given .1) ∙ c .before .before .group-at .ensures .0)))
+    (stops (a .ci .now) (a .p) (o .left) (a .m .least) (a .m .most) some (sym (c .enum-told .given .1) ∙ rw z at (c .before .before .group-before .ensures .0))))
 
 mul-end : tie.Need-mul-end Inv-loop μ-loop
 mul-end c = omega (arith, prod16 (c .before .len .given .0 .0) (c .before .len .given .0 .1 .0) (group c .len) (group c .count))
@@ -157,12 +166,19 @@ add-seen c =
     omega (arith, g .count, o .inv .1 .few, o .inv .1 .inside)
 
 sub-left : tie.Need-sub-left Inv-loop μ-loop
-sub-left c =
+sub-left c = omega (arith, group (c .before .before .before) .taken)
+
+mul-q : tie.Need-mul-q Inv-loop μ-loop
+mul-q c =
     let k = c .before .before .before in
-    let a = start-from-len (k .before) .args in
     let o = k .before .before .before .before .before .loop in
-    let g = group k in
-    omega (arith, g .taken)
+    omega (arith, group k .taken, o .inv .0 .0, start-from-len (k .before) .pre .0)
+
+sub-q-2 : tie.Need-sub-q-2 Inv-loop μ-loop
+sub-q-2 c =
+    let k = c .before .before .before in
+    let o = k .before .before .before .before .before .loop in
+    omega (arith, group k .taken, o .inv .0 .1)
 
 loop-less : tie.Need-loop-less Inv-loop μ-loop
 loop-less c =
@@ -178,7 +194,7 @@ loop-again c =
     let a = start-from-len (k .before) .args in
     let o = k .before .before .before .before .before .loop in
     let g = group k in (
-      omega (arith, g .taken),
+      (omega (arith, g .taken, o .inv .0 .0), omega (arith, g .taken, o .inv .0 .1)),
       goes-on (a .m) (a .ci .now) (a .bytes) (rdfs (a .ci .now) (a .p) (a .many)) (a .many) (a .p) (o .left) (o .at) (o .seen) (o .last)
           (o .inv .1) (k .before .before .before .before .loop-test .taken) (k .before .len .given .0 .0) (k .before .len .given .0 .1 .0) (k .before .len .given .0 .1 .1 .0)
           (g .step) (g .holds) (omega (arith, g .least-is)) (c .before .before .if1 .left) (sym (c .before .run-rises .ensures) ∙ not-false (c .before .run-rises .result) (c .if2 .left)),
@@ -208,8 +224,9 @@ walk-spec =
     (tie.spec
     Inv-loop
     μ-loop
+    sub-q
     loop-holds
-    group-at-requires
+    group-before-requires
     enum-known-len
     enum-told
     returns
@@ -223,6 +240,8 @@ walk-spec =
     sub-last
     add-seen
     sub-left
+    mul-q
+    sub-q-2
     loop-less
     loop-again
     returns-4

@@ -1,6 +1,6 @@
--- rdfs-cons: the count's RDF is the rightmost of the n that are left; with n = 0 there is none, and the run is damaged.
+-- rdfs-before: the count's RDF is the rightmost of the n that are left; with n = 0 there is none, and the run is damaged.
 -- told: a byte taken apart as Count is X'08'. not-count: a byte taken apart as anything else is not. The count must be at least 2.
-use Prim.Native.Nat.{ℕ, _+_, _-_, _*_}
+use Prim.Native.Nat.{ℕ, _-_}
 use mathlib.Core.Path.{_≡_}
 use mathlib.Core.List.{[], _∷_}
 use mathlib.Core.Logic.{⊎-elim}
@@ -10,10 +10,10 @@ use borrow.Author.Tests.{ne-eqb, le-leb, lt-leb}
 use borrow.Author.Needs.{needs}
 use Rattle.interval.specs.Reading.{rdfs}
 use Rattle.rdf.specs.Control.{controlOf}
-use Rattle.rdf.proofs.Rdfs.{rdfs-cons}
+use Rattle.rdf.proofs.Rdfs.{rdfs-before}
 use Rattle.rdf.proofs.Controls.{told}
-use Rattle.rdf.proofs.pair_at.Statement.{statement}
-use Rattle.rdf.proofs.pair_at.Tie as tie
+use Rattle.rdf.proofs.pair_before.Statement.{statement}
+use Rattle.rdf.proofs.pair_before.Tie as tie
 
 -- The states that the proof looks back to, by their names.
 abbrev start-from-match-keys1 : tie.At-match-keys1 → tie.Start
@@ -30,12 +30,6 @@ returns c = (rw (c .if1 .taken), tt)
 sub-at : tie.Need-sub-at
 sub-at c = search needs
 
-mul-at : tie.Need-mul-at
-mul-at c = search needs
-
-add-at : tie.Need-add-at
-add-at c = search needs
-
 shared-slice-read-take-apart : tie.Need-shared-slice-read-take-apart
 shared-slice-read-take-apart c = search needs
 
@@ -48,8 +42,8 @@ enum-told c = search needs
 returns-2 : tie.Need-returns-2
 returns-2 c =
     let a = c .before .before .before .before .before .args in
-    let x : ℕ = getD (a .b .now) (a .p + 3 * (a .n - 1)) 0 in
-    (rw (rdfs-cons (a .b .now) (a .p) (a .n) (omega arith), ne-eqb x 8 (λ h. not-count x h (c .before .take-apart .ensures) (c .match .keys2))), tt)
+    let x : ℕ = getD (a .b .now) (a .q - 3) 0 in
+    (rw (rdfs-before (a .b .now) (a .q) (a .n) (omega arith) (omega arith), ne-eqb x 8 (λ h. not-count x h (c .before .take-apart .ensures) (c .match .keys2))), tt)
 
 add-read-two : tie.Need-add-read-two
 add-read-two c = search needs
@@ -60,9 +54,9 @@ read-two-requires c κs = search needs
 returns-3 : tie.Need-returns-3
 returns-3 c =
     let a = start-from-match-keys1 (c .before .before .before) .args in
-    let x : ℕ = getD (a .b .now) (a .p + 3 * (a .n - 1)) 0 in (
+    let x : ℕ = getD (a .b .now) (a .q - 3) 0 in (
       rw (
-        rdfs-cons (a .b .now) (a .p) (a .n) (omega arith),
+        rdfs-before (a .b .now) (a .q) (a .n) (omega arith) (omega arith),
         told x (c .before .before .before .before .take-apart .ensures) (c .before .before .enum-told .given .1),
         ← c .before .read-two .ensures .0,
         lt-leb _ _ (c .if2 .taken),
@@ -73,9 +67,9 @@ returns-3 c =
 returns-4 : tie.Need-returns-4
 returns-4 c =
     let a = start-from-match-keys1 (c .before .before .before) .args in
-    let x : ℕ = getD (a .b .now) (a .p + 3 * (a .n - 1)) 0 in (
+    let x : ℕ = getD (a .b .now) (a .q - 3) 0 in (
       rw (
-        rdfs-cons (a .b .now) (a .p) (a .n) (omega arith),
+        rdfs-before (a .b .now) (a .q) (a .n) (omega arith) (omega arith),
         told x (c .before .before .before .before .take-apart .ensures) (c .before .before .enum-told .given .1),
         ← c .before .read-two .ensures .0,
         le-leb _ _ (c .if2 .left),
@@ -83,14 +77,12 @@ returns-4 c =
       omega arith,
     )
 
-pub pair-at-spec : {M : Type 1} → statement M
-pair-at-spec =
+pub pair-before-spec : {M : Type 1} → statement M
+pair-before-spec =
     tie.close
     (tie.spec
     returns
     sub-at
-    mul-at
-    add-at
     shared-slice-read-take-apart
     take-apart-requires
     enum-told
