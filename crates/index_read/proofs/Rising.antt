@@ -205,5 +205,6 @@ module _ (buf ib : List ℕ) (f len at l : ℕ) (front : f ≤ len) (whole : len
             let e2 : at + m - at ≡ suc (m - 1) = omega arith in
             let d1 : drop f buf ≡ getD buf f 0 ∷ drop (suc f) buf = drop-cons buf f 0 (omega arith) in
             let d2 : drop at ib ≡ getD ib at 0 ∷ drop (suc at) ib = drop-cons ib at 0 (omega arith) in
-            let y : isLess (orderOf (getD buf f 0 ∷ take (m - 1) (drop (suc f) buf)) (getD ib at 0 ∷ take (m - 1) (drop (suc at) ib))) ≡ true = less-lt (getD buf f 0) (getD ib at 0) (take (m - 1) (drop (suc f) buf)) (take (m - 1) (drop (suc at) ib)) x in
+            let y : isLess (orderOf (getD buf f 0 ∷ take (m - 1) (drop (suc f) buf)) (getD ib at 0 ∷ take (m - 1) (drop (suc at) ib))) ≡ true =
+            less-lt (getD buf f 0) (getD ib at 0) (take (m - 1) (drop (suc f) buf)) (take (m - 1) (drop (suc at) ib)) x in
             above-less first no-first m e Less (sym (rw (e1, e2, d1, d2) (less-order _ y))) refl

@@ -204,8 +204,9 @@ module _ (w K n e : ℕ) (ib : List ℕ) (count : ℕ) (m₀ m : Marks) (buf : L
 
     sep-long : length sep ≡ f + l
     sep-long =
-        omega
-        (arith, length-append (take f (st .ref)) (part ib at l), length-take-le f (st .ref) (omega (arith, fits .front, st .long)), chars-length w ib r e len K f l at num fits (omega (arith, st .inside)))
+        let a = length-take-le f (st .ref) (omega (arith, fits .front, st .long)) in
+        let b = chars-length w ib r e len K f l at num fits (omega (arith, st .inside)) in
+        omega (arith, length-append (take f (st .ref)) (part ib at l), a, b)
 
     abbrev m' : Marks
     m' = record { seen = set (m .seen) num 1; used = m .used + 1; free = m .free }

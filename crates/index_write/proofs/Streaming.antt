@@ -198,7 +198,10 @@ module _ (ib : List ℕ) (c : Cursor) (count : ℕ) (buf₀ : List ℕ) (s : Sta
             done = g .done ++ (e ∷ []);
             split = g .split ∙ rw (split-next, new-ref) (sym (append-assoc (g .done) (e ∷ []) (spell sep (piecesAt (c .width) ib at (left - 1)))));
             ref = new-ref ∙ sym (before-append (take (c .len) buf₀) (g .done) (e ∷ []) ∙ unfold separatorBefore in refl);
-            sized = omega (arith, g .sized, run-size, size-append w (take (c .len) buf₀) (g .done) (e ∷ []), one-size w (separatorBefore (take (c .len) buf₀) (g .done)) e, ap (λ (x : List ℕ). entrySize w x sep) (g .ref));
+            sized =
+                let a = size-append w (take (c .len) buf₀) (g .done) (e ∷ []) in
+                let b = one-size w (separatorBefore (take (c .len) buf₀) (g .done)) e in
+                omega (arith, g .sized, run-size, a, b, ap (λ (x : List ℕ). entrySize w x sep) (g .ref));
             many = omega (arith, length-append (g .done) (e ∷ []), g .many);
             place = omega (arith, g .place, size-next, known .room);
             lie = rw new-ref (rw place-is at (known .others));

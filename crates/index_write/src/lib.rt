@@ -6,14 +6,12 @@ ghost use mathlib.Core.List.{[]};
 ghost use lib.ListN.{length, getD, take};
 ghost use Rattle.fields.specs.Bytes.{splice};
 ghost use Rattle.fields.specs.Order.{common};
-ghost use Rattle.index.specs.Bounds.{cutSeparator};
-ghost use Rattle.index.specs.Layout.{pieceBytes};
 ghost use Rattle.measures.specs.Judgement.{widthFor};
 ghost use Rattle.index.specs.Reading.{freeCount, numbersAt};
-ghost use Rattle.index.specs.Form.{entrySize, entryBytes, entriesSize, entriesBytes, indexSize, indexBytes};
-ghost use Rattle.index.specs.Divided.{newMeaning};
+ghost use Rattle.index.specs.Form.{entrySize, entryBytes, entriesSize, indexSize, indexBytes};
 ghost use Rattle.index_step.specs.AidStep.{joinedOf};
-ghost use Rattle.index_write.specs.AidStream.{cutsIn, CutsLie, Stands, runHere, partsHere, Passed, Stored, RoomFor, FreeLie, Divisible};
+ghost use Rattle.index_write.specs.AidStream.{CutAt, pieceStored, cutsIn, CutsLie, Stands, runHere, partsIn, Passed, Stored, RoomFor, FreeLie, PartsPassed};
+ghost use Rattle.index_write.specs.AidStream.{PartsStored, Divisible, newRecord, newEntries, EntriesFit, entriesStored};
 use index_step::BUFFER;
 use index_step::Step;
 
@@ -38,7 +36,7 @@ pub struct Cuts {
 // How many first bytes of the left key make the separator of a cut between two keys: all up to the first one in which they
 // differ, and that one.
 pub fn cut_length(left: &[u8], right: &[u8]) -> usize
-    ensures { λ r. ⌜ (r ≡ length (cutSeparator (now (left .entry)) (now (right .entry)))) × (take r (now (left .entry)) ≡ cutSeparator (now (left .entry)) (now (right .entry))) × (r ≤ length (now (left .entry))) ⌝ }
+    ensures { λ r. ⌜ CutAt (now (left .entry)) (now (right .entry)) r ⌝ }
 {
     let f = fields::common_front(left, right);
     if f < left.len() { f + 1 } else { f }
@@ -79,7 +77,7 @@ fn entry_size(prev: &[u8], sep: &[u8], width: usize) -> usize
 // Stores an entry with this F and these characters so that it ends at place r.
 fn put_piece(b: &mut [u8], r: usize, front: usize, chars: &[u8], number: usize, width: usize)
     requires { ⌜ (width ≤ 4) × (width + 2 + length (now chars) ≤ r) × (r ≤ length (now b)) × (front < 256) × (length (now chars) < 256) ⌝ }
-    ensures { λ _. ⌜ now (b .exit) ≡ splice (now (b .entry)) (r - (width + 2 + length (now (chars .entry)))) (pieceBytes width (record { front = front; chars = now (chars .entry); num = number })) ⌝ }
+    ensures { λ _. ⌜ now (b .exit) ≡ pieceStored width (now (b .entry)) r front (now (chars .entry)) number ⌝ }
 {
     let l = chars.len();
     let at = r - (width + 2 + l);
@@ -134,7 +132,7 @@ fn size_run(ib: &[u8], c: Cursor, count: usize, buf: &mut [u8]) -> Cursor
 // Past one old entry that becomes two parts, or three. The old separator comes last, and its F is counted anew.
 fn size_parts(ib: &[u8], c: Cursor, bytes: &[u8], cuts: Cuts, buf: &mut [u8]) -> Cursor
     requires { ⌜ Stands (now ib) c 1 (now buf) × CutsLie cuts (now bytes) ⌝ }
-    ensures { λ r. ⌜ Passed (now (ib .entry)) c 1 (partsHere (now (ib .entry)) c (cutsIn cuts (now (bytes .entry))) (now (buf .entry))) (now (buf .entry)) r (now (buf .exit)) ⌝ }
+    ensures { λ r. ⌜ PartsPassed (now (ib .entry)) c cuts (now (bytes .entry)) (now (buf .entry)) r (now (buf .exit)) ⌝ }
 {
     let w = c.width;
     let len = c.len;
@@ -183,7 +181,7 @@ fn start(ib: &[u8], w: usize) -> Cursor
 // How many bytes header, free numbers and entries take once entry i of a sound record of n intervals is divided.
 pub fn size_divided(ib: &[u8], n: usize, i: usize, bytes: &[u8], cuts: Cuts) -> usize
     requires { ⌜ Divisible n i (cutsIn cuts (now bytes)) (now ib) × CutsLie cuts (now bytes) ⌝ }
-    ensures { λ r. ⌜ r ≡ indexSize (widthFor n) (newMeaning (widthFor n) n (now (ib .entry)) i (cutsIn cuts (now (bytes .entry)))) ⌝ }
+    ensures { λ r. ⌜ r ≡ indexSize (widthFor n) (newRecord n (now (ib .entry)) i cuts (now (bytes .entry))) ⌝ }
 {
     let w = measures::width_for(n);
     let free = index_step::free_count(ib, w);
@@ -238,10 +236,10 @@ fn write_parts(
     cuts: Cuts,
     buf: &mut [u8],
 ) -> Cursor
-    requires stands { ⌜ Stands (now ib) c 1 (now buf) × CutsLie cuts (now bytes) × RoomFor c (partsHere (now ib) c (cutsIn cuts (now bytes)) (now buf)) (now buf) (now b) ⌝ }
+    requires stands { ⌜ Stands (now ib) c 1 (now buf) × CutsLie cuts (now bytes) × RoomFor c (partsIn (now ib) c cuts (now bytes) (now buf)) (now buf) (now b) ⌝ }
     requires free { ⌜ (1 ≤ c .width) × FreeLie (c .width) (now ib) × (length (cutsIn cuts (now bytes)) ≤ freeCount (c .width) (now ib)) ⌝ }
-    ensures passed { λ r. ⌜ Passed (now (ib .entry)) c 1 (partsHere (now (ib .entry)) c (cutsIn cuts (now (bytes .entry))) (now (buf .entry))) (now (buf .entry)) r (now (buf .exit)) ⌝ }
-    ensures stored { λ r. ⌜ Stored c (partsHere (now (ib .entry)) c (cutsIn cuts (now (bytes .entry))) (now (buf .entry))) (now (buf .entry)) (now (b .entry)) r (now (b .exit)) ⌝ }
+    ensures passed { λ r. ⌜ PartsPassed (now (ib .entry)) c cuts (now (bytes .entry)) (now (buf .entry)) r (now (buf .exit)) ⌝ }
+    ensures stored { λ r. ⌜ PartsStored (now (ib .entry)) c cuts (now (bytes .entry)) (now (buf .entry)) (now (b .entry)) r (now (b .exit)) ⌝ }
 {
     let w = c.width;
     let edge = b.len() - 7;
@@ -279,9 +277,9 @@ fn write_parts(
 
 // Stores all entries as they are once entry i is divided, and gives how many bytes they take.
 fn write_entries(b: &mut [u8], ib: &[u8], n: usize, i: usize, bytes: &[u8], cuts: Cuts) -> usize
-    requires { ⌜ Divisible n i (cutsIn cuts (now bytes)) (now ib) × CutsLie cuts (now bytes) × (entriesSize (widthFor n) [] (newMeaning (widthFor n) n (now ib) i (cutsIn cuts (now bytes)) .entries) + 7 ≤ length (now b)) ⌝ }
-    ensures size { λ r. ⌜ r ≡ entriesSize (widthFor n) [] (newMeaning (widthFor n) n (now (ib .entry)) i (cutsIn cuts (now (bytes .entry))) .entries) ⌝ }
-    ensures bytes { λ r. ⌜ now (b .exit) ≡ splice (now (b .entry)) (length (now (b .entry)) - 7 - r) (entriesBytes (widthFor n) [] (newMeaning (widthFor n) n (now (ib .entry)) i (cutsIn cuts (now (bytes .entry))) .entries)) ⌝ }
+    requires { ⌜ Divisible n i (cutsIn cuts (now bytes)) (now ib) × CutsLie cuts (now bytes) × EntriesFit n (now ib) i cuts (now bytes) (now b) ⌝ }
+    ensures size { λ r. ⌜ r ≡ entriesSize (widthFor n) [] (newEntries n (now (ib .entry)) i cuts (now (bytes .entry))) ⌝ }
+    ensures bytes { λ r. ⌜ now (b .exit) ≡ entriesStored n (now (ib .entry)) i cuts (now (bytes .entry)) (now (b .entry)) r ⌝ }
 {
     let w = measures::width_for(n);
     let free = index_step::free_count(ib, w);
@@ -296,8 +294,8 @@ fn write_entries(b: &mut [u8], ib: &[u8], n: usize, i: usize, bytes: &[u8], cuts
 // entries are made from a copy, and all between them and the free numbers becomes zero.
 pub fn divide(ib: &mut [u8], n: usize, i: usize, bytes: &[u8], cuts: Cuts)
     requires { ⌜ Divisible n i (cutsIn cuts (now bytes)) (now ib) × CutsLie cuts (now bytes) ⌝ }
-    requires room { ⌜ indexSize (widthFor n) (newMeaning (widthFor n) n (now ib) i (cutsIn cuts (now bytes))) ≤ length (now ib) - 7 ⌝ }
-    ensures { λ _. ⌜ now (ib .exit) ≡ indexBytes (widthFor n) (length (now (ib .entry))) (newMeaning (widthFor n) n (now (ib .entry)) i (cutsIn cuts (now (bytes .entry)))) ⌝ }
+    requires room { ⌜ indexSize (widthFor n) (newRecord n (now ib) i cuts (now bytes)) ≤ length (now ib) - 7 ⌝ }
+    ensures { λ _. ⌜ now (ib .exit) ≡ indexBytes (widthFor n) (length (now (ib .entry))) (newRecord n (now (ib .entry)) i cuts (now (bytes .entry))) ⌝ }
 {
     let size = ib.len();
     let w = measures::width_for(n);

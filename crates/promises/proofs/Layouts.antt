@@ -64,7 +64,8 @@ module _ (S K n : ℕ) (ix : Meaning) (rules : keepsRules S K n [] [] ix ≡ tru
   index-never-damaged ib l = never.index-never-damaged (widthFor n) S K n [] [] ix ib (width-some n) (width-holds n few) small l rules
 
 -- An index record that is taken for sound keeps the rules, with the meaning that is read.
-pub index-only-laid-out : (K n : ℕ) (ib : List ℕ) → Octets ib → 31 ≤ length ib → soundIndex (widthFor n) K n [] [] ib ≡ true → index-layout.LaidOut (widthFor n) (length ib) (readIndex (widthFor n) n ib) ib
+pub index-only-laid-out : (K n : ℕ) (ib : List ℕ) → Octets ib → 31 ≤ length ib → soundIndex (widthFor n) K n [] [] ib ≡ true
+    → index-layout.LaidOut (widthFor n) (length ib) (readIndex (widthFor n) n ib) ib
 index-only-laid-out K n ib o g s = only.index-only-laid-out (widthFor n) K n [] [] ib o g s
 
 -- ---- a whole area

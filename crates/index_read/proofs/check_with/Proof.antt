@@ -43,7 +43,8 @@ bases : (c : tie.After-known-told)
 bases c = sym (not-false _ (c .before .before .before .before .if2 .left)) ∙ c .before .before .before .before .before .base-fine .ensures
 
 places : (c : tie.After-known-told)
-    → placesOf (start-from-placed (c .before .before .before) .args .w) (start-from-placed (c .before .before .before) .args .n) (now (start-from-placed (c .before .before .before) .args .ib)) ≡ At (c .before .free .given .0 .0)
+    → placesOf (start-from-placed (c .before .before .before) .args .w) (start-from-placed (c .before .before .before) .args .n)
+    (now (start-from-placed (c .before .before .before) .args .ib)) ≡ At (c .before .free .given .0 .0)
     (c .before .free .given .0 .1 .0)
 places c = sym (c .before .before .before .placed .ensures) ∙ c .before .free .given .1
 

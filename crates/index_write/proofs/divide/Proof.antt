@@ -33,8 +33,11 @@ entries-from-fill k = k .before .before .before .before
 abbrev fill-from-two : tie.After-write-two → tie.After-fill
 fill-from-two k = k .before .before .before .before
 
+abbrev second-from-third : tie.After-write-two3 → tie.After-write-two2
+second-from-third k = k .before .before .before .before
+
 abbrev two-from-third : tie.After-write-two3 → tie.After-write-two
-two-from-third k = k .before .before .before .before .before .before .before .before
+two-from-third k = second-from-third k .before .before .before .before
 
 -- ---- what is known at them
 

@@ -29,8 +29,11 @@ start-from-loop k = k .before .before .before .before
 abbrev entry-from-longest : tie.After-longest Inv-loop μ-loop → tie.After-entry-at Inv-loop μ-loop
 entry-from-longest k = k .before .before
 
+abbrev extend-from-part : tie.After-put-piece-arg Inv-loop μ-loop → tie.After-extend Inv-loop μ-loop
+extend-from-part k = k .before .before .before .before .before .before
+
 abbrev longest-from-part : tie.After-put-piece-arg Inv-loop μ-loop → tie.After-longest Inv-loop μ-loop
-longest-from-part k = k .before .before .before .before .before .before .before .before
+longest-from-part k = extend-from-part k .before .before
 
 abbrev part-from-turn : tie.After-struct-known4 Inv-loop μ-loop → tie.After-put-piece-arg Inv-loop μ-loop
 part-from-turn k = k .before .before .before .before .before
