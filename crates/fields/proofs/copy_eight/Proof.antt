@@ -7,6 +7,10 @@ use Rattle.fields.proofs.Splices.{eight-stored, eight-part}
 use Rattle.fields.proofs.copy_eight.Statement.{statement}
 use Rattle.fields.proofs.copy_eight.Tie as tie
 
+-- The state that the proof looks back to.
+abbrev start-from-fourth : tie.After-shared-slice-known4 → tie.Start
+start-from-fourth k = k .before .before .before .before
+
 shared-slice-read-b : tie.Need-shared-slice-read-b
 shared-slice-read-b c = search needs
 
@@ -83,7 +87,7 @@ add-b-12 : tie.Need-add-b-12
 add-b-12 c = search needs
 
 slice-write-b-7 : tie.Need-slice-write-b-7
-slice-write-b-7 c = simp (length-set, length-set, length-set, length-set, length-set, length-set) (omega (arith, c .before .before .before .before .before .before .before .pre .0))
+slice-write-b-7 c = simp (length-set, length-set, length-set, length-set, length-set, length-set) (omega (arith, start-from-fourth (c .before .before .before) .pre .0))
 
 add-b-13 : tie.Need-add-b-13
 add-b-13 c = search needs
@@ -95,14 +99,14 @@ add-b-14 : tie.Need-add-b-14
 add-b-14 c = search needs
 
 slice-write-b-8 : tie.Need-slice-write-b-8
-slice-write-b-8 c = simp (length-set, length-set, length-set, length-set, length-set, length-set, length-set) (omega (arith, c .before .before .before .before .before .before .before .before .pre .0))
+slice-write-b-8 c = simp (length-set, length-set, length-set, length-set, length-set, length-set, length-set) (omega (arith, start-from-fourth (c .before .before .before .before) .pre .0))
 
 same-length : tie.Need-same-length
 same-length c = simp (length-set, length-set, length-set, length-set, length-set, length-set, length-set, length-set)
 
 returns : tie.Need-returns
 returns c =
-    let q = c .before .before .before .before .before .before .before .before in
+    let q = start-from-fourth (c .before .before .before .before) in
     let a = q .args in
     let x = a .new .now in
     let p = a .place in

@@ -29,11 +29,14 @@ start-from-loop k = k .before .before .before .before
 abbrev entry-from-longest : tie.After-longest Inv-loop μ-loop → tie.After-entry-at Inv-loop μ-loop
 entry-from-longest k = k .before .before
 
+abbrev longest-from-extend : tie.After-extend Inv-loop μ-loop → tie.After-longest Inv-loop μ-loop
+longest-from-extend k = k .before .before
+
 abbrev extend-from-part : tie.After-put-piece-arg Inv-loop μ-loop → tie.After-extend Inv-loop μ-loop
 extend-from-part k = k .before .before .before .before .before .before
 
 abbrev longest-from-part : tie.After-put-piece-arg Inv-loop μ-loop → tie.After-longest Inv-loop μ-loop
-longest-from-part k = extend-from-part k .before .before
+longest-from-part k = longest-from-extend (extend-from-part k)
 
 abbrev part-from-turn : tie.After-struct-known4 Inv-loop μ-loop → tie.After-put-piece-arg Inv-loop μ-loop
 part-from-turn k = k .before .before .before .before .before
@@ -103,7 +106,7 @@ add-from c =
     omega (arith, lies e .2, m .longest .ensures .1 .1, start-from-loop (e .before .before) .good .1 .0 .0)
 
 add-to : tie.Need-add-to Inv-loop μ-loop
-add-to c = search (needs, lies (entry-from-longest (c .before .before .before .before .before .before .before)) .2)
+add-to c = search (needs, lies (entry-from-longest (longest-from-extend (c .before .before .before .before .before))) .2)
 
 sub-put-piece : tie.Need-sub-put-piece Inv-loop μ-loop
 sub-put-piece c = fits (loop-from-part c)
