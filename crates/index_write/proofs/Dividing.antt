@@ -262,7 +262,7 @@ module _ (n i : ℕ) (u : Cuts) (bytes ib : List ℕ) (given : Divisible n i (cu
       pub first-stands : 263 ≤ length buf → Stands ib a i buf
       first-stands h =
           rw a-is
-          (record { wide = width-most n; whole = h; long = omega arith; lie = first-readable; small = omega (arith, there, given .few) })
+          (record { few-bytes = width-most n; whole = h; long = omega arith; lie = first-readable; small = omega (arith, there, given .few) })
 
       pub first-writes : 263 ≤ length buf → (b : List ℕ) → Roomy b → Stands ib a i buf × RoomFor a (runHere ib a i buf) buf b
       first-writes h b room = (first-stands h, rw a-is (omega (arith, room, new-size)))
@@ -284,7 +284,7 @@ module _ (n i : ℕ) (u : Cuts) (bytes ib : List ℕ) (given : Divisible n i (cu
         pub second-stands : 263 ≤ length buf1 → Stands ib c 1 buf1
         second-stands h =
             record {
-              wide = rw (from .width) (width-most n);
+              few-bytes = rw (from .width) (width-most n);
               whole = h;
               long = from .long;
               lie = rw (from .width, from .ref, right1) one-readable;
@@ -323,7 +323,7 @@ module _ (n i : ℕ) (u : Cuts) (bytes ib : List ℕ) (given : Divisible n i (cu
             pub third-stands : 263 ≤ length buf2 → Stands ib d (n - free - (i + 1)) buf2
             third-stands h =
                 record {
-                  wide = rw width2 (width-most n);
+                  few-bytes = rw width2 (width-most n);
                   whole = h;
                   long = passed2 .long;
                   lie = rw (free-is, width2, ref2, right2) (divided .others);

@@ -38,7 +38,7 @@ module _ (ib : List ℕ) (c : Cursor) (buf : List ℕ) (stands : Stands ib c 1 b
   known = next (c .width) ib (c .right) 0 (take (c .len) buf) (stands .lie)
 
   pub one-lies : Lies (c .width) ib (c .right)
-  one-lies = (stands .wide, omega (arith, stands .lie .inside), known .room)
+  one-lies = (stands .few-bytes, omega (arith, stands .lie .inside), known .room)
 
   module _ (s : Step) (s-is : s ≡ stepAt (c .width) ib (c .right)) where
     pub one-front : s .front ≤ c .len

@@ -138,7 +138,7 @@ module _ (ib : List ℕ) (c : Cursor) (count : ℕ) (buf₀ : List ℕ) (s : Sta
 
     -- for the calls
     pub run-lies : (c .width ≤ 4) × (right ≤ length ib) × (c .width + 2 + lengthAt (c .width) ib right ≤ right)
-    run-lies = (s .wide, omega (arith, g .lie .inside), known .room)
+    run-lies = (s .few-bytes, omega (arith, g .lie .inside), known .room)
 
     pub run-front : frontAt (c .width) ib right ≤ len
     run-front = omega (arith, known .front, ref-long)
@@ -207,7 +207,7 @@ module _ (ib : List ℕ) (c : Cursor) (count : ℕ) (buf₀ : List ℕ) (s : Sta
             lie = rw new-ref (rw place-is at (known .others));
             long = run-few;
             same = extended-length ib buf new F L at (run-reaches .0) (run-reaches .1) is ∙ g .same;
-            small = omega (arith, g .small, length-append (g .done) (e ∷ []), s .wide, run-few);
+            small = omega (arith, g .small, length-append (g .done) (e ∷ []), s .few-bytes, run-few);
           }
 
     -- the same in the words of the step that was taken

@@ -48,7 +48,7 @@ pub record CutsLie (c : Cuts) (bytes : List ℕ) : Type 0 where
 -- Before `count` entries of the old record that can be read, the separator before them at the buffer's front; and neither these nor two more
 -- overflow the size.
 pub record Stands (ib : List ℕ) (c : Cursor) (count : ℕ) (buf : List ℕ) : Type 0 where
-  pub wide : c .width ≤ 4
+  pub few-bytes : c .width ≤ 4
   pub whole : 263 ≤ length buf
   pub long : c .len ≤ 255
   pub lie : EntriesLie (c .width) ib (c .right) count (take (c .len) buf)

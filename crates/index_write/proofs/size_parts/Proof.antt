@@ -46,10 +46,10 @@ long c =
 room : (c : tie.After-extend) → start-from-first (first-from-extend c) .args .c .size + c .before .before .entry-size .result + 522 < 18446744073709551616
 room c =
     let p = start-from-first (first-from-extend c) .pre .0 in
-    omega (arith, p .small, p .wide, c .before .before .entry-size .ensures .1)
+    omega (arith, p .small, p .few-bytes, c .before .before .entry-size .ensures .1)
 
-wide : (c : tie.After-extend) → start-from-first (first-from-extend c) .args .c .width ≤ 4
-wide c = start-from-first (first-from-extend c) .pre .0 .wide
+few-bytes : (c : tie.After-extend) → start-from-first (first-from-extend c) .args .c .width ≤ 4
+few-bytes c = start-from-first (first-from-extend c) .pre .0 .few-bytes
 
 sub-first : tie.Need-sub-first
 sub-first c = search needs
@@ -99,7 +99,7 @@ entry-size-requires-2 c κs =
     let x = extend-from-known (c .before .before) in
     let e = x .before .before .before .before in
     let b = start-from-first (e .before) in
-    (b .pre .0 .wide, omega (arith, few e, length-take-le (e .entry-at .result .front + e .entry-at .result .len) (x .extend .last .0) (long x)))
+    (b .pre .0 .few-bytes, omega (arith, few e, length-take-le (e .entry-at .result .front + e .entry-at .result .len) (x .extend .last .0) (long x)))
 
 add-t31 : tie.Need-add-t31
 add-t31 c = omega (arith, room (extend-from-known (known-from-two (c .before))))
@@ -107,7 +107,7 @@ add-t31 c = omega (arith, room (extend-from-known (known-from-two (c .before))))
 add-t32 : tie.Need-add-t32
 add-t32 c =
     let x = extend-from-known (known-from-two (c .before)) in
-    omega (arith, room x, wide x, c .before .entry-size2 .ensures .1)
+    omega (arith, room x, few-bytes x, c .before .entry-size2 .ensures .1)
 
 same-length : tie.Need-same-length
 same-length c = search needs
@@ -152,7 +152,7 @@ entry-size-requires-4 c κs =
     let x = extend-from-known (c .before .before .before .before) in
     let e = x .before .before .before .before in
     let b = start-from-first (e .before) in
-    (b .pre .0 .wide, omega (arith, few e, length-take-le (e .entry-at .result .front + e .entry-at .result .len) (x .extend .last .0) (long x)))
+    (b .pre .0 .few-bytes, omega (arith, few e, length-take-le (e .entry-at .result .front + e .entry-at .result .len) (x .extend .last .0) (long x)))
 
 add-t21 : tie.Need-add-t21
 add-t21 c = omega (arith, room (extend-from-known (known-from-four (c .before))))
@@ -160,12 +160,12 @@ add-t21 c = omega (arith, room (extend-from-known (known-from-four (c .before)))
 add-t37 : tie.Need-add-t37
 add-t37 c =
     let x = extend-from-known (known-from-four (c .before)) in
-    omega (arith, room x, wide x, c .before .before .before .entry-size3 .ensures .1)
+    omega (arith, room x, few-bytes x, c .before .before .before .entry-size3 .ensures .1)
 
 add-t38 : tie.Need-add-t38
 add-t38 c =
     let x = extend-from-known (known-from-four (c .before)) in
-    omega (arith, room x, wide x, c .before .before .before .entry-size3 .ensures .1, c .before .entry-size4 .ensures .1)
+    omega (arith, room x, few-bytes x, c .before .before .before .entry-size3 .ensures .1, c .before .entry-size4 .ensures .1)
 
 same-length-2 : tie.Need-same-length-2
 same-length-2 c = search needs

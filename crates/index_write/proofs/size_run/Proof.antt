@@ -65,7 +65,7 @@ add-len c =
     omega (arith, e .ensures .1 .0, e .ensures .1 .1)
 
 add-size : tie.Need-add-size Inv-loop μ-loop
-add-size c = omega (arith, start-of (in-loop-of c) .pre .wide)
+add-size c = omega (arith, start-of (in-loop-of c) .pre .few-bytes)
 
 sub-size : tie.Need-sub-size Inv-loop μ-loop
 sub-size c = measured c .longest .ensures .1 .1
@@ -73,14 +73,14 @@ sub-size c = measured c .longest .ensures .1 .1
 add-size-2 : tie.Need-add-size-2 Inv-loop μ-loop
 add-size-2 c =
     let e = entered c .entry-at in
-    omega (arith, start-of (in-loop-of c) .pre .wide, e .ensures .1 .0, e .ensures .1 .1)
+    omega (arith, start-of (in-loop-of c) .pre .few-bytes, e .ensures .1 .0, e .ensures .1 .1)
 
 add-size-3 : tie.Need-add-size-3 Inv-loop μ-loop
 add-size-3 c =
     let q = start-of (in-loop-of c) .pre in
     let o = in-loop-of c .before .loop in
     let e = entered c .entry-at in
-    omega (arith, q .wide, e .ensures .1 .0, e .ensures .1 .1, o .inv .small, o .inv .many, q .small)
+    omega (arith, q .few-bytes, e .ensures .1 .0, e .ensures .1 .1, o .inv .small, o .inv .many, q .small)
 
 sub-left : tie.Need-sub-left Inv-loop μ-loop
 sub-left c = search needs

@@ -123,7 +123,7 @@ put-entry-requires c κs =
     let a = start-from-entry (c .before .before .before) .args in
     let p = start-from-entry (c .before .before .before) .pre .0 in
     let h = first-fits (now (a .ib)) (a .c) (a .cuts) (now (a .bytes)) (now (a .buf)) (now (a .b)) (p .0) (p .1) (p .2) in
-    (p .0 .wide, omega (arith, h), omega arith, first-short (now (a .ib)) (a .c) (a .cuts) (now (a .bytes)) (now (a .buf)) (now (a .b)) (p .0) (p .1) (p .2))
+    (p .0 .few-bytes, omega (arith, h), omega arith, first-short (now (a .ib)) (a .c) (a .cuts) (now (a .bytes)) (now (a .buf)) (now (a .b)) (p .0) (p .1) (p .2))
 
 add-one : tie.Need-add-one
 add-one c =
@@ -143,7 +143,7 @@ taken-requires : tie.Need-taken-requires
 taken-requires c κs =
     let s = start-from-entry (entry-from-put (put-from-extend (c .before .before .before))) in
     let p = s .pre in
-    (p .1 .0, p .0 .0 .wide, omega (arith, cuts-some (s .args .cuts) (now (s .args .bytes)), p .1 .2), p .1 .1)
+    (p .1 .0, p .0 .0 .few-bytes, omega (arith, cuts-some (s .args .cuts) (now (s .args .bytes)), p .1 .2), p .1 .1)
 
 -- ---- two parts
 
@@ -160,7 +160,7 @@ put-entry-requires-2 : tie.Need-put-entry-requires-2
 put-entry-requires-2 c κs =
     let then = c .before .before in
     let k = then .before .before in (
-      begun k .stands .wide,
+      begun k .stands .few-bytes,
       omega (arith, two-fits (begun k) (not-true _ (then .if1 .taken))),
       omega (arith, put-from-taken k .put-entry .kept .0),
       new-short (begun k),
@@ -204,7 +204,7 @@ put-entry-requires-3 c κs =
     let k = else .before .before in
     let a = start-from-taken k .args in
     let p = start-from-taken k .pre .0 in (
-      p .0 .wide,
+      p .0 .few-bytes,
       omega (arith, second-fits (begun k) (not-false _ (else .if1 .left))),
       omega (arith, put-from-taken k .put-entry .kept .0),
       second-short (now (a .ib)) (a .c) (a .cuts) (now (a .bytes)) (now (a .buf)) (now (a .b)) (p .0) (p .1) (p .2),
@@ -221,7 +221,7 @@ taken-requires-2 c κs =
     let else = else-from-put (c .before .before) in
     let s = start-from-taken (else .before .before) in
     let p = s .pre in
-    (p .1 .0, p .0 .0 .wide, omega (arith, cuts-two (s .args .cuts) (now (s .args .bytes)) (not-false _ (else .if1 .left)), p .1 .2), p .1 .1)
+    (p .1 .0, p .0 .0 .few-bytes, omega (arith, cuts-two (s .args .cuts) (now (s .args .bytes)) (not-false _ (else .if1 .left)), p .1 .2), p .1 .1)
 
 sub-put-entry-4 : tie.Need-sub-put-entry-4
 sub-put-entry-4 c = omega (arith, fits-last (c .before .before .before .before))
@@ -236,7 +236,7 @@ put-entry-requires-4 : tie.Need-put-entry-requires-4
 put-entry-requires-4 c κs =
     let q = c .before .before .before .before .before in
     let k = taken-from-put q in (
-      begun k .stands .wide,
+      begun k .stands .few-bytes,
       omega (arith, fits-last q),
       omega (arith, q .put-entry3 .kept .0, put-from-taken k .put-entry .kept .0),
       new-short (begun k),

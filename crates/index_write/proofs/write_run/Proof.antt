@@ -128,13 +128,13 @@ put-piece-requires c κs =
     let l = e .before .before .loop in
     let n = step-chars (p .0) (p .1) (l .inv .0) (l .inv .1) (e .before .loop-test .taken) (e .entry-at .ensures .0) (m .longest .ensures .0) (m .longest .ensures .1 .0) (m .longest .ensures .1 .1) in
     let r = step-room (p .0) (p .1) (l .inv .0) (l .inv .1) (e .before .loop-test .taken) (e .entry-at .ensures .0) (m .longest .ensures .0) (m .longest .ensures .1 .0) (m .longest .ensures .1 .1) in
-    (p .0 .wide, r, omega (arith, same (e .before .before)), omega (arith, lies e .1, m .longest .ensures .1 .1), omega (arith, n, lies e .1))
+    (p .0 .few-bytes, r, omega (arith, same (e .before .before)), omega (arith, lies e .1, m .longest .ensures .1 .1), omega (arith, n, lies e .1))
 
 add-len : tie.Need-add-len Inv-loop μ-loop
 add-len c = search (needs, lies (entry-from-longest (longest-from-part (part-from-turn c))) .1)
 
 add-size : tie.Need-add-size Inv-loop μ-loop
-add-size c = search (needs, start-from-loop (loop-from-part (part-from-turn c)) .pre .0 .wide)
+add-size c = search (needs, start-from-loop (loop-from-part (part-from-turn c)) .pre .0 .few-bytes)
 
 sub-size : tie.Need-sub-size Inv-loop μ-loop
 sub-size c = longest-from-part (part-from-turn c) .longest .ensures .1 .1
@@ -142,7 +142,7 @@ sub-size c = longest-from-part (part-from-turn c) .longest .ensures .1 .1
 add-size-2 : tie.Need-add-size-2 Inv-loop μ-loop
 add-size-2 c =
     let m = longest-from-part (part-from-turn c) in
-    search (needs, lies (entry-from-longest m) .1, start-from-loop (loop-from-part (part-from-turn c)) .pre .0 .wide)
+    search (needs, lies (entry-from-longest m) .1, start-from-loop (loop-from-part (part-from-turn c)) .pre .0 .few-bytes)
 
 add-size-3 : tie.Need-add-size-3 Inv-loop μ-loop
 add-size-3 c =
@@ -151,7 +151,7 @@ add-size-3 c =
     let g = l .loop .inv .0 in
     let s = start-from-loop l .pre .0 in
     let t = entry-from-longest m .before .loop-test .taken in
-    omega (arith, lies (entry-from-longest m) .1, g .small, g .many, s .wide, s .small, t)
+    omega (arith, lies (entry-from-longest m) .1, g .small, g .many, s .few-bytes, s .small, t)
 
 sub-left : tie.Need-sub-left Inv-loop μ-loop
 sub-left c = entry-from-longest (longest-from-part (part-from-turn c)) .before .loop-test .taken
