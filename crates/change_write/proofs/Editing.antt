@@ -13,6 +13,7 @@ use Rattle.interval.proofs.Lengths.{within-high}
 use Rattle.index.specs.Meaning.{Entry}
 use Rattle.interval_edit.specs.AidChanged.{Goes, Changed}
 use Rattle.interval_edit.specs.declared.Extent.{Extent}
+use Rattle.interval_edit.specs.declared.Site.{Site}
 use Rattle.interval_edit.proofs.Copies.{changed-flat}
 use Rattle.area.specs.Content.{Filled, Content, dataIn, fill, entriesOf}
 use Rattle.area.specs.Reading.{readArea, whole}
@@ -20,8 +21,8 @@ use Rattle.area.proofs.Filled.{length-fill}
 use Rattle.area.proofs.Sounding.{sound-apart, sound-filled, same-content}
 use Rattle.area.proofs.Places.{lent-data}
 use Rattle.area_find.proofs.Readables.{readable}
-use Rattle.change.specs.Parts.{Edit, entryAt, edited}
-use Rattle.change_write.specs.AidAsked.{Ready, Edits}
+use Rattle.change.specs.Parts.{entryAt, edited}
+use Rattle.change_write.specs.AidAsked.{Ready, editAt, Edits}
 use Rattle.change_write.specs.AidCarried.{MadeOf, MadeEdit}
 use Rattle.change_write.specs.declared.Made.{Made}
 
@@ -53,58 +54,53 @@ module _ (bytes₀ lens₀ bytes lens : List ℕ) (rs : List (List ℕ)) (f : Ex
 
 -- ---- the edit
 
-module _ (m : Measures) (n : ℕ) (area : List ℕ) (entry number ordinal start gone span : ℕ) (fresh : List (List ℕ))
-    (d : Edits m n area entry number ordinal start gone span fresh) where
-  abbrev edit : Edit
-  edit = record { entry = entry; ordinal = ordinal; gone = gone; fresh = fresh }
-
+module _ (m : Measures) (n : ℕ) (area : List ℕ) (site : Site) (fresh : List (List ℕ)) (d : Edits m n area site fresh) where
   -- the entry's interval, as it is lent
   abbrev ci : List ℕ
-  ci = take ((number + 1) * m .size + m .size - (number + 1) * m .size) (drop ((number + 1) * m .size) area)
+  ci = take ((site .number + 1) * m .size + m .size - (site .number + 1) * m .size) (drop ((site .number + 1) * m .size) area)
 
-  is : ci ≡ dataIn m area number
-  is = lent-data m n area (d .entered .fits) number (d .entered .within)
+  is : ci ≡ dataIn m area (site .number)
+  is = lent-data m n area (d .entered .fits) (site .number) (d .entered .within)
 
-  holds : entryAt (d .entered .content .filled) entry .records ≡ recordsIn ci
+  holds : entryAt (d .entered .content .filled) (site .entry) .records ≡ recordsIn ci
   holds =
-      entry-holds m n area (d .entered .content) (d .entered .reads) entry (d .entered .there)
+      entry-holds m n area (d .entered .content) (d .entered .reads) (site .entry) (d .entered .there)
       ∙ ap (λ (k : ℕ). recordsIn (dataIn m area k)) (sym (d .entered .is))
       ∙ ap recordsIn (sym is)
 
   -- The entry's interval can be read,
   pub edit-readable : Readable m ci
-  edit-readable = rw is (readable m n area (d .entered .fits) (record { content = d .entered .content; reads = d .entered .reads }) number (d .entered .within))
+  edit-readable = rw is (readable m n area (d .entered .fits) (record { content = d .entered .content; reads = d .entered .reads }) (site .number) (d .entered .within))
 
   -- and the records that go lie there.
-  pub edit-goes : Goes (recordsIn ci) ordinal start gone span
+  pub edit-goes : Goes (recordsIn ci) (site .ordinal) (site .start) (site .gone) (site .span)
   edit-goes = rw (← holds) (record { starts = d .starts; inside = d .fitting .proper .inside; takes = d .takes })
 
-  module _ (bytes₀ lens₀ bytes lens : List ℕ) (f : Extent) (c : Changed bytes₀ lens₀ bytes lens (swap ordinal gone fresh (recordsIn ci)) f) where
-    flat : Flat (take (f .bytes) bytes) (take (f .count) lens) (edited (d .entered .content .filled) edit)
-    flat = rw holds (changed-flat bytes₀ lens₀ bytes lens (swap ordinal gone fresh (recordsIn ci)) f c)
+  module _ (bytes₀ lens₀ bytes lens : List ℕ) (f : Extent) (c : Changed bytes₀ lens₀ bytes lens (swap (site .ordinal) (site .gone) fresh (recordsIn ci)) f) where
+    flat : Flat (take (f .bytes) bytes) (take (f .count) lens) (edited (d .entered .content .filled) (editAt site fresh))
+    flat = rw holds (changed-flat bytes₀ lens₀ bytes lens (swap (site .ordinal) (site .gone) fresh (recordsIn ci)) f c)
 
     -- With the change made they are ready to be spread,
-    pub edit-ready : Ready m n area entry number ordinal (take (f .bytes) bytes) (take (f .count) lens)
+    pub edit-ready : Ready m n area (site .entry) (site .number) (site .ordinal) (take (f .bytes) bytes) (take (f .count) lens)
     edit-ready =
         record {
           entered = d .entered;
-          edit = edit;
+          edit = editAt site fresh;
           fitting = d .fitting;
           entry-is = refl;
           at-is = refl;
           flat = flat;
-          few = omega (arith, counted-lens bytes₀ lens₀ bytes lens (swap ordinal gone fresh (recordsIn ci)) f c, c .many-most);
+          few = omega (arith, counted-lens bytes₀ lens₀ bytes lens (swap (site .ordinal) (site .gone) fresh (recordsIn ci)) f c, c .many-most);
         }
 
     -- and spread they are the edit, carried out.
-    pub edit-made : (made : Made) (after : List ℕ) → MadeOf m n area entry ordinal (take (f .bytes) bytes) (take (f .count) lens) made after
-        → MadeEdit m n area entry ordinal gone fresh made after
+    pub edit-made : (made : Made) (after : List ℕ) → MadeOf m n area (site .entry) (site .ordinal) (take (f .bytes) bytes) (take (f .count) lens) made after
+        → MadeEdit m n area (editAt site fresh) made after
     edit-made made after a k w =
         let same : k ≡ d .entered .content = same-content m n area k (d .entered .content) w (d .entered .reads) in
-        a k edit w refl refl (rw same flat)
+        a k (editAt site fresh) w refl refl (rw same flat)
 
 -- A record that comes in is small.
-pub fresh-small : (m : Measures) (n : ℕ) (area : List ℕ) (entry number ordinal start gone span : ℕ) (new : List ℕ)
-    → Edits m n area entry number ordinal start gone span (new ∷ []) → length new ≤ 32768
-fresh-small m n area entry number ordinal start gone span new d =
+pub fresh-small : (m : Measures) (n : ℕ) (area : List ℕ) (site : Site) (new : List ℕ) → Edits m n area site (new ∷ []) → length new ≤ 32768
+fresh-small m n area site new d =
     omega (arith, within-high (m .least) (m .most) (length new) [] (d .fitting .proper .lengths), d .entered .fits .most-inside, fits-small (d .entered .fits))

@@ -14,6 +14,7 @@ use Rattle.interval.specs.Records.{allWithin, keyOf, Flat}
 use Rattle.interval.specs.Reading.{cut}
 use Rattle.interval.specs.Search.{startOf}
 use Rattle.index.specs.Bounds.{cutSeparator}
+use Rattle.interval_edit.specs.declared.Site.{Site}
 use Rattle.area.specs.Content.{Content}
 use Rattle.area.specs.Reading.{whole, readArea}
 use Rattle.change.specs.Parts.{Edit, entryAt, edited}
@@ -86,9 +87,13 @@ pub record Ready (m : Measures) (n : ℕ) (area : List ℕ) (entry number at : �
   pub flat : Flat bytes lens (edited (entered .content .filled) edit)
   pub few : length lens ≤ 32768
 
--- `gone` records of an entry from `ordinal` on are to make way for the fresh ones; their `span` bytes begin at `start` in the interval.
-pub record Edits (m : Measures) (n : ℕ) (area : List ℕ) (entry number ordinal start gone span : ℕ) (fresh : List (List ℕ)) : Type 0 where
-  pub entered : Entered m n area entry number
-  pub fitting : Fitting m n area (entered .content) (record { entry = entry; ordinal = ordinal; gone = gone; fresh = fresh })
-  pub starts : start ≡ startOf ordinal (entryAt (entered .content .filled) entry .records)
-  pub takes : span ≡ length (concat (take gone (drop ordinal (entryAt (entered .content .filled) entry .records))))
+-- The edit at a site: the records that go make way for the fresh ones.
+abbrev pub editAt : Site → List (List ℕ) → Edit
+editAt site fresh = record { entry = site .entry; ordinal = site .ordinal; gone = site .gone; fresh = fresh }
+
+-- It fits, and the bytes of what goes lie where the site says.
+pub record Edits (m : Measures) (n : ℕ) (area : List ℕ) (site : Site) (fresh : List (List ℕ)) : Type 0 where
+  pub entered : Entered m n area (site .entry) (site .number)
+  pub fitting : Fitting m n area (entered .content) (editAt site fresh)
+  pub starts : site .start ≡ startOf (site .ordinal) (entryAt (entered .content .filled) (site .entry) .records)
+  pub takes : site .span ≡ length (concat (take (site .gone) (drop (site .ordinal) (entryAt (entered .content .filled) (site .entry) .records))))

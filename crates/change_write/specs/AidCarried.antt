@@ -54,7 +54,5 @@ MadeOf m n area entry at bytes lens made after =
     → Carries m area (planOf m c e) made after
 
 -- that edit is carried out
-abbrev pub MadeEdit : Measures → ℕ → List ℕ → ℕ → ℕ → ℕ → List (List ℕ) → Made → List ℕ → Type 0
-MadeEdit m n area entry ordinal gone fresh made after =
-    (c : Content) → readArea m n area ≡ whole c
-    → Carries m area (planOf m c (record { entry = entry; ordinal = ordinal; gone = gone; fresh = fresh })) made after
+abbrev pub MadeEdit : Measures → ℕ → List ℕ → Edit → Made → List ℕ → Type 0
+MadeEdit m n area e made after = (c : Content) → readArea m n area ≡ whole c → Carries m area (planOf m c e) made after

@@ -11,9 +11,10 @@ ghost use Rattle.interval.specs.Layout.{form};
 ghost use Rattle.interval.specs.Reading.{cut};
 ghost use Rattle.area_find.specs.AidSought.{Whole};
 ghost use Rattle.change_write.specs.AidCarried.{FreeCounted, EnoughFree, TakenStored, MadeDivided, MadeOf, MadeEdit};
-ghost use Rattle.change_write.specs.AidAsked.{PartWritable, stretch, Laid, Cuttable, separatorAt, partsAt, AllFit, Divides, Ready, Edits};
+ghost use Rattle.change_write.specs.AidAsked.{PartWritable, stretch, Laid, Cuttable, separatorAt, partsAt, AllFit, Divides, Ready, editAt, Edits};
 use division::Division;
 use index_write::Cuts;
+use interval_edit::Site;
 use measures::Measures;
 
 // How many intervals were written; or why none was: too few are free, or the index record has no room.
@@ -169,37 +170,19 @@ pub(crate) fn make(
     }
 }
 
-// A new record in place of the `gone` from `ordinal` on, whose `span` bytes begin at `start`: none for an insert, one for an update.
-pub fn put_in(
-    area: &mut [u8],
-    m: Measures,
-    n: usize,
-    entry: usize,
-    number: usize,
-    ordinal: usize,
-    start: usize,
-    gone: usize,
-    span: usize,
-    new: &[u8],
-) -> Made
-    requires { ⌜ Edits m n (now area) entry number ordinal start gone span (now new ∷ []) ⌝ }
-    ensures { λ r. ⌜ MadeEdit m n (now (area .entry)) entry ordinal gone (now (new .entry) ∷ []) r (now (area .exit)) ⌝ }
+// A new record in place of those that go: none for an insert, one for an update.
+pub fn put_in(area: &mut [u8], m: Measures, n: usize, site: Site, new: &[u8]) -> Made
+    requires { ⌜ Edits m n (now area) site (now new ∷ []) ⌝ }
+    ensures { λ r. ⌜ MadeEdit m n (now (area .entry)) (editAt site (now (new .entry) ∷ [])) r (now (area .exit)) ⌝ }
 {
+    let entry = site.entry;
+    let number = site.number;
+    let ordinal = site.ordinal;
     let a = (number + 1) * m.size;
     let e = a + m.size;
     let mut bytes = [0u8; 65536];
     let mut lens = [0u16; 32768];
-    let flat = interval_edit::put_in(
-        &area[a..e],
-        m,
-        ordinal,
-        start,
-        gone,
-        span,
-        new,
-        &mut bytes,
-        &mut lens,
-    );
+    let flat = interval_edit::put_in(&area[a..e], m, site, new, &mut bytes, &mut lens);
     let total = flat.bytes;
     let count = flat.count;
     make(
@@ -214,25 +197,19 @@ pub fn put_in(
     )
 }
 
-// The record of that ordinal, whose `span` bytes begin at `start`, taken out: an erase. What is left always fits.
-pub fn take_out(
-    area: &mut [u8],
-    m: Measures,
-    n: usize,
-    entry: usize,
-    number: usize,
-    ordinal: usize,
-    start: usize,
-    span: usize,
-) -> Made
-    requires { ⌜ Edits m n (now area) entry number ordinal start 1 span [] ⌝ }
-    ensures { λ r. ⌜ MadeEdit m n (now (area .entry)) entry ordinal 1 [] r (now (area .exit)) ⌝ }
+// Those that go taken out, and nothing in their place: an erase. What is left always fits.
+pub fn take_out(area: &mut [u8], m: Measures, n: usize, site: Site) -> Made
+    requires { ⌜ Edits m n (now area) site [] ⌝ }
+    ensures { λ r. ⌜ MadeEdit m n (now (area .entry)) (editAt site []) r (now (area .exit)) ⌝ }
 {
+    let entry = site.entry;
+    let number = site.number;
+    let ordinal = site.ordinal;
     let a = (number + 1) * m.size;
     let e = a + m.size;
     let mut bytes = [0u8; 65536];
     let mut lens = [0u16; 32768];
-    let flat = interval_edit::take_out(&area[a..e], m, ordinal, start, span, &mut bytes, &mut lens);
+    let flat = interval_edit::take_out(&area[a..e], m, site, &mut bytes, &mut lens);
     let total = flat.bytes;
     let count = flat.count;
     make(

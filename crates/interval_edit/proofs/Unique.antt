@@ -23,12 +23,12 @@ only : (bytes₀ lens₀ : List ℕ) (rs : List (List ℕ)) (b c l k : List ℕ)
 only bytes₀ lens₀ rs b c l k r s p q =
     (flat-same r s (agree (p .sums) (q .sums)) (agree (p .many) (q .many)), agree (p .bytes-are) (q .bytes-are), agree (p .lens-are) (q .lens-are))
 
--- the two buffers are the eighth and the ninth parameter
+-- the two buffers are the fifth and the sixth parameter
 pub unique-put-in : (κs : _) (args : _) (r s : Extent) (e f : _) → put-in.Learnt κs args r e → put-in.Learnt κs args s f
-    → (r ≡ s) × (now (e .1 .1 .1 .1 .1 .1 .1 .0) ≡ now (f .1 .1 .1 .1 .1 .1 .1 .0)) × (now (e .1 .1 .1 .1 .1 .1 .1 .1 .0) ≡ now (f .1 .1 .1 .1 .1 .1 .1 .1 .0))
+    → (r ≡ s) × (now (e .1 .1 .1 .1 .0) ≡ now (f .1 .1 .1 .1 .0)) × (now (e .1 .1 .1 .1 .1 .0) ≡ now (f .1 .1 .1 .1 .1 .0))
 unique-put-in κs args r s e f p q = only _ _ _ _ _ _ _ r s p q
 
--- the two buffers are the sixth and the seventh parameter
+-- the two buffers are the fourth and the fifth parameter
 pub unique-take-out : (κs : _) (args : _) (r s : Extent) (e f : _) → take-out.Learnt κs args r e → take-out.Learnt κs args s f
-    → (r ≡ s) × (now (e .1 .1 .1 .1 .1 .0) ≡ now (f .1 .1 .1 .1 .1 .0)) × (now (e .1 .1 .1 .1 .1 .1 .0) ≡ now (f .1 .1 .1 .1 .1 .1 .0))
+    → (r ≡ s) × (now (e .1 .1 .1 .0) ≡ now (f .1 .1 .1 .0)) × (now (e .1 .1 .1 .1 .0) ≡ now (f .1 .1 .1 .1 .0))
 unique-take-out κs args r s e f p q = only _ _ _ _ _ _ _ r s p q

@@ -9,6 +9,7 @@ use Rattle.measures.specs.declared.Measures.{Measures}
 use Rattle.interval.specs.Search.{startOf}
 use Rattle.interval.specs.Reading.{displacement, recordsIn, Readable}
 use Rattle.interval_edit.specs.declared.Extent.{Extent}
+use Rattle.interval_edit.specs.declared.Site.{Site}
 
 -- Which records go: so many from that ordinal on. Where their bytes start, and how many these are.
 pub record Goes (rs : List (List ℕ)) (ordinal start gone bytes : ℕ) : Type 0 where
@@ -26,9 +27,12 @@ pub record Changed (bytes₀ lens₀ bytes lens : List ℕ) (rs : List (List ℕ
   pub total-most : r .bytes ≤ 65536
   pub many-most : r .count ≤ 32768
 
--- so lie the interval's records with a new one in place of the `gone` from that ordinal on
-abbrev pub PutIn : List ℕ → ℕ → ℕ → List ℕ → List ℕ → List ℕ → List ℕ → List ℕ → Extent → Type 0
-PutIn ci ordinal gone new bytes₀ lens₀ bytes lens r = Changed bytes₀ lens₀ bytes lens (swap ordinal gone (new ∷ []) (recordsIn ci)) r
+-- so lie the interval's records with a new one in place of those that go, or with none
+abbrev pub PutIn : List ℕ → Site → List ℕ → List ℕ → List ℕ → List ℕ → List ℕ → Extent → Type 0
+PutIn ci site new bytes₀ lens₀ bytes lens r = Changed bytes₀ lens₀ bytes lens (swap (site .ordinal) (site .gone) (new ∷ []) (recordsIn ci)) r
+
+abbrev pub TakenOut : List ℕ → Site → List ℕ → List ℕ → List ℕ → List ℕ → Extent → Type 0
+TakenOut ci site bytes₀ lens₀ bytes lens r = Changed bytes₀ lens₀ bytes lens (swap (site .ordinal) (site .gone) [] (recordsIn ci)) r
 
 -- the span lies among the records' bytes, and the buffer is long enough for them with the new ones
 abbrev pub SpanLies : List ℕ → ℕ → ℕ → List ℕ → List ℕ → Type 0
@@ -36,6 +40,17 @@ SpanLies ci start span new bytes =
     (4 ≤ length ci) × (displacement ci ≤ length ci) × (start + span ≤ displacement ci) × (displacement ci + length new ≤ length bytes)
 
 -- a sound interval, records of it that go, and buffers long enough for whatever comes out
-abbrev pub CanPutIn : Measures → List ℕ → ℕ → ℕ → ℕ → ℕ → List ℕ → List ℕ → List ℕ → Type 0
-CanPutIn m ci ordinal start gone span new bytes lens =
-    Readable m ci × Goes (recordsIn ci) ordinal start gone span × (length new ≤ 32768) × (65536 ≤ length bytes) × (32768 ≤ length lens)
+abbrev pub CanTakeOut : Measures → List ℕ → Site → List ℕ → List ℕ → Type 0
+CanTakeOut m ci site bytes lens =
+    Readable m ci
+    × Goes (recordsIn ci) (site .ordinal) (site .start) (site .gone) (site .span)
+    × (65536 ≤ length bytes)
+    × (32768 ≤ length lens)
+
+abbrev pub CanPutIn : Measures → List ℕ → Site → List ℕ → List ℕ → List ℕ → Type 0
+CanPutIn m ci site new bytes lens =
+    Readable m ci
+    × Goes (recordsIn ci) (site .ordinal) (site .start) (site .gone) (site .span)
+    × (length new ≤ 32768)
+    × (65536 ≤ length bytes)
+    × (32768 ≤ length lens)

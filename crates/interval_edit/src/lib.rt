@@ -2,18 +2,28 @@
 // lengths. From there they are divided and written, so that no interval is read and written at once.
 ghost use Prim.Native.Nat.{_+_, _≤_};
 ghost use mathlib.Core.Path.{_≡_};
-ghost use mathlib.Core.List.{[], _∷_, map};
+ghost use mathlib.Core.List.{map};
 ghost use lib.ListN.{length};
 ghost use Rattle.fields.specs.Bytes.{splice};
 ghost use Rattle.fields.specs.Lists.{swap};
 ghost use Rattle.interval.specs.Reading.{recordsIn, Readable, recordBytes};
-ghost use Rattle.interval_edit.specs.AidChanged.{Goes, Changed, PutIn, CanPutIn, SpanLies};
+ghost use Rattle.interval_edit.specs.AidChanged.{SpanLies, CanPutIn, PutIn, CanTakeOut, TakenOut};
 use measures::Measures;
 
 // How many bytes of the one buffer, and how many lengths of the other, are the records'.
 pub struct Extent {
     pub bytes: usize,
     pub count: usize,
+}
+
+// Where an edit is made: an entry and the number of its interval; the `gone` records from `ordinal` on, whose `span` bytes begin at `start`.
+pub struct Site {
+    pub entry: usize,
+    pub number: usize,
+    pub ordinal: usize,
+    pub start: usize,
+    pub gone: usize,
+    pub span: usize,
 }
 
 // The bytes of an interval's records, with others in place of the `span` from `start` on. From the right to the left, so that each
@@ -74,47 +84,35 @@ pub(crate) fn change_lens(
     ordinal + n + (many - e)
 }
 
-// The records with a new one in place of the `gone` from `ordinal` on, whose `span` bytes begin at `start`: none for an insert, one for
-// an update.
+// The records with a new one in place of those that go: none for an insert, one for an update.
 pub fn put_in(
     ci: &[u8],
     m: Measures,
-    ordinal: usize,
-    start: usize,
-    gone: usize,
-    span: usize,
+    site: Site,
     new: &[u8],
     bytes: &mut [u8],
     lens: &mut [u16],
 ) -> Extent
-    requires { ⌜ CanPutIn m (now ci) ordinal start gone span (now new) (now bytes) (now lens) ⌝ }
-    ensures { λ r. ⌜ PutIn (now (ci .entry)) ordinal gone (now (new .entry)) (now (bytes .entry)) (now (lens .entry)) (now (bytes .exit)) (now (lens .exit)) r ⌝ }
+    requires { ⌜ CanPutIn m (now ci) site (now new) (now bytes) (now lens) ⌝ }
+    ensures { λ r. ⌜ PutIn (now (ci .entry)) site (now (new .entry)) (now (bytes .entry)) (now (lens .entry)) (now (bytes .exit)) (now (lens .exit)) r ⌝ }
 {
     let one = [new.len() as u16; 1];
-    let total = change_bytes(ci, start, span, new, bytes);
-    let count = change_lens(ci, m, ordinal, gone, &one, lens);
+    let total = change_bytes(ci, site.start, site.span, new, bytes);
+    let count = change_lens(ci, m, site.ordinal, site.gone, &one, lens);
     Extent {
         bytes: total,
         count,
     }
 }
 
-// The records without the one of that ordinal, whose `span` bytes begin at `start`: an erase.
-pub fn take_out(
-    ci: &[u8],
-    m: Measures,
-    ordinal: usize,
-    start: usize,
-    span: usize,
-    bytes: &mut [u8],
-    lens: &mut [u16],
-) -> Extent
-    requires { ⌜ Readable m (now ci) × Goes (recordsIn (now ci)) ordinal start 1 span × (65536 ≤ length (now bytes)) × (32768 ≤ length (now lens)) ⌝ }
-    ensures { λ r. ⌜ Changed (now (bytes .entry)) (now (lens .entry)) (now (bytes .exit)) (now (lens .exit)) (swap ordinal 1 [] (recordsIn (now (ci .entry)))) r ⌝ }
+// The records without those that go: an erase.
+pub fn take_out(ci: &[u8], m: Measures, site: Site, bytes: &mut [u8], lens: &mut [u16]) -> Extent
+    requires { ⌜ CanTakeOut m (now ci) site (now bytes) (now lens) ⌝ }
+    ensures { λ r. ⌜ TakenOut (now (ci .entry)) site (now (bytes .entry)) (now (lens .entry)) (now (bytes .exit)) (now (lens .exit)) r ⌝ }
 {
     let none = [0u16; 0];
-    let total = change_bytes(ci, start, span, &ci[..0], bytes);
-    let count = change_lens(ci, m, ordinal, 1, &none, lens);
+    let total = change_bytes(ci, site.start, site.span, &ci[..0], bytes);
+    let count = change_lens(ci, m, site.ordinal, site.gone, &none, lens);
     Extent {
         bytes: total,
         count,

@@ -17,6 +17,7 @@ use Rattle.interval.specs.Search.{lower, startOf, holds}
 use Rattle.interval.specs.declared.Found.the-variants.{At, Gap}
 use Rattle.interval.proofs.Lengths.{key-long}
 use Rattle.interval.proofs.Search.{gap-place, at-place}
+use Rattle.interval_edit.specs.declared.Site.{Site}
 use Rattle.index.specs.Meaning.{Entry, numbers}
 use Rattle.index.specs.Search.{leadsTo}
 use Rattle.area.specs.Content.{dataIn, recordsOf, entriesOf}
@@ -26,7 +27,7 @@ use Rattle.change.specs.Parts.{Edit, entryAt}
 use Rattle.change.specs.Plan.{planOf}
 use Rattle.change.specs.Fitting.{Fitting, Proper}
 use Rattle.change_write.specs.AidCarried.{MadeEdit}
-use Rattle.change_write.specs.AidAsked.{Edits}
+use Rattle.change_write.specs.AidAsked.{editAt, Edits}
 use Rattle.change_write.specs.declared.Made.{Made}
 use Rattle.requests.specs.Records.{withKey}
 use Rattle.requests.specs.Changing.{editFor, makeEdit, Makes}
@@ -35,6 +36,10 @@ use Rattle.requests.proofs.Edits.{led-entry, key-octets, within-least, insert-p
 use Rattle.register.specs.AidTold.{answerFor}
 use Rattle.register.proofs.KeyFound.{entries-are, key-found, key-absent, number-at}
 use Rattle.register.proofs.Changing.{carried}
+
+-- the site where a search ended, with so many records and bytes to go
+abbrev pub siteOf : Spot → ℕ → ℕ → ℕ → ℕ → Site
+siteOf r i t gone span = record { entry = r .entry; number = r .number; ordinal = i; start = t; gone = gone; span = span }
 
 -- the bytes of the one record there
 one-span : (rs : List (List ℕ)) (i : ℕ) → i < length rs → length (concat (take 1 (drop i rs))) ≡ length (getD rs i [])
@@ -80,7 +85,7 @@ module _ (m : Measures) (n : ℕ) (area : List ℕ) (o : Fits m n (length area))
     edits : (t span : ℕ) → Proper m (w .content .filled) (editFor m (w .content) key gone fresh)
         → t ≡ startOf i (entryAt (w .content .filled) (r .entry) .records)
         → span ≡ length (concat (take gone (drop i (entryAt (w .content .filled) (r .entry) .records))))
-        → Edits m n area (r .entry) (r .number) i t gone span fresh
+        → Edits m n area (siteOf r i t gone span) fresh
     edits t span p starts takes =
         let f : Fitting m n area (w .content) (record { entry = r .entry; ordinal = i; gone = gone; fresh = fresh }) = rw edit-is (fits m n area o bytes w (editFor m (w .content) key gone fresh) p) in
         record {
@@ -91,7 +96,7 @@ module _ (m : Measures) (n : ℕ) (area : List ℕ) (o : Fits m n (length area))
         }
 
     -- and what it makes of the area is what the meaning says
-    makes : (made : Made) (after : List ℕ) (a : Answer) → MadeEdit m n area (r .entry) i gone fresh made after → a ≡ answerFor made
+    makes : (made : Made) (after : List ℕ) (a : Answer) → MadeEdit m n area (record { entry = r .entry; ordinal = i; gone = gone; fresh = fresh }) made after → a ≡ answerFor made
         → Makes (makeEdit m (w .content) area key gone fresh) a after
     makes made after a k e =
         carried m area (planOf m (w .content) (editFor m (w .content) key gone fresh)) made after a (rw edit-is at (k (w .content) (w .reads))) e
@@ -114,12 +119,12 @@ module _ (m : Measures) (n : ℕ) (area : List ℕ) (o : Fits m n (length area))
     at-span : l ≡ length (concat (take 1 (drop i (entryAt (w .content .filled) (r .entry) .records))))
     at-span = at-there .2 ∙ sym (one-span (entryAt (w .content .filled) (r .entry) .records) i at-inside)
 
-    pub erase-edits : Edits m n area (r .entry) (r .number) i t 1 l []
+    pub erase-edits : Edits m n area (siteOf r i t 1 l) []
     erase-edits =
         edits i 1 [] (at-there .0) t l
         (erase-proper m n area (w .content) (w .reads) (o .key-some) key long octets _ [] (key-found m n area o w key long octets r s i t l e)) (at-there .1) at-span
 
-    pub erase-made : (made : Made) (after : List ℕ) (a : Answer) → MadeEdit m n area (r .entry) i 1 [] made after → a ≡ answerFor made
+    pub erase-made : (made : Made) (after : List ℕ) (a : Answer) → MadeEdit m n area (editAt (siteOf r i t 1 l) []) made after → a ≡ answerFor made
         → Makes (makeEdit m (w .content) area key 1 []) a after
     erase-made = makes i 1 [] (at-there .0)
 
@@ -137,28 +142,28 @@ module _ (m : Measures) (n : ℕ) (area : List ℕ) (o : Fits m n (length area))
     new-present = key-found m n area o w (keyOf m new) new-long (key-octets m new octets) r s
 
     module _ (i t : ℕ) (e : r .found ≡ Gap i t) where
-      pub insert-edits : Edits m n area (r .entry) (r .number) i t 0 0 (new ∷ [])
+      pub insert-edits : Edits m n area (siteOf r i t 0 0) (new ∷ [])
       insert-edits =
           let g = gap-there m n area o bytes w (keyOf m new) new-long (key-octets m new octets) r s i t e in
           edits m n area o bytes w (keyOf m new) new-long (key-octets m new octets) r s i 0 (new ∷ []) (g .0) t 0
           (insert-proper m n area (w .content) (w .reads) (o .key-some) (o .key-inside) new fine octets (new-absent i t e)) (g .1)
           (none-span (entryAt (w .content .filled) (r .entry) .records) i)
 
-      pub insert-made : (made : Made) (after : List ℕ) (a : Answer) → MadeEdit m n area (r .entry) i 0 (new ∷ []) made after → a ≡ answerFor made
+      pub insert-made : (made : Made) (after : List ℕ) (a : Answer) → MadeEdit m n area (editAt (siteOf r i t 0 0) (new ∷ [])) made after → a ≡ answerFor made
           → Makes (makeEdit m (w .content) area (keyOf m new) 0 (new ∷ [])) a after
       insert-made =
           makes m n area o bytes w (keyOf m new) new-long (key-octets m new octets) r s i 0 (new ∷ [])
           (gap-there m n area o bytes w (keyOf m new) new-long (key-octets m new octets) r s i t e .0)
 
     module _ (i t l : ℕ) (e : r .found ≡ At i t l) where
-      pub update-edits : Edits m n area (r .entry) (r .number) i t 1 l (new ∷ [])
+      pub update-edits : Edits m n area (siteOf r i t 1 l) (new ∷ [])
       update-edits =
           let g = at-there m n area o bytes w (keyOf m new) new-long (key-octets m new octets) r s i t l e in
           edits m n area o bytes w (keyOf m new) new-long (key-octets m new octets) r s i 1 (new ∷ []) (g .0) t l
           (update-proper m n area (w .content) (w .reads) (o .key-some) (o .key-inside) new fine octets _ [] (new-present i t l e)) (g .1)
           (at-span m n area o bytes w (keyOf m new) new-long (key-octets m new octets) r s i t l e)
 
-      pub update-made : (made : Made) (after : List ℕ) (a : Answer) → MadeEdit m n area (r .entry) i 1 (new ∷ []) made after → a ≡ answerFor made
+      pub update-made : (made : Made) (after : List ℕ) (a : Answer) → MadeEdit m n area (editAt (siteOf r i t 1 l) (new ∷ [])) made after → a ≡ answerFor made
           → Makes (makeEdit m (w .content) area (keyOf m new) 1 (new ∷ [])) a after
       update-made =
           makes m n area o bytes w (keyOf m new) new-long (key-octets m new octets) r s i 1 (new ∷ [])

@@ -13,6 +13,7 @@ use area::Checked;
 use area_find::Lying;
 use change_write::Made;
 use interval::Found;
+use interval_edit::Site;
 use measures::Judged;
 use requests::Answer;
 use requests::Written;
@@ -155,18 +156,15 @@ pub fn insert(
     let Found::Gap { ordinal, start } = found else {
         return Answer::Present;
     };
-    told(change_write::put_in(
-        area,
-        m,
-        n,
-        spot.entry,
-        spot.number,
+    let site = Site {
+        entry: spot.entry,
+        number: spot.number,
         ordinal,
         start,
-        0,
-        0,
-        new,
-    ))
+        gone: 0,
+        span: 0,
+    };
+    told(change_write::put_in(area, m, n, site, new))
 }
 
 // Another record in place of the one with its key: refusals 1, 2, 3, 5, 6, 7.
@@ -204,18 +202,15 @@ pub fn update(
     else {
         return Answer::Absent;
     };
-    told(change_write::put_in(
-        area,
-        m,
-        n,
-        spot.entry,
-        spot.number,
+    let site = Site {
+        entry: spot.entry,
+        number: spot.number,
         ordinal,
         start,
-        1,
-        length,
-        new,
-    ))
+        gone: 1,
+        span: length,
+    };
+    told(change_write::put_in(area, m, n, site, new))
 }
 
 // The record with a key taken out: refusals 1, 2, 3, 5. It never divides and never touches the index record.
@@ -252,5 +247,13 @@ pub fn erase(
     else {
         return Answer::Absent;
     };
-    told(change_write::take_out(area, m, n, spot.entry, spot.number, ordinal, start, length))
+    let site = Site {
+        entry: spot.entry,
+        number: spot.number,
+        ordinal,
+        start,
+        gone: 1,
+        span: length,
+    };
+    told(change_write::take_out(area, m, n, site))
 }

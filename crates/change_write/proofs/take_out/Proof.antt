@@ -10,6 +10,16 @@ use Rattle.change_write.proofs.Editing.{counted-bytes, counted-lens, ed
 use Rattle.change_write.proofs.take_out.Statement.{statement}
 use Rattle.change_write.proofs.take_out.Tie as tie
 
+-- The states that the proof looks back to, by their names.
+abbrev start-from-arg : tie.After-take-out-arg → tie.Start
+start-from-arg k = k .before .before .before .before .before
+
+abbrev start-from-call : tie.After-take-out → tie.Start
+start-from-call k = start-from-arg (k .before .before .before)
+
+abbrev call-from-make : tie.After-make → tie.After-take-out
+call-from-make k = k .before .before .before .before .before .before
+
 add-a : tie.Need-add-a
 add-a c = search needs
 
@@ -17,13 +27,13 @@ mul-a : tie.Need-mul-a
 mul-a c =
     let s = c .before .before in
     let a = s .args in
-    omega (arith, data-small (a .m) (a .n) (a .area .now) (s .pre .entered .fits) (a .number) (s .pre .entered .within))
+    omega (arith, data-small (a .m) (a .n) (a .area .now) (s .pre .entered .fits) (a .site .number) (s .pre .entered .within))
 
 add-e : tie.Need-add-e
 add-e c =
     let s = c .before .before .before in
     let a = s .args in
-    omega (arith, data-small (a .m) (a .n) (a .area .now) (s .pre .entered .fits) (a .number) (s .pre .entered .within), fits-small (s .pre .entered .fits))
+    omega (arith, data-small (a .m) (a .n) (a .area .now) (s .pre .entered .fits) (a .site .number) (s .pre .entered .within), fits-small (s .pre .entered .fits))
 
 sub-take-out : tie.Need-sub-take-out
 sub-take-out c = search needs
@@ -35,7 +45,7 @@ part-take-out-end : tie.Need-part-take-out-end
 part-take-out-end c =
     let s = c .before .before .before .before in
     let a = s .args in
-    let z = data-ends (a .m) (a .n) (a .area .now) (s .pre .entered .fits) (a .number) (s .pre .entered .within) in
+    let z = data-ends (a .m) (a .n) (a .area .now) (s .pre .entered .fits) (a .site .number) (s .pre .entered .within) in
     search needs
 
 slice-aggregate-take-out : tie.Need-slice-aggregate-take-out
@@ -46,9 +56,9 @@ slice-aggregate-take-out-2 c = search needs
 
 take-out-requires : tie.Need-take-out-requires
 take-out-requires c κs =
-    let s = c .before .before .before .before .before .before .before in
+    let s = start-from-arg (c .before .before) in
     let a = s .args in
-    (edit-readable (a .m) (a .n) (a .area .now) (a .entry) (a .number) (a .ordinal) (a .start) 1 (a .span) [] (s .pre), edit-goes (a .m) (a .n) (a .area .now) (a .entry) (a .number) (a .ordinal) (a .start) 1 (a .span) [] (s .pre), omega arith, omega arith)
+    (edit-readable (a .m) (a .n) (a .area .now) (a .site) [] (s .pre), edit-goes (a .m) (a .n) (a .area .now) (a .site) [] (s .pre), omega arith, omega arith)
 
 array-share-prefix-bytes : tie.Need-array-share-prefix-bytes
 array-share-prefix-bytes c = search needs
@@ -56,7 +66,7 @@ array-share-prefix-bytes c = search needs
 slice-aggregate-make : tie.Need-slice-aggregate-make
 slice-aggregate-make c =
     let p = c .before .before .before .before .take-out in
-    counted-bytes _ _ (p .last .1 .1 .1 .1 .1 .0) (p .last .1 .1 .1 .1 .1 .1 .0) _ (p .result) (p .ensures)
+    counted-bytes _ _ (p .last .1 .1 .1 .0) (p .last .1 .1 .1 .1 .0) _ (p .result) (p .ensures)
 
 array-share-prefix-lens : tie.Need-array-share-prefix-lens
 array-share-prefix-lens c = search needs
@@ -64,25 +74,26 @@ array-share-prefix-lens c = search needs
 slice-aggregate-make-2 : tie.Need-slice-aggregate-make-2
 slice-aggregate-make-2 c =
     let p = c .before .before .before .before .before .take-out in
-    counted-lens _ _ (p .last .1 .1 .1 .1 .1 .0) (p .last .1 .1 .1 .1 .1 .1 .0) _ (p .result) (p .ensures)
+    counted-lens _ _ (p .last .1 .1 .1 .0) (p .last .1 .1 .1 .1 .0) _ (p .result) (p .ensures)
 
 make-requires : tie.Need-make-requires
 make-requires c κs =
-    let s = c .before .before .before .before .before .before .before .before .before .before .before .before .before in
+    let s = start-from-call (c .before .before .before .before .before) in
     let a = s .args in
     let p = c .before .before .before .before .before .take-out in
-    edit-ready (a .m) (a .n) (a .area .now) (a .entry) (a .number) (a .ordinal) (a .start) 1 (a .span) [] (s .pre) _ _ (p .last .1 .1 .1 .1 .1 .0) (p .last .1 .1 .1 .1 .1 .1 .0) (p .result) (p .ensures)
+    edit-ready (a .m) (a .n) (a .area .now) (a .site) [] (s .pre) _ _ (p .last .1 .1 .1 .0) (p .last .1 .1 .1 .1 .0) (p .result) (p .ensures)
 
 same-length : tie.Need-same-length
 same-length c = search needs
 
 returns : tie.Need-returns
 returns c =
-    let s = c .before .before .before .before .before .before .before .before .before .before .before .before .before .before .before .before in
+    let m = c .before .before in
+    let s = start-from-call (call-from-make m) in
     let a = s .args in
-    let p = c .before .before .before .before .before .before .before .before .take-out in
-    let k = c .before .before .make in
-    edit-made (a .m) (a .n) (a .area .now) (a .entry) (a .number) (a .ordinal) (a .start) 1 (a .span) [] (s .pre) _ _ (p .last .1 .1 .1 .1 .1 .0) (p .last .1 .1 .1 .1 .1 .1 .0) (p .result) (p .ensures) (k .result) (k .last .0) (k .ensures)
+    let p = call-from-make m .take-out in
+    let k = m .make in
+    edit-made (a .m) (a .n) (a .area .now) (a .site) [] (s .pre) _ _ (p .last .1 .1 .1 .0) (p .last .1 .1 .1 .1 .0) (p .result) (p .ensures) (k .result) (k .last .0) (k .ensures)
 
 pub take-out-spec : {M : Type 1} → statement M
 take-out-spec =

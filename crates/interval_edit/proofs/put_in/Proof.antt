@@ -20,14 +20,14 @@ start-from-lens k = start-from-change-bytes (k .before .before .before .before .
 abbrev change-bytes-from-lens : tie.After-lens → tie.After-change-bytes
 change-bytes-from-lens k = k .before .before .before .before .before .before
 
-cast-t14 : tie.Need-cast-t14
-cast-t14 c = search needs
+cast-t11 : tie.Need-cast-t11
+cast-t11 c = search needs
 
 change-bytes-requires : tie.Need-change-bytes-requires
 change-bytes-requires c κs =
     let s = c .before .before .before .before .before in
     let a = s .args in
-    let l = bytes-lie (a .m) (a .ci .now) (s .pre .0) (a .ordinal) (a .start) (a .gone) (a .span) (s .pre .1) in
+    let l = bytes-lie (a .m) (a .ci .now) (s .pre .0) (a .site .ordinal) (a .site .start) (a .site .gone) (a .site .span) (s .pre .1) in
     (l .0, omega (arith, l), l .2, omega (arith, l, s .pre))
 
 slice-aggregate-change-lens : tie.Need-slice-aggregate-change-lens
@@ -48,7 +48,7 @@ returns c =
     let a = s .args in
     let n = change-bytes-from-lens (c .before) .change-bytes in
     let k = c .before .before .change-lens in
-    changed-records (a .m) (a .ci .now) (s .pre .0) (a .ordinal) (a .start) (a .gone) (a .span) (s .pre .1) (a .new .now ∷ []) (a .new .now) (length (a .new .now) ∷ [])
+    changed-records (a .m) (a .ci .now) (s .pre .0) (a .site .ordinal) (a .site .start) (a .site .gone) (a .site .span) (s .pre .1) (a .new .now ∷ []) (a .new .now) (length (a .new .now) ∷ [])
     (sym (concat-one (a .new .now))) refl (s .pre .2) (omega arith)
     (a .bytes .now) (a .lens .now) (n .last .1 .1 .1 .1 .0) (k .last .1 .1 .1 .1 .1 .0) (record { bytes = n .result; count = k .result }) (n .ensures .0) (n .ensures .1)
     (k .ensures .0) (k .ensures .1)
@@ -57,7 +57,7 @@ pub put-in-spec : {M : Type 1} → statement M
 put-in-spec =
     tie.close
     (tie.spec
-    cast-t14
+    cast-t11
     change-bytes-requires
     slice-aggregate-change-lens
     change-lens-requires

@@ -26,7 +26,7 @@ change-bytes-requires : tie.Need-change-bytes-requires
 change-bytes-requires c κs =
     let s = c .before .before .before .before .before in
     let a = s .args in
-    let l = bytes-lie (a .m) (a .ci .now) (s .pre .0) (a .ordinal) (a .start) 1 (a .span) (s .pre .1) in
+    let l = bytes-lie (a .m) (a .ci .now) (s .pre .0) (a .site .ordinal) (a .site .start) (a .site .gone) (a .site .span) (s .pre .1) in
     (l .0, omega (arith, l), l .2, omega (arith, l, s .pre))
 
 slice-aggregate-change-lens : tie.Need-slice-aggregate-change-lens
@@ -47,7 +47,7 @@ returns c =
     let a = s .args in
     let n = change-bytes-from-lens (c .before) .change-bytes in
     let k = c .before .before .change-lens in
-    changed-records (a .m) (a .ci .now) (s .pre .0) (a .ordinal) (a .start) 1 (a .span) (s .pre .1) [] [] [] (sym concat-none) refl (omega arith) (omega arith)
+    changed-records (a .m) (a .ci .now) (s .pre .0) (a .site .ordinal) (a .site .start) (a .site .gone) (a .site .span) (s .pre .1) [] [] [] (sym concat-none) refl (omega arith) (omega arith)
     (a .bytes .now) (a .lens .now) (n .last .1 .1 .1 .1 .0) (k .last .1 .1 .1 .1 .1 .0) (record { bytes = n .result; count = k .result }) (n .ensures .0) (n .ensures .1)
     (k .ensures .0) (k .ensures .1)
 
