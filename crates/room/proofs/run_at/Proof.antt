@@ -7,9 +7,9 @@ use mathlib.Core.Path.{_≡_}
 use lib.ListN.{length, drop, getD}
 use native.Mathlib.Omega.{arith}
 use borrow.Author.Needs.{needs}
-use Rattle.interval_write.proofs.Runs.{lead, lead-more, lead-none, lead-end, groups-at}
-use Rattle.interval_write.proofs.run_at.Statement.{statement}
-use Rattle.interval_write.proofs.run_at.Tie as tie
+use Rattle.room.proofs.Runs.{lead, lead-more, lead-none, lead-end, groups-at}
+use Rattle.room.proofs.run_at.Statement.{statement}
+use Rattle.room.proofs.run_at.Tie as tie
 
 abbrev Inv-loop : tie.InvT-loop
 Inv-loop lens i l j₀ j =

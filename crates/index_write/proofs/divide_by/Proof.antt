@@ -1,6 +1,7 @@
 -- No loop. divided-is does the work: the entries, the zeros up to them and three displacements, stored over the old record, make the writer's form of the
--- new meaning, byte for byte. The first 18 bytes, the free numbers that are left, RDF and CIDF stay where they lay. The entries are made from a copy, which is
--- the old record (copied). Header, free numbers and entries together fit the record less its last 7 bytes (unused-small, written-fits), so each store has its place.
+-- new meaning, byte for byte. The first 18 bytes, the free numbers that are left, RDF and CIDF stay where they lay. The entries are made from a copy at the
+-- front of the lent buffer, which is the old record (copied). Header, free numbers and entries together fit the record less its last 7 bytes (unused-small,
+-- written-fits), so each store has its place.
 use Prim.Native.Nat.{_+_, _-_, _*_, _≤_}
 use mathlib.Core.Path.{_≡_, sym, ap}
 use mathlib.Core.Logic.{inl, inr, ⊎-elim}
@@ -11,12 +12,12 @@ use borrow.Author.Needs.{needs}
 use Rattle.measures.proofs.Width.{width-some}
 use Rattle.index_write.specs.AidStream.{cutsIn}
 use Rattle.index_write.proofs.Renewing.{more-is, copied, unused-there, Ready, taken-enough, unused-small, copy-divisible, copy-room, written-fits, divided-is}
-use Rattle.index_write.proofs.divide.Statement.{statement}
-use Rattle.index_write.proofs.divide.Tie as tie
+use Rattle.index_write.proofs.divide_by.Statement.{statement}
+use Rattle.index_write.proofs.divide_by.Tie as tie
 
 -- The states that the proof looks back to, by their names.
 abbrev start-from-joined : tie.Joined1 → tie.Start
-start-from-joined k = k .before .before .before .before
+start-from-joined k = k .before .before .before .before .before
 
 abbrev start-from-count : tie.After-free-count → tie.Start
 start-from-count k = start-from-joined (k .before .before)
@@ -25,7 +26,7 @@ abbrev count-from-copy : tie.After-copy → tie.After-free-count
 count-from-copy k = k .before .before .before .before
 
 abbrev copy-from-entries : tie.After-write-entries → tie.After-copy
-copy-from-entries k = k .before .before .before .before
+copy-from-entries k = k .before .before .before .before .before
 
 abbrev entries-from-fill : tie.After-fill → tie.After-write-entries
 entries-from-fill k = k .before .before .before .before
@@ -52,7 +53,7 @@ ready : (k : tie.After-free-count)
 ready k =
     let p = start-from-count k .pre in
     let j = k .before .before in
-    record { divisible = p .0 .0; room = p .1; width = j .before .width-for .ensures; free = k .free-count .ensures; go = goes j }
+    record { divisible = p .0 .0; room = p .1 .0; width = j .before .width-for .ensures; free = k .free-count .ensures; go = goes j }
 
 old-is : (k : tie.After-copy) → take (length (now (start-from-count (count-from-copy k) .args .ib))) (k .copy .last .0) ≡ now (start-from-count (count-from-copy k) .args .ib)
 old-is k = copied _ (k .copy .ensures)
@@ -84,24 +85,21 @@ mul-u c = omega (arith, unused-small (ready (c .before)))
 add-u : tie.Need-add-u
 add-u c = omega (arith, unused-small (ready (c .before)))
 
-slice-aggregate-copy : tie.Need-slice-aggregate-copy
-slice-aggregate-copy c = search needs
-
 copy-requires : tie.Need-copy-requires
 copy-requires c κs = search needs
 
 sub-e : tie.Need-sub-e
 sub-e c = search needs
 
-array-share-prefix-old : tie.Need-array-share-prefix-old
-array-share-prefix-old c = search needs
+slice-reshare-prefix-write-entries : tie.Need-slice-reshare-prefix-write-entries
+slice-reshare-prefix-write-entries c = search needs
 
 slice-aggregate-write-entries : tie.Need-slice-aggregate-write-entries
-slice-aggregate-write-entries c = sym (ap length (old-is (c .before .before .before)))
+slice-aggregate-write-entries c = sym (ap length (old-is (c .before .before .before .before)))
 
 write-entries-requires : tie.Need-write-entries-requires
 write-entries-requires c κs =
-    let k = c .before .before .before in
+    let k = c .before .before .before .before in
     let g = ready (count-from-copy k) in
     (copy-divisible g (old-is k), start-from-count (count-from-copy k) .pre .0 .1, copy-room g (old-is k))
 
@@ -135,6 +133,9 @@ write-two-requires-3 c κs =
 same-length : tie.Need-same-length
 same-length c = search needs
 
+same-length-2 : tie.Need-same-length-2
+same-length-2 c = search needs
+
 returns : tie.Need-returns
 returns c =
     let three = c .before .before in
@@ -142,12 +143,14 @@ returns c =
     let z = fill-from-two one in
     let y = entries-from-fill z in
     let f = count-from-copy (copy-from-entries y) in
-    let two = three .before .before .before .before .write-two2 in
-    divided-is (ready f) (old-is (copy-from-entries y)) (y .write-entries .ensures .0) (λ i. omega (arith, f .before .before .before .before .before .slice-known .given i))
-    (y .write-entries .ensures .1) (z .fill .ensures) (one .write-two .ensures) (two .ensures) (three .write-two3 .ensures)
+    let two = three .before .before .before .before .write-two2 in (
+      divided-is (ready f) (old-is (copy-from-entries y)) (y .write-entries .ensures .0) (λ i. omega (arith, f .before .before .before .before .before .before .slice-known .given i))
+          (y .write-entries .ensures .1) (z .fill .ensures) (one .write-two .ensures) (two .ensures) (three .write-two3 .ensures),
+      copy-from-entries y .copy .ensures,
+    )
 
-pub divide-spec : {M : Type 1} → statement M
-divide-spec =
+pub divide-by-spec : {M : Type 1} → statement M
+divide-by-spec =
     tie.close
     (tie.spec
     width-for-requires
@@ -155,10 +158,9 @@ divide-spec =
     sub-u
     mul-u
     add-u
-    slice-aggregate-copy
     copy-requires
     sub-e
-    array-share-prefix-old
+    slice-reshare-prefix-write-entries
     slice-aggregate-write-entries
     write-entries-requires
     sub-e-2
@@ -167,4 +169,5 @@ divide-spec =
     write-two-requires-2
     write-two-requires-3
     same-length
+    same-length-2
     returns)
