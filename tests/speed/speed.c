@@ -1,7 +1,9 @@
 /* Times the register's requests of two builds in turn: speed FOLDER BEFORE.so [AFTER.so].
    FOLDER holds the areas that make_areas.py wrote. Each figure is the best of many rounds; within a round the builds take turns, so that
    whatever else the machine does falls on both. The plain sum that ratios are told by is one loop over the area's bytes, not inlined and
-   not vectorised. Prints, for each area and request, nanoseconds of each build, the part of the sum that it is, and after / before.
+   not vectorised. Prints, for each area and request, nanoseconds of each build, the part of the sum that it is, how many times the check
+   of the same build, and after / before. A change is undone before the next by copying back the intervals that it wrote; what that takes
+   is timed alone and taken off.
    speed FOLDER BUILD.so loop AREA REQUEST TIMES does one request so many times, for a profiler. */
 #include <dlfcn.h>
 #include <stdint.h>
@@ -19,10 +21,10 @@ typedef size_t (*locate_t)(const uint8_t *, size_t, size_t, const uint8_t *, siz
 
 struct build { check_t check; get_t get; change_t insert, update, erase; find_t find; index_t index; locate_t locate; };
 
-struct area { size_t size, n, used, long_; uint8_t *bytes, *work; char there[9], middle[9]; };
+struct area { size_t size, n, used, long_; uint8_t *bytes, *work; char there[9], beside[9], middle[9]; };
 
-enum what { CHECK, GET, UPDATE, DIVIDE, COPY, INDEX, LOCATE, FIND, KINDS };
-static const char *names[KINDS] = {"check", "get by key", "update in place", "dividing insert", "", "index walk", "search of an entry",
+enum what { CHECK, GET, UPDATE, INSERT, ERASE, DIVIDE, PATCH, PATCHES, INDEX, LOCATE, FIND, KINDS };
+static const char *names[KINDS] = {"check", "get by key", "update in place", "insert", "erase", "dividing insert", "", "", "index walk", "search of an entry",
                                    "find, key that is there"};
 
 static double now(void)
@@ -68,7 +70,7 @@ static struct area read_area(const char *folder, const char *name)
     char path[4096];
     snprintf(path, sizeof path, "%s/%s.txt", folder, name);
     FILE *f = fopen(path, "r");
-    if (!f || fscanf(f, "%zu %zu %zu %8s %8s", &a.size, &a.n, &a.used, a.there, a.middle) != 5)
+    if (!f || fscanf(f, "%zu %zu %zu %8s %8s %8s", &a.size, &a.n, &a.used, a.there, a.beside, a.middle) != 6)
         exit((perror(path), 1));
     fclose(f);
     a.long_ = (a.n + 1) * a.size;
@@ -83,6 +85,12 @@ static struct area read_area(const char *folder, const char *name)
     return a;
 }
 
+/* Interval `place` of the buffer as it was. */
+static void patch(struct area *a, size_t place)
+{
+    memcpy(a->work + place * a->size, a->bytes + place * a->size, a->size);
+}
+
 static size_t once(const struct build *b, struct area *a, enum what w)
 {
     static uint8_t out[64], record[60];
@@ -95,12 +103,27 @@ static size_t once(const struct build *b, struct area *a, enum what w)
         memset(record, 'x', 60);
         memcpy(record, a->there, 8);
         return b->update(a->work, a->long_, a->size, 0, 8, 60, record, 60, &x);
+    case INSERT:
+        patch(a, a->used / 3 + 1);
+        memset(record, 'x', 60);
+        memcpy(record, a->beside, 8);
+        return b->insert(a->work, a->long_, a->size, 0, 8, 60, record, 60, &x);
+    case ERASE:
+        patch(a, a->used / 3 + 1);
+        return b->erase(a->work, a->long_, a->size, 0, 8, 60, key, 8, &x);
     case DIVIDE:
-        memcpy(a->work, a->bytes, a->long_);
+        patch(a, 0);
+        patch(a, a->used / 2 + 1);
+        patch(a, a->used + 1);
         memset(record, 'x', 60);
         memcpy(record, a->middle, 8);
         return b->insert(a->work, a->long_, a->size, 0, 8, 60, record, 60, &x);
-    case COPY: memcpy(a->work, a->bytes, a->long_); return 0;
+    case PATCH: patch(a, a->used / 3 + 1); return 0;
+    case PATCHES:
+        patch(a, 0);
+        patch(a, a->used / 2 + 1);
+        patch(a, a->used + 1);
+        return 0;
     case INDEX: return 1 - b->index(a->bytes, a->size, 8, a->n, &x, &y);
     case LOCATE: return 0 * b->locate(a->bytes, a->size, a->n, key, 8, &x);
     default: {
@@ -112,6 +135,7 @@ static size_t once(const struct build *b, struct area *a, enum what w)
 
 static double timed(const struct build *b, struct area *a, enum what w, int times)
 {
+    memcpy(a->work, a->bytes, a->long_);
     double t = now();
     for (int i = 0; i < times; i++)
         if (once(b, a, w)) {
@@ -163,13 +187,15 @@ int main(int argc, char **argv)
         }
         printf("S %zu, n %zu: plain sum %.0f ns (%.3f ns a byte), of the index record %.0f ns\n", a.size, a.n, sum, sum / a.long_, index_sum);
         for (int w = 0; w < KINDS; w++) {
-            if (w == COPY)
+            if (w == PATCH || w == PATCHES)
                 continue;
             printf("  %-24s", names[w]);
             double d[2];
             for (int i = 0; i < builds; i++) {
-                d[i] = best[i][w] - (w == DIVIDE ? best[i][COPY] : 0);
+                d[i] = best[i][w] - (w == DIVIDE ? best[i][PATCHES] : w == INSERT || w == ERASE ? best[i][PATCH] : 0);
                 printf(" %9.0f ns %6.3f", d[i], d[i] / (w == INDEX || w == LOCATE ? index_sum : sum));
+                if (w <= DIVIDE)
+                    printf(" %5.2f checks", d[i] / best[i][CHECK]);
             }
             if (builds == 2)
                 printf("   after / before %.2f", d[1] / d[0]);

@@ -1,106 +1,134 @@
--- An edit of one entry: its records lie in the entry's interval, and with the change made they are ready to be spread.
-use Prim.Native.Nat.{ℕ, zero, suc, _+_, _-_, _*_, _≤_, _<_}
-use mathlib.Core.Path.{_≡_, refl, _∙_, sym, ap}
-use mathlib.Core.List.{List, [], _∷_}
-use lib.ListN.{length, take, drop, length-map}
+-- An edit from its lengths to what is made of it: the interval can be read, the lengths told there are the edited records', and what the plan refuses or makes is
+-- the edit refused or made.
+use Prim.Native.Nat.{ℕ, _+_, _-_, _*_, _≤_}
+use mathlib.Core.Path.{_≡_, refl, _∙_, sym, ap, subst}
+use mathlib.Core.List.{List, [], _∷_, map}
+use mathlib.Core.Logic.{⊎-elim}
+use lib.ListN.{length, take, drop}
 use native.Mathlib.Omega.{arith}
-use Rattle.fields.specs.Lists.{swap}
+use types.Run.{OneOf}
+use denote.Enum.Declared.{tagOf}
+use Rattle.fields.specs.Bytes.{splice}
+use Rattle.fields.proofs.Splices.{take-front}
+use Rattle.measures.specs.Judgement.{limit}
 use Rattle.measures.specs.declared.Measures.{Measures}
 use Rattle.measures.proofs.Fine.{fits-small}
-use Rattle.interval.specs.Reading.{recordsIn, Readable}
-use Rattle.interval.specs.Records.{Flat}
-use Rattle.interval.proofs.Lengths.{within-high}
-use Rattle.index.specs.Meaning.{Entry}
-use Rattle.interval_edit.specs.AidChanged.{Goes, Changed}
-use Rattle.interval_edit.specs.declared.Extent.{Extent}
+use Rattle.interval.specs.Reading.{recordsIn}
+use Rattle.interval.proofs.Readable.{records-few}
+use Rattle.interval_edit.specs.AidChanged.{freshIn, Tellable, oldLengths, newLengths}
 use Rattle.interval_edit.specs.declared.Site.{Site}
-use Rattle.interval_edit.proofs.Copies.{changed-flat}
-use Rattle.area.specs.Content.{Filled, Content, dataIn, fill, entriesOf}
-use Rattle.area.specs.Reading.{readArea, whole}
-use Rattle.area.proofs.Filled.{length-fill}
-use Rattle.area.proofs.Sounding.{sound-apart, sound-filled, same-content}
-use Rattle.area.proofs.Places.{lent-data}
-use Rattle.area_find.proofs.Readables.{readable}
-use Rattle.change.specs.Parts.{entryAt, edited}
-use Rattle.change_write.specs.AidAsked.{Ready, editAt, Edits}
-use Rattle.change_write.specs.AidCarried.{MadeOf, MadeEdit}
-use Rattle.change_write.specs.declared.Made.{Made}
+use Rattle.interval_edit.proofs.Edits.{swapped-lens}
+use Rattle.area.specs.Content.{Content, dataIn}
+use Rattle.area.proofs.Places.{data-ends, data-small, lent-data}
+use Rattle.change.specs.Parts.{Edit}
+use Rattle.change.specs.Plan.{Plan, noInterval, noRoom, stores, planOf}
+use Rattle.change_plan.specs.AidEdited.{editAt, Edits, editedRecords, Told, Seen}
+use Rattle.change_plan.specs.AidPlanned.{spreadFor, plannedAs, PlannedAs}
+use Rattle.change_plan.specs.declared.Planned.{Planned}
+use Rattle.change_plan.specs.declared.Planned.the-variants as planned
+use Rattle.change_plan.specs.declared.Spread.{Spread}
+use Rattle.change_plan.proofs.Planned.{the-type}
+use Rattle.change_plan.proofs.Telling.{told-seen}
+use Rattle.change_write.specs.AidStored.{Countable}
+use Rattle.change_write.specs.AidCarried.{Applied, MadeEdit}
+use Rattle.change_write.specs.declared.Made.the-variants.{NoInterval, NoRoom, Written}
+use Rattle.change_write.proofs.Carrying.{is-ready}
 
--- ---- an entry holds what its interval holds
+-- ---- what is left of a plan when `let .. else` has ruled the others out
 
-fill-at : (m : Measures) (area : List ℕ) (es : List Entry) (i : ℕ) → i < length es
-    → entryAt (fill m area es) i .records ≡ recordsIn (dataIn m area (entryAt (fill m area es) i .num))
-fill-at m area [] i h = absurd (omega arith)
-fill-at m area (e ∷ es) zero h = refl
-fill-at m area (e ∷ es) (suc i) h = fill-at m area es i (omega arith)
+pub is-none : (r : Planned) → OneOf (1 ∷ 2 ∷ []) (tagOf the-type r) → OneOf (0 ∷ 1 ∷ []) (tagOf the-type r) → r ≡ planned.NoInterval
+is-none (planned.Ready s) h g = absurd (⊎-elim (λ z. omega arith) (λ z. omega arith) h)
+is-none planned.NoInterval h g = refl
+is-none planned.NoRoom h g = absurd (⊎-elim (λ z. omega arith) (λ z. omega arith) g)
 
-pub entry-holds : (m : Measures) (n : ℕ) (area : List ℕ) (c : Content) → readArea m n area ≡ whole c → (i : ℕ) → i < length (c .filled)
-    → entryAt (c .filled) i .records ≡ recordsIn (dataIn m area (entryAt (c .filled) i .num))
-entry-holds m n area c w i h =
-    let f = sound-filled m n area c (sound-apart m n area c w) in
-    let l = ap length f ∙ length-fill m area (entriesOf (c .filled)) in
-    ap (λ (fs : List Filled). entryAt fs i .records) f
-    ∙ fill-at m area (entriesOf (c .filled)) i (omega (arith, l))
-    ∙ ap (λ (fs : List Filled). recordsIn (dataIn m area (entryAt fs i .num))) (sym f)
+none-planned : (q : Plan) (x : Spread) → planned.NoInterval ≡ plannedAs q x → q ≡ noInterval
+none-planned noInterval x e = refl
+none-planned noRoom x e = absurd (let z : _≡_ {A = ℕ} 0 1 = cc in omega arith)
+none-planned (stores ss) x e = absurd (let z : _≡_ {A = ℕ} 0 1 = cc in omega arith)
 
--- ---- what the scratch counts off
+room-planned : (q : Plan) (x : Spread) → planned.NoRoom ≡ plannedAs q x → q ≡ noRoom
+room-planned noInterval x e = absurd (let z : _≡_ {A = ℕ} 0 1 = cc in omega arith)
+room-planned noRoom x e = refl
+room-planned (stores ss) x e = absurd (let z : _≡_ {A = ℕ} 0 1 = cc in omega arith)
 
-module _ (bytes₀ lens₀ bytes lens : List ℕ) (rs : List (List ℕ)) (f : Extent) (c : Changed bytes₀ lens₀ bytes lens rs f) where
-  pub counted-bytes : f .bytes ≡ length (take (f .bytes) bytes)
-  counted-bytes = c .sums ∙ sym (ap length (changed-flat bytes₀ lens₀ bytes lens rs f c .bytes-are))
+module _ (m : Measures) (n : ℕ) (area : List ℕ) (site : Site) (e : Edit) where
+  pub refused-interval : (r : Planned) → PlannedAs m n area site e r → r ≡ planned.NoInterval → MadeEdit m n area e NoInterval area
+  refused-interval r p q c w =
+      let k : planOf m c e ≡ noInterval = none-planned (planOf m c e) (spreadFor m c site e) (sym q ∙ p c w) in
+      record { answers = rw k; leaves = rw k }
 
-  pub counted-lens : f .count ≡ length (take (f .count) lens)
-  counted-lens = c .many ∙ sym (ap length (changed-flat bytes₀ lens₀ bytes lens rs f c .lens-are) ∙ length-map rs length)
+  pub refused-room : (r : Planned) → PlannedAs m n area site e r → r ≡ planned.NoRoom → MadeEdit m n area e NoRoom area
+  refused-room r p q c w =
+      let k : planOf m c e ≡ noRoom = room-planned (planOf m c e) (spreadFor m c site e) (sym q ∙ p c w) in
+      record { answers = rw k; leaves = rw k }
 
--- ---- the edit
+module _ (m : Measures) (n : ℕ) (area : List ℕ) (site : Site) (new : List ℕ) (d : Edits m n area site (freshIn new)) where
+  abbrev a : ℕ
+  a = (site .number + 1) * m .size
 
-module _ (m : Measures) (n : ℕ) (area : List ℕ) (site : Site) (fresh : List (List ℕ)) (d : Edits m n area site fresh) where
   -- the entry's interval, as it is lent
   abbrev ci : List ℕ
-  ci = take ((site .number + 1) * m .size + m .size - (site .number + 1) * m .size) (drop ((site .number + 1) * m .size) area)
+  ci = take (a + m .size - a) (drop a area)
 
   is : ci ≡ dataIn m area (site .number)
   is = lent-data m n area (d .entered .fits) (site .number) (d .entered .within)
 
-  holds : entryAt (d .entered .content .filled) (site .entry) .records ≡ recordsIn ci
-  holds =
-      entry-holds m n area (d .entered .content) (d .entered .reads) (site .entry) (d .entered .there)
-      ∙ ap (λ (k : ℕ). recordsIn (dataIn m area k)) (sym (d .entered .is))
-      ∙ ap recordsIn (sym is)
+  pub edit-ends : (a + m .size ≤ length area) × (a ≤ limit * 32768) × (m .size ≤ 32768)
+  edit-ends =
+      (data-ends m n area (d .entered .fits) (site .number) (d .entered .within), data-small m n area (d .entered .fits) (site .number) (d .entered .within), fits-small (d .entered .fits))
 
-  -- The entry's interval can be read,
-  pub edit-readable : Readable m ci
-  edit-readable = rw is (readable m n area (d .entered .fits) (record { content = d .entered .content; reads = d .entered .reads }) (site .number) (d .entered .within))
+  abbrev seen : Seen m area site new (map length (editedRecords m area site new))
+  seen = told-seen m n area site new (map length (editedRecords m area site new)) (record { edits = d; lens-are = refl })
 
-  -- and the records that go lie there.
-  pub edit-goes : Goes (recordsIn ci) (site .ordinal) (site .start) (site .gone) (site .span)
-  edit-goes = rw (← holds) (record { starts = d .starts; inside = d .fitting .proper .inside; takes = d .takes })
+  -- however many records there are, a buffer of the longest interval's length holds their lengths
+  pub edit-few : length (recordsIn (dataIn m area (site .number))) + 1 ≤ 32768
+  edit-few = omega (arith, records-few m (dataIn m area (site .number)) (seen .readable), seen .readable .small)
 
-  module _ (bytes₀ lens₀ bytes lens : List ℕ) (f : Extent) (c : Changed bytes₀ lens₀ bytes lens (swap (site .ordinal) (site .gone) fresh (recordsIn ci)) f) where
-    flat : Flat (take (f .bytes) bytes) (take (f .count) lens) (edited (d .entered .content .filled) (editAt site fresh))
-    flat = rw holds (changed-flat bytes₀ lens₀ bytes lens (swap (site .ordinal) (site .gone) fresh (recordsIn ci)) f c)
+  pub edit-countable : Countable m area (site .number)
+  edit-countable =
+      record { there = seen .there; readable = seen .readable; some = omega (arith, d .entered .fits .key-some, d .entered .fits .key-inside); small = seen .area-small }
 
-    -- With the change made they are ready to be spread,
-    pub edit-ready : Ready m n area (site .entry) (site .number) (site .ordinal) (take (f .bytes) bytes) (take (f .count) lens)
-    edit-ready =
-        record {
-          entered = d .entered;
-          edit = editAt site fresh;
-          fitting = d .fitting;
-          entry-is = refl;
-          at-is = refl;
-          flat = flat;
-          few = omega (arith, counted-lens bytes₀ lens₀ bytes lens (swap (site .ordinal) (site .gone) fresh (recordsIn ci)) f c, c .many-most);
-        }
+  module _ (lens : List ℕ) (l : length (recordsIn (dataIn m area (site .number))) + 1 ≤ length lens) where
+    pub edit-lengths : Tellable m ci site (length new) lens
+    edit-lengths =
+        rw is (record { readable = seen .readable; inside = seen .goes .inside; few = d .few; small = omega (arith, seen .new-small); room = omega (arith, l) })
 
-    -- and spread they are the edit, carried out.
-    pub edit-made : (made : Made) (after : List ℕ) → MadeOf m n area (site .entry) (site .ordinal) (take (f .bytes) bytes) (take (f .count) lens) made after
-        → MadeEdit m n area (editAt site fresh) made after
-    edit-made made after a k w =
-        let same : k ≡ d .entered .content = same-content m n area k (d .entered .content) w (d .entered .reads) in
-        a k (editAt site fresh) w refl refl (rw same flat)
+    module _ (told : List ℕ) (r : ℕ) (many : r ≡ length (newLengths ci site (length new)))
+        (are : told ≡ splice (splice lens 0 (oldLengths ci)) 0 (newLengths ci site (length new))) where
+      abbrev fresh : List ℕ
+      fresh = newLengths (dataIn m area (site .number)) site (length new)
 
--- A record that comes in is small.
-pub fresh-small : (m : Measures) (n : ℕ) (area : List ℕ) (site : Site) (new : List ℕ) → Edits m n area site (new ∷ []) → length new ≤ 32768
-fresh-small m n area site new d =
-    omega (arith, within-high (m .least) (m .most) (length new) [] (d .fitting .proper .lengths), d .entered .fits .most-inside, fits-small (d .entered .fits))
+      fresh-is : fresh ≡ map length (editedRecords m area site new)
+      fresh-is =
+          swapped-lens m (dataIn m area (site .number)) (seen .readable) (site .ordinal) (site .start) (site .gone) (site .span) (seen .goes) new
+
+      front : take r told ≡ fresh
+      front =
+          let q : r ≡ length fresh = many ∙ rw is in
+          let t : told ≡ splice (splice lens 0 (oldLengths (dataIn m area (site .number)))) 0 fresh = are ∙ rw is in
+          rw (t, q) (take-front (splice lens 0 (oldLengths (dataIn m area (site .number)))) fresh (length fresh) refl)
+
+      -- The lengths told are those of the edited records, and so many.
+      pub edit-told : Told m n area site new (take r told)
+      edit-told = record { edits = d; lens-are = front ∙ fresh-is }
+
+      pub edit-counted : r ≡ length (take r told)
+      edit-counted = many ∙ sym (ap length front ∙ rw is)
+
+  -- ---- made at the site that the plan names
+
+  module _ (lens : List ℕ) (t : Told m n area site new lens) (s : Spread) (r : Planned) (p : PlannedAs m n area site (editAt site (freshIn new)) r) (q : r ≡ planned.Ready s) where
+    site-is : s .site ≡ site
+    site-is =
+        let c : Content = d .entered .content in
+        let e : Edit = editAt site (freshIn new) in
+        ap (λ (x : Spread). x .site) (is-ready (planOf m c e) (spreadFor m c site e) s (sym q ∙ p c (d .entered .reads)) .is)
+
+    pub at-told : Told m n area (s .site) new lens
+    at-told = rw site-is t
+
+    pub at-planned : PlannedAs m n area (s .site) (editAt (s .site) (freshIn new)) (planned.Ready s)
+    at-planned = subst (λ (x : Site). PlannedAs m n area x (editAt x (freshIn new)) (planned.Ready s)) (sym site-is) (λ c w. sym q ∙ p c w)
+
+    pub made-at : (k : ℕ) (after : List ℕ) → Applied m n area (editAt (s .site) (freshIn new)) k after → MadeEdit m n area (editAt site (freshIn new)) (Written k) after
+    made-at k after x = subst (λ (y : Site). Applied m n area (editAt y (freshIn new)) k after) site-is x

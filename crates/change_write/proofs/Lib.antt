@@ -1,6 +1,9 @@
-pub mod Parts
-pub mod Taking
-pub mod Dividing
-pub mod Spreading
+pub mod Laying
+pub mod Counting
+pub mod Storing
+pub mod Keeping
+pub mod Applying
+pub mod Naming
+pub mod Carrying
 pub mod Editing
 pub mod Unique

@@ -1,2 +1,2 @@
+pub mod AidStored
 pub mod AidCarried
-pub mod AidAsked

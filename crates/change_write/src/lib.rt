@@ -1,19 +1,18 @@
-// A change of one interval of a sound area, carried out: first all that can be refused is found out, then the intervals are stored.
-// Nothing is stored before the last refusal is decided.
-ghost use Prim.Native.Nat.{_+_, _*_, _≤_, _<_};
+// A plan of a change, carried out in the area: it cannot be refused any more. Nothing but lengths and a few keys is copied out of the area; records are
+// moved within it.
+ghost use Prim.Native.Nat.{_+_, _≤_};
 ghost use mathlib.Core.Path.{_≡_};
-ghost use mathlib.Core.List.{[], _∷_};
-ghost use lib.ListN.{length, drop};
-ghost use Rattle.fields.specs.Choice.{pick};
-ghost use Rattle.fields.specs.Bytes.{splice};
-ghost use Rattle.measures.specs.Judgement.{Fits};
-ghost use Rattle.interval.specs.Layout.{form};
-ghost use Rattle.interval.specs.Reading.{cut};
-ghost use Rattle.area_find.specs.AidSought.{Whole};
-ghost use Rattle.change_write.specs.AidCarried.{FreeCounted, EnoughFree, TakenStored, MadeDivided, MadeOf, MadeEdit};
-ghost use Rattle.change_write.specs.AidAsked.{PartWritable, stretch, Laid, Cuttable, separatorAt, partsAt, AllFit, Divides, Ready, editAt, Edits};
-use division::Division;
-use index_write::Cuts;
+ghost use lib.ListN.{length};
+ghost use Rattle.interval.specs.Reading.{recordsIn};
+ghost use Rattle.interval_edit.specs.AidChanged.{freshIn};
+ghost use Rattle.area.specs.Content.{dataIn};
+ghost use Rattle.change_plan.specs.AidEdited.{editAt, Edits, editedRecords, Told, Seen};
+ghost use Rattle.change_plan.specs.AidPlanned.{PlannedAs};
+ghost use Rattle.change_plan.specs.declared.Planned.the-variants.{Ready};
+ghost use Rattle.change_write.specs.AidStored.{Layable, laidAt, Storable, storedAt, Countable, Takes, takenLeft, Parted, partsLeft};
+ghost use Rattle.change_write.specs.AidCarried.{Applied, MadeEdit};
+use change_plan::Planned;
+use change_plan::Spread;
 use interval_edit::Site;
 use measures::Measures;
 
@@ -24,202 +23,218 @@ pub enum Made {
     NoRoom,
 }
 
-// Some bytes of the scratch.
+// Some bytes of the edited records.
 pub(crate) struct Span {
     pub(crate) from: usize,
     pub(crate) to: usize,
 }
 
-// Writes the records from `first` up to `last` of those laid into interval `place` of the buffer.
-pub(crate) fn write_part(
-    area: &mut [u8],
-    place: usize,
-    size: usize,
-    bytes: &[u8],
-    lens: &[u16],
-    first: usize,
-    last: usize,
-)
-    requires { ⌜ PartWritable (length (now area)) place size (now bytes) (now lens) first last ⌝ }
-    ensures { λ _. ⌜ now (area .exit) ≡ splice (now (area .entry)) (place * size) (form size (stretch first last (cut (now (bytes .entry)) (now (lens .entry))))) ⌝ }
-{
-    let from = room::bytes_to(lens, first);
-    let part = &lens[first..last];
-    let to = from + room::bytes_to(part, last - first);
-    interval_write::write_at(area, place * size, size, &bytes[from..to], part);
+// Some of the edited records, and the interval of the buffer that they go to.
+pub(crate) struct Stretch {
+    pub(crate) place: usize,
+    pub(crate) first: usize,
+    pub(crate) last: usize,
 }
 
-// The separator of the cut before record k of those laid.
-pub(crate) fn cut_at(bytes: &[u8], lens: &[u16], k: usize, m: Measures) -> Span
-    requires { ⌜ Cuttable m (now bytes) (now lens) k ⌝ }
-    ensures inside { λ r. ⌜ (r .from ≤ r .to) × (r .to ≤ length (now (bytes .entry))) × (r .to ≤ r .from + 255) ⌝ }
-    ensures is { λ r. ⌜ stretch (r .from) (r .to) (now (bytes .entry)) ≡ separatorAt m (now (bytes .entry)) (now (lens .entry)) k ⌝ }
+// Lays bytes of the edited records from place `at` on. What lies behind the new record goes first, so that nothing is overwritten that is still
+// to be read where the place is the interval's own.
+pub(crate) fn lay(area: &mut [u8], at: usize, base: usize, site: Site, new: &[u8], span: Span)
+    requires { ⌜ Layable (length (now area)) at base site (length (now new)) span ⌝ }
+    ensures { λ _. ⌜ now (area .exit) ≡ laidAt (now (area .entry)) at base site (now (new .entry)) span ⌝ }
 {
-    let left = room::bytes_to(lens, k - 1) + m.offset;
-    let right = room::bytes_to(lens, k) + m.offset;
-    let le = left + m.key;
-    let re = right + m.key;
-    let n = index_write::cut_length(&bytes[left..le], &bytes[right..re]);
-    Span {
-        from: left,
-        to: left + n,
+    let from = span.from;
+    let to = span.to;
+    let start = site.start;
+    let end = start + new.len();
+    let behind = base + start + site.span;
+    if to <= start {
+        fields::carry(area, at, base + from, to - from);
+        return;
     }
+    if end <= from {
+        fields::carry(area, at, behind + (from - end), to - from);
+        return;
+    }
+    fields::carry(area, at + (end - from), behind, to - end);
+    fields::copy(area, at + (start - from), new);
+    fields::carry(area, at, base + from, start - from);
 }
 
-// How many intervals are free.
-pub(crate) fn free_count(area: &[u8], m: Measures, n: usize) -> usize
-    requires { ⌜ Fits m n (length (now area)) × Whole m n (now area) ⌝ }
-    ensures { λ r. ⌜ FreeCounted m n (now (area .entry)) r ⌝ }
+// Stores some of the edited records in an interval: in one that is not theirs, or the first of them in their own.
+pub(crate) fn store(area: &mut [u8], m: Measures, site: Site, new: &[u8], lens: &[u16], s: Stretch)
+    requires { ⌜ Seen m (now area) site (now new) (now lens) × Storable (m .size) (length (now area)) (site .number) (now lens) s ⌝ }
+    ensures { λ _. ⌜ now (area .exit) ≡ storedAt m (now (area .entry)) site (now (new .entry)) s ⌝ }
 {
     let size = m.size;
-    index_step::free_count(&area[..size], measures::width_for(n))
+    let first = s.first;
+    let last = s.last;
+    let from = room::bytes_to(lens, first);
+    let part = &lens[first..last];
+    let len = room::bytes_to(part, last - first);
+    let at = s.place * size;
+    let e = at + size;
+    let base = (site.number + 1) * size;
+    let span = Span {
+        from,
+        to: from + len,
+    };
+    lay(area, at, base, site, new, span);
+    interval_write::close(&mut area[at..e], len, part);
+}
+
+// More than the records that an interval has, by how many bytes they have.
+pub(crate) fn records_below(area: &[u8], m: Measures, number: usize) -> usize
+    requires { ⌜ Countable m (now area) number ⌝ }
+    ensures { λ r. ⌜ length (recordsIn (dataIn m (now (area .entry)) number)) + 1 ≤ r ⌝ }
+{
+    let e = (number + 2) * m.size;
+    fields::read_two(area, e - 4) / m.least + 1
 }
 
 // Stores the later parts in the intervals that they take.
-pub(crate) fn store_taken(
-    area: &mut [u8],
-    m: Measures,
-    n: usize,
-    bytes: &[u8],
-    lens: &[u16],
-    three: bool,
-    first: usize,
-    second: usize,
-)
-    requires { ⌜ Fits m n (length (now area)) × Whole m n (now area) × Laid (now bytes) (now lens) × (first ≤ second) × (second ≤ length (now lens)) × AllFit (m .size) (partsAt three first second (now lens)) ⌝ }
-    requires enough { ⌜ EnoughFree m n (now area) (pick three 2 1) ⌝ }
-    ensures { λ _. ⌜ TakenStored m n (now (area .entry)) (pick three 2 1) (drop 1 (partsAt three first second (cut (now (bytes .entry)) (now (lens .entry))))) (now (area .exit)) ⌝ }
+pub(crate) fn store_taken(area: &mut [u8], m: Measures, new: &[u8], lens: &[u16], spread: Spread)
+    requires { ⌜ Takes m (now area) (now new) (now lens) spread ⌝ }
+    ensures { λ _. ⌜ now (area .exit) ≡ takenLeft (m .size) (now (area .entry)) spread (editedRecords m (now (area .entry)) (spread .site) (now (new .entry))) ⌝ }
 {
-    let size = m.size;
-    let w = measures::width_for(n);
-    let a = index_write::taken(&area[..size], w, 0);
-    if !three {
-        write_part(area, a + 1, size, bytes, lens, first, lens.len());
-        return;
-    }
-    let b = index_write::taken(&area[..size], w, 1);
-    write_part(area, a + 1, size, bytes, lens, first, second);
-    write_part(area, b + 1, size, bytes, lens, second, lens.len());
-}
-
-// Divides the records laid at one cut, or at two: 6 where too few intervals are free, 7 where the new index record has no room.
-pub(crate) fn make_divided(
-    area: &mut [u8],
-    m: Measures,
-    n: usize,
-    entry: usize,
-    number: usize,
-    bytes: &[u8],
-    lens: &[u16],
-    three: bool,
-    first: usize,
-    second: usize,
-) -> Made
-    requires { ⌜ Divides m n (now area) entry number (now bytes) (now lens) three first second ⌝ }
-    ensures { λ r. ⌜ MadeDivided m n (now (area .entry)) entry (partsAt three first second (cut (now (bytes .entry)) (now (lens .entry)))) r (now (area .exit)) ⌝ }
-{
-    let size = m.size;
-    let more = if three { 2 } else { 1 };
-    if free_count(area, m, n) < more {
-        return Made::NoInterval;
-    }
-    let a = cut_at(bytes, lens, first, m);
-    let b = cut_at(bytes, lens, second, m);
-    let cuts = Cuts {
-        three,
-        from: a.from,
-        to: a.to,
-        from2: b.from,
-        to2: b.to,
+    let parts = spread.parts;
+    let last = if parts.many == 3 {
+        parts.second
+    } else {
+        lens.len()
     };
-    let needed = index_write::size_divided(&area[..size], n, entry, bytes, cuts);
-    if size - 7 < needed {
-        return Made::NoRoom;
+    let middle = Stretch {
+        place: spread.a + 1,
+        first: parts.first,
+        last,
+    };
+    store(area, m, spread.site, new, lens, middle);
+    if parts.many == 3 {
+        let end = Stretch {
+            place: spread.b + 1,
+            first: parts.second,
+            last: lens.len(),
+        };
+        store(area, m, spread.site, new, lens, end);
     }
-    store_taken(area, m, n, bytes, lens, three, first, second);
-    index_write::divide(&mut area[..size], n, entry, bytes, cuts);
-    write_part(area, number + 1, size, bytes, lens, 0, first);
-    Made::Written(more + 2)
 }
 
-// Spreads the records laid over as few intervals as hold them: those of the entry, with an edit made at the record `at`.
-pub(crate) fn make(
+// Stores all parts: the intervals taken, the index record, then the old interval.
+pub(crate) fn apply_divided(
     area: &mut [u8],
     m: Measures,
     n: usize,
-    entry: usize,
-    number: usize,
-    at: usize,
-    bytes: &[u8],
+    new: &[u8],
     lens: &[u16],
-) -> Made
-    requires { ⌜ Ready m n (now area) entry number at (now bytes) (now lens) ⌝ }
-    ensures { λ r. ⌜ MadeOf m n (now (area .entry)) entry at (now (bytes .entry)) (now (lens .entry)) r (now (area .exit)) ⌝ }
+    spread: Spread,
+)
+    requires { ⌜ Parted m n (now area) (now new) (now lens) spread ⌝ }
+    ensures { λ _. ⌜ now (area .exit) ≡ partsLeft m n (now (area .entry)) spread (editedRecords m (now (area .entry)) (spread .site) (now (new .entry))) ⌝ }
 {
-    match division::divide(lens, m.size) {
-        Division::Stays => {
-            write_part(area, number + 1, m.size, bytes, lens, 0, lens.len());
-            Made::Written(1)
-        }
-        Division::Two { cut } => {
-            make_divided(area, m, n, entry, number, bytes, lens, false, cut, cut)
-        }
-        Division::Three => {
-            make_divided(area, m, n, entry, number, bytes, lens, true, at, at + 1)
-        }
+    let size = m.size;
+    let site = spread.site;
+    let parts = spread.parts;
+    let two = 2 * m.key;
+    let mut keys = [0u8; 510];
+    let cuts = change_plan::cuts_out(area, m, site, new, lens, parts, &mut keys[..two]);
+    store_taken(area, m, new, lens, spread);
+    index_write::divide(&mut area[..size], n, site.entry, &keys[..two], cuts);
+    let first = Stretch {
+        place: site.number + 1,
+        first: 0,
+        last: parts.first,
+    };
+    store(area, m, site, new, lens, first);
+}
+
+// Carries out what was planned, and tells how many intervals were written.
+pub fn apply(
+    area: &mut [u8],
+    m: Measures,
+    n: usize,
+    new: &[u8],
+    lens: &[u16],
+    spread: Spread,
+) -> usize
+    requires told { ⌜ Told m n (now area) (spread .site) (now new) (now lens) ⌝ }
+    requires planned { ⌜ PlannedAs m n (now area) (spread .site) (editAt (spread .site) (freshIn (now new))) (Ready spread) ⌝ }
+    ensures { λ r. ⌜ Applied m n (now (area .entry)) (editAt (spread .site) (freshIn (now (new .entry)))) r (now (area .exit)) ⌝ }
+{
+    let parts = spread.parts;
+    if parts.many == 1 {
+        let site = spread.site;
+        let all = Stretch {
+            place: site.number + 1,
+            first: 0,
+            last: lens.len(),
+        };
+        store(area, m, site, new, lens, all);
+        return 1;
     }
+    apply_divided(area, m, n, new, lens, spread);
+    parts.many + 1
 }
 
-// A new record in place of those that go: none for an insert, one for an update.
-pub fn put_in(area: &mut [u8], m: Measures, n: usize, site: Site, new: &[u8]) -> Made
-    requires { ⌜ Edits m n (now area) site (now new ∷ []) ⌝ }
-    ensures { λ r. ⌜ MadeEdit m n (now (area .entry)) (editAt site (now (new .entry) ∷ [])) r (now (area .exit)) ⌝ }
+// An edit, with the lengths in a buffer that is long enough.
+pub(crate) fn change_by(
+    area: &mut [u8],
+    m: Measures,
+    n: usize,
+    site: Site,
+    new: &[u8],
+    lens: &mut [u16],
+) -> Made
+    requires { ⌜ Edits m n (now area) site (freshIn (now new)) × (length (recordsIn (dataIn m (now area) (site .number))) + 1 ≤ length (now lens)) ⌝ }
+    ensures { λ r. ⌜ MadeEdit m n (now (area .entry)) (editAt site (freshIn (now (new .entry)))) r (now (area .exit)) ⌝ }
 {
-    let entry = site.entry;
-    let number = site.number;
-    let ordinal = site.ordinal;
-    let a = (number + 1) * m.size;
+    let a = (site.number + 1) * m.size;
     let e = a + m.size;
-    let mut bytes = [0u8; 65536];
-    let mut lens = [0u16; 32768];
-    let flat = interval_edit::put_in(&area[a..e], m, site, new, &mut bytes, &mut lens);
-    let total = flat.bytes;
-    let count = flat.count;
-    make(
-        area,
-        m,
-        n,
-        entry,
-        number,
-        ordinal,
-        &bytes[..total],
-        &lens[..count],
-    )
+    let count = interval_edit::lengths(&area[a..e], m, site, new.len(), lens);
+    let planned = change_plan::plan(area, m, n, site, new, &lens[..count]);
+    let Planned::Ready { spread } = planned else {
+        let Planned::NoRoom = planned else {
+            return Made::NoInterval;
+        };
+        return Made::NoRoom;
+    };
+    Made::Written(apply(area, m, n, new, &lens[..count], spread))
 }
 
-// Those that go taken out, and nothing in their place: an erase. What is left always fits.
-pub fn take_out(area: &mut [u8], m: Measures, n: usize, site: Site) -> Made
-    requires { ⌜ Edits m n (now area) site [] ⌝ }
-    ensures { λ r. ⌜ MadeEdit m n (now (area .entry)) (editAt site []) r (now (area .exit)) ⌝ }
+pub(crate) fn change_few(area: &mut [u8], m: Measures, n: usize, site: Site, new: &[u8]) -> Made
+    requires { ⌜ Edits m n (now area) site (freshIn (now new)) × (length (recordsIn (dataIn m (now area) (site .number))) + 1 ≤ 256) ⌝ }
+    ensures { λ r. ⌜ MadeEdit m n (now (area .entry)) (editAt site (freshIn (now (new .entry)))) r (now (area .exit)) ⌝ }
 {
-    let entry = site.entry;
-    let number = site.number;
-    let ordinal = site.ordinal;
-    let a = (number + 1) * m.size;
-    let e = a + m.size;
-    let mut bytes = [0u8; 65536];
+    let mut lens = [0u16; 256];
+    change_by(area, m, n, site, new, &mut lens)
+}
+
+pub(crate) fn change_some(area: &mut [u8], m: Measures, n: usize, site: Site, new: &[u8]) -> Made
+    requires { ⌜ Edits m n (now area) site (freshIn (now new)) × (length (recordsIn (dataIn m (now area) (site .number))) + 1 ≤ 4096) ⌝ }
+    ensures { λ r. ⌜ MadeEdit m n (now (area .entry)) (editAt site (freshIn (now (new .entry)))) r (now (area .exit)) ⌝ }
+{
+    let mut lens = [0u16; 4096];
+    change_by(area, m, n, site, new, &mut lens)
+}
+
+pub(crate) fn change_many(area: &mut [u8], m: Measures, n: usize, site: Site, new: &[u8]) -> Made
+    requires { ⌜ Edits m n (now area) site (freshIn (now new)) ⌝ }
+    ensures { λ r. ⌜ MadeEdit m n (now (area .entry)) (editAt site (freshIn (now (new .entry)))) r (now (area .exit)) ⌝ }
+{
     let mut lens = [0u16; 32768];
-    let flat = interval_edit::take_out(&area[a..e], m, site, &mut bytes, &mut lens);
-    let total = flat.bytes;
-    let count = flat.count;
-    make(
-        area,
-        m,
-        n,
-        entry,
-        number,
-        ordinal,
-        &bytes[..total],
-        &lens[..count],
-    )
+    change_by(area, m, n, site, new, &mut lens)
+}
+
+// The records that go at a site make way for the new one, or for none where no bytes are handed over. The buffer for the lengths is as long as
+// the interval's bytes ask for.
+pub fn change(area: &mut [u8], m: Measures, n: usize, site: Site, new: &[u8]) -> Made
+    requires { ⌜ Edits m n (now area) site (freshIn (now new)) ⌝ }
+    ensures { λ r. ⌜ MadeEdit m n (now (area .entry)) (editAt site (freshIn (now (new .entry)))) r (now (area .exit)) ⌝ }
+{
+    let many = records_below(area, m, site.number);
+    if many <= 256 {
+        return change_few(area, m, n, site, new);
+    }
+    if many <= 4096 {
+        return change_some(area, m, n, site, new);
+    }
+    change_many(area, m, n, site, new)
 }

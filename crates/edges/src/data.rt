@@ -4,6 +4,7 @@ use crate::print;
 use interval_read::Verdict;
 use measures::Judged;
 use measures::Measures;
+use measures::Numbers;
 
 // Gives each record its ordinal as its key and filling, so that keys ascend.
 fn fill_records(records: &mut [u8], lens: &[u16]) {
@@ -78,7 +79,13 @@ fn shown(ci: &[u8], from: usize) {
 }
 
 fn judged(size: usize, offset: usize, key: usize, most: usize, length: usize) {
-    match measures::judge(size, offset, key, most, length) {
+    let numbers = Numbers {
+        size,
+        offset,
+        key,
+        most,
+    };
+    match measures::judge(numbers, length) {
         Judged::Fine { measures: _, count } => {
             print::words(b" n ");
             print::number(count);

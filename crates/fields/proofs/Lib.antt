@@ -1,5 +1,6 @@
 pub mod Choices
 pub mod Splices
+pub mod Moves
 pub mod Numbers
 pub mod Octets
 pub mod Orders

@@ -16,6 +16,7 @@ use Rattle.fields.proofs.compare.Reads as compare
 use Rattle.fields.proofs.copy.Reads as copy
 use Rattle.fields.proofs.copy_eight.Reads as copy-eight
 use Rattle.fields.proofs.fill.Reads as fill
+use Rattle.fields.proofs.carry.Reads as carry
 
 pub unique-wide : (κs : _) (args : _) (r s : ℕ) (e f : _) → wide.Learnt κs args r e → wide.Learnt κs args s f → r ≡ s
 unique-wide κs args r s e f p q = agree (p .0) (q .0)
@@ -55,3 +56,6 @@ unique-copy-eight κs args r s e f p q = agree p q
 
 pub unique-fill : (κs : _) (args : _) (r s : _) (e f : _) → fill.Learnt κs args r e → fill.Learnt κs args s f → e .0 .now ≡ f .0 .now
 unique-fill κs args r s e f p q = agree p q
+
+pub unique-carry : (κs : _) (args : _) (r s : _) (e f : _) → carry.Learnt κs args r e → carry.Learnt κs args s f → e .0 .now ≡ f .0 .now
+unique-carry κs args r s e f p q = agree p q

@@ -196,3 +196,54 @@ pub fn fill(b: &mut [u8], from: usize, to: usize, byte: u8)
         b[i] = byte;
     }
 }
+
+// The most bytes that are moved at once.
+pub(crate) const BLOCK: usize = 1024;
+
+// Moves bytes to a place left of theirs, blocks at a time and the first block first, so that none is overwritten before it is read.
+pub(crate) fn move_left(b: &mut [u8], to: usize, from: usize, len: usize)
+    requires { ⌜ (to ≤ from) × (from + len ≤ length (now b)) ⌝ }
+    ensures { λ _. ⌜ now (b .exit) ≡ splice (now (b .entry)) to (part (now (b .entry)) from len) ⌝ }
+{
+    let mut block = [0u8; BLOCK];
+    let mut i = 0;
+    while i < len {
+        let k = shorter(len - i, BLOCK);
+        let s = from + i;
+        let e = s + k;
+        copy(&mut block, 0, &b[s..e]);
+        copy(b, to + i, &block[..k]);
+        i += k;
+    }
+}
+
+// Moves bytes to a place right of theirs, the last block first.
+pub(crate) fn move_right(b: &mut [u8], to: usize, from: usize, len: usize)
+    requires { ⌜ (from ≤ to) × (to + len ≤ length (now b)) ⌝ }
+    ensures { λ _. ⌜ now (b .exit) ≡ splice (now (b .entry)) to (part (now (b .entry)) from len) ⌝ }
+{
+    let mut block = [0u8; BLOCK];
+    let mut i = len;
+    while 0 < i {
+        let k = shorter(i, BLOCK);
+        i -= k;
+        let s = from + i;
+        let e = s + k;
+        copy(&mut block, 0, &b[s..e]);
+        copy(b, to + i, &block[..k]);
+    }
+}
+
+// Moves bytes within a buffer; the two places may overlap.
+pub fn carry(b: &mut [u8], to: usize, from: usize, len: usize)
+    requires { ⌜ (to + len ≤ length (now b)) × (from + len ≤ length (now b)) ⌝ }
+    ensures { λ _. ⌜ now (b .exit) ≡ splice (now (b .entry)) to (part (now (b .entry)) from len) ⌝ }
+{
+    if to < from {
+        move_left(b, to, from, len);
+        return;
+    }
+    if from < to {
+        move_right(b, to, from, len);
+    }
+}

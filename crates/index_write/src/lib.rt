@@ -290,22 +290,69 @@ fn write_entries(b: &mut [u8], ib: &[u8], n: usize, i: usize, bytes: &[u8], cuts
     e.size
 }
 
-// Writes the record anew over the old one. Header, kept bytes and the free numbers that are left stay where they lie; the
-// entries are made from a copy, and all between them and the free numbers becomes zero.
-pub fn divide(ib: &mut [u8], n: usize, i: usize, bytes: &[u8], cuts: Cuts)
+// Writes the record anew over the old one, from a copy of it in a buffer that is long enough. Header, kept bytes and the free numbers that are left
+// stay where they lie; all between them and the entries becomes zero.
+pub(crate) fn divide_by(ib: &mut [u8], n: usize, i: usize, bytes: &[u8], cuts: Cuts, old: &mut [u8])
     requires { ⌜ Divisible n i (cutsIn cuts (now bytes)) (now ib) × CutsLie cuts (now bytes) ⌝ }
     requires room { ⌜ indexSize (widthFor n) (newRecord n (now ib) i cuts (now bytes)) ≤ length (now ib) - 7 ⌝ }
-    ensures { λ _. ⌜ now (ib .exit) ≡ indexBytes (widthFor n) (length (now (ib .entry))) (newRecord n (now (ib .entry)) i cuts (now (bytes .entry))) ⌝ }
+    requires long { ⌜ length (now ib) ≤ length (now old) ⌝ }
+    ensures record { λ _. ⌜ now (ib .exit) ≡ indexBytes (widthFor n) (length (now (ib .entry))) (newRecord n (now (ib .entry)) i cuts (now (bytes .entry))) ⌝ }
+    ensures copied { λ _. ⌜ now (old .exit) ≡ splice (now (old .entry)) 0 (now (ib .entry)) ⌝ }
 {
     let size = ib.len();
     let w = measures::width_for(n);
     let more = if cuts.three { 2 } else { 1 };
     let u = 24 + w * (index_step::free_count(ib, w) - more);
-    let mut old = [0u8; 32768];
-    fields::copy(&mut old, 0, ib);
+    fields::copy(old, 0, ib);
     let e = size - 7 - write_entries(ib, &old[..size], n, i, bytes, cuts);
     fields::fill(ib, u, e, 0);
     fields::write_two(ib, 18, u);
     fields::write_two(ib, 20, e);
     fields::write_two(ib, 22, e);
+}
+
+pub(crate) fn divide_small(ib: &mut [u8], n: usize, i: usize, bytes: &[u8], cuts: Cuts)
+    requires { ⌜ Divisible n i (cutsIn cuts (now bytes)) (now ib) × CutsLie cuts (now bytes) ⌝ }
+    requires room { ⌜ indexSize (widthFor n) (newRecord n (now ib) i cuts (now bytes)) ≤ length (now ib) - 7 ⌝ }
+    requires short { ⌜ length (now ib) ≤ 512 ⌝ }
+    ensures { λ _. ⌜ now (ib .exit) ≡ indexBytes (widthFor n) (length (now (ib .entry))) (newRecord n (now (ib .entry)) i cuts (now (bytes .entry))) ⌝ }
+{
+    let mut old = [0u8; 512];
+    divide_by(ib, n, i, bytes, cuts, &mut old)
+}
+
+pub(crate) fn divide_middling(ib: &mut [u8], n: usize, i: usize, bytes: &[u8], cuts: Cuts)
+    requires { ⌜ Divisible n i (cutsIn cuts (now bytes)) (now ib) × CutsLie cuts (now bytes) ⌝ }
+    requires room { ⌜ indexSize (widthFor n) (newRecord n (now ib) i cuts (now bytes)) ≤ length (now ib) - 7 ⌝ }
+    requires short { ⌜ length (now ib) ≤ 4096 ⌝ }
+    ensures { λ _. ⌜ now (ib .exit) ≡ indexBytes (widthFor n) (length (now (ib .entry))) (newRecord n (now (ib .entry)) i cuts (now (bytes .entry))) ⌝ }
+{
+    let mut old = [0u8; 4096];
+    divide_by(ib, n, i, bytes, cuts, &mut old)
+}
+
+pub(crate) fn divide_large(ib: &mut [u8], n: usize, i: usize, bytes: &[u8], cuts: Cuts)
+    requires { ⌜ Divisible n i (cutsIn cuts (now bytes)) (now ib) × CutsLie cuts (now bytes) ⌝ }
+    requires room { ⌜ indexSize (widthFor n) (newRecord n (now ib) i cuts (now bytes)) ≤ length (now ib) - 7 ⌝ }
+    ensures { λ _. ⌜ now (ib .exit) ≡ indexBytes (widthFor n) (length (now (ib .entry))) (newRecord n (now (ib .entry)) i cuts (now (bytes .entry))) ⌝ }
+{
+    let mut old = [0u8; 32768];
+    divide_by(ib, n, i, bytes, cuts, &mut old)
+}
+
+// Writes the record anew; the buffer for the old one is as long as its size asks for.
+pub fn divide(ib: &mut [u8], n: usize, i: usize, bytes: &[u8], cuts: Cuts)
+    requires { ⌜ Divisible n i (cutsIn cuts (now bytes)) (now ib) × CutsLie cuts (now bytes) ⌝ }
+    requires room { ⌜ indexSize (widthFor n) (newRecord n (now ib) i cuts (now bytes)) ≤ length (now ib) - 7 ⌝ }
+    ensures { λ _. ⌜ now (ib .exit) ≡ indexBytes (widthFor n) (length (now (ib .entry))) (newRecord n (now (ib .entry)) i cuts (now (bytes .entry))) ⌝ }
+{
+    if ib.len() <= 512 {
+        divide_small(ib, n, i, bytes, cuts);
+        return;
+    }
+    if ib.len() <= 4096 {
+        divide_middling(ib, n, i, bytes, cuts);
+        return;
+    }
+    divide_large(ib, n, i, bytes, cuts);
 }

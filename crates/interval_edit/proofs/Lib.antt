@@ -1,2 +1,3 @@
-pub mod Copies
+pub mod Edits
+pub mod Moves
 pub mod Unique

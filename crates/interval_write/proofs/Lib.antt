@@ -1,4 +1,3 @@
-pub mod Runs
 pub mod Written
 pub mod Stores
 pub mod Unique

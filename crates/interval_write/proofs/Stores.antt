@@ -3,13 +3,13 @@ use Prim.Native.Nat.{ℕ, _+_, _-_, _≤_, _<_}
 use mathlib.Core.Path.{_≡_, refl, _∙_}
 use mathlib.Core.List.{List, _++_, map, append-assoc}
 use lib.ListN.{length, take, drop, replicate, length-append, length-replicate, set}
-use lib.Seq.{take-length}
+use lib.Seq.{take-length, length-take-le, take-take}
 use native.Mathlib.Omega.{arith}
 use borrow.Author.Tests.{le-leb, lt-leb}
 use Rattle.fields.specs.Bytes.{digits, splice}
 use Rattle.fields.specs.Lists.{sum, concat}
 use Rattle.fields.proofs.Numbers.{length-digits}
-use Rattle.fields.proofs.Splices.{splice-splice, splice-after, splice-end, set-splice, mid-splice, length-mid}
+use Rattle.fields.proofs.Splices.{splice-splice, splice-after, splice-end, set-splice, mid-splice, length-mid, take-front}
 use Rattle.room.specs.Room.{groups, need}
 use Rattle.interval.specs.Layout.{rdfBytes, groupBytes, groupsBytes, cidf, layout, form}
 use Rattle.interval.specs.Reading.{cut}
@@ -63,32 +63,34 @@ form-cut S bytes lens e =
     let m : map length (cut bytes lens) ≡ lens = map-length-cut bytes lens (omega arith) in
     rw (m, c, length-replicate)
 
--- all stores of the writer
-module _ (b bytes lens : List ℕ) (left : ℕ) (fits : need lens ≤ length b) (same : sum lens ≡ length bytes)
-    (place : left + length (groupsBytes (groups lens)) ≡ length b - 4) where
-  pub all-stored :
-      splice
-      (splice (splice (splice b left (groupsBytes (groups lens))) (length bytes) (replicate (left - length bytes) 0)) 0 bytes)
-      (length b - 4)
-      (cidf (length bytes) (left - length bytes))
-      ≡ form (length b) (cut bytes lens)
+-- all that follows the records: RDFs, zeros and CIDF
+module _ (b lens : List ℕ) (d left : ℕ) (fits : need lens ≤ length b) (same : sum lens ≡ d) (place : left + length (groupsBytes (groups lens)) ≡ length b - 4) where
+  all-stored : splice (splice (splice b left (groupsBytes (groups lens))) d (replicate (left - d) 0)) (length b - 4) (cidf d (left - d))
+      ≡ form (length b) (cut (take d b) lens)
   all-stored =
-      let d : ℕ = length bytes in
       let u : ℕ = left - d in
       let R : List ℕ = groupsBytes (groups lens) in
       let Z : List ℕ = replicate u 0 in
       let n = need-bytes lens in
+      let lT : length (take d b) ≡ d = length-take-le d b (omega arith) in
       let lZ : length {A = ℕ} (replicate u 0) ≡ u = length-replicate u 0 in
       let lC : length (cidf d u) ≡ 4 = simp length-append (omega (arith, length-digits 2 d, length-digits 2 u)) in
       let lZR : length (Z ++ R) ≡ u + length R = simp length-append (omega arith) in
-      let lB : length (bytes ++ (Z ++ R)) ≡ d + (u + length R) = simp length-append (omega arith) in
-      let lA : length ((bytes ++ (Z ++ R)) ++ cidf d u) ≡ length b = simp length-append (omega (arith, length-digits 2 d, length-digits 2 u)) in
+      let lA : length ((Z ++ R) ++ cidf d u) ≡ u + length R + 4 = simp length-append (omega (arith, length-digits 2 d, length-digits 2 u)) in
       let e1 : splice (splice b left R) d Z ≡ splice b d (Z ++ R) = splice-splice b d left Z R (omega arith) (omega arith) in
-      let e2 : splice (splice b d (Z ++ R)) 0 bytes ≡ splice b 0 (bytes ++ (Z ++ R)) = splice-splice b 0 d bytes (Z ++ R) (omega arith) (omega arith) in
-      let e3 : splice (splice b 0 (bytes ++ (Z ++ R))) (length b - 4) (cidf d u) ≡ splice b 0 ((bytes ++ (Z ++ R)) ++ cidf d u) =
-      splice-after b 0 (length b - 4) (bytes ++ (Z ++ R)) (cidf d u) (omega arith) (omega arith) in
+      let e2 : splice (splice b d (Z ++ R)) (length b - 4) (cidf d u) ≡ splice b d ((Z ++ R) ++ cidf d u) =
+      splice-after b d (length b - 4) (Z ++ R) (cidf d u) (omega arith) (omega arith) in
       let q : length b - need lens ≡ u = omega arith in
-      rw (e1, e2, e3, form-cut (length b) bytes lens same, q, splice-end b 0 ((bytes ++ (Z ++ R)) ++ cidf d u) (omega arith)) (simp append-assoc)
+      rw (e1, e2, form-cut (length b) (take d b) lens (omega arith), lT, q, splice-end b d ((Z ++ R) ++ cidf d u) (omega arith)) (simp append-assoc)
+
+  pub closed : (x y z : List ℕ) → x ≡ splice b left (groupsBytes (groups lens)) → y ≡ splice x d (replicate (left - d) 0)
+      → z ≡ splice y (length b - 4) (cidf d (left - d)) → z ≡ form (length b) (cut (take d b) lens)
+  closed x y z e f g = g ∙ rw (f, e) all-stored
+
+-- the records' bytes, copied to the front, are what is closed
+pub copied-closed : (b bytes lens c ys : List ℕ) → length c ≡ length b → c ≡ splice b 0 bytes → ys ≡ form (length c) (cut (take (length bytes) c) lens)
+    → ys ≡ form (length b) (cut bytes lens)
+copied-closed b bytes lens c ys l e q = q ∙ rw (l, e, take-front b bytes (length bytes) refl)
 
 -- an interval that was lent from the middle of an area, and has come back written
 pub lent : (xs : List ℕ) (at size : ℕ) (bytes lens ys : List ℕ) → at + size ≤ length xs → need lens ≤ size → sum lens ≡ length bytes
@@ -99,3 +101,12 @@ lent xs at size bytes lens ys h k e q =
     let m : map length (cut bytes lens) ≡ lens = map-length-cut bytes lens (omega arith) in
     let l : length (form size (cut bytes lens)) ≡ size = length-form size (cut bytes lens) (rw m k) in
     rw (q, n, length-mid xs at size h) (mid-splice xs (form size (cut bytes lens)) at size l)
+
+-- and one that had bytes at its front, and has come back closed
+pub closed-lent : (xs : List ℕ) (at size d : ℕ) (bs lens ys : List ℕ) → at + size ≤ length xs → d ≤ size → need lens ≤ size → sum lens ≡ length bs
+    → take d (drop at xs) ≡ bs
+    → ys ≡ form (length (take (at + size - at) (drop at xs))) (cut (take d (take (at + size - at) (drop at xs))) lens)
+    → take at xs ++ (ys ++ drop (at + size - at) (drop at xs)) ≡ splice xs at (form size (cut bs lens))
+closed-lent xs at size d bs lens ys h m k e f q =
+    let t : take d (take (at + size - at) (drop at xs)) ≡ bs = take-take d (at + size - at) (drop at xs) (omega arith) ∙ f in
+    lent xs at size bs lens ys h k e (q ∙ rw t)

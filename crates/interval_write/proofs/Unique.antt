@@ -3,11 +3,11 @@
 -- what is lent at exit. So these lemmas speak of the contracts themselves, and a contract that is made weaker breaks its own.
 use mathlib.Core.Path.{_≡_}
 use Rattle.fields.proofs.Choices.{agree}
+use Rattle.interval_write.proofs.close.Reads as close
 use Rattle.interval_write.proofs.write.Reads as write
-use Rattle.interval_write.proofs.write_at.Reads as write-at
+
+pub unique-close : (κs : _) (args : _) (r s : _) (e f : _) → close.Learnt κs args r e → close.Learnt κs args s f → e .0 .now ≡ f .0 .now
+unique-close κs args r s e f p q = agree p q
 
 pub unique-write : (κs : _) (args : _) (r s : _) (e f : _) → write.Learnt κs args r e → write.Learnt κs args s f → e .0 .now ≡ f .0 .now
 unique-write κs args r s e f p q = agree p q
-
-pub unique-write-at : (κs : _) (args : _) (r s : _) (e f : _) → write-at.Learnt κs args r e → write-at.Learnt κs args s f → e .0 .now ≡ f .0 .now
-unique-write-at κs args r s e f p q = agree p q

@@ -13,6 +13,14 @@ pub struct Measures {
     pub most: usize,
 }
 
+// The four numbers that a request is asked with: the size of an interval, the key's offset and length, the longest record.
+pub struct Numbers {
+    pub size: usize,
+    pub offset: usize,
+    pub key: usize,
+    pub most: usize,
+}
+
 pub enum Judged {
     Fine { measures: Measures, count: usize },
     Outside,
@@ -76,9 +84,13 @@ pub fn permitted(size: usize) -> bool
 
 // Refusal 1: whether the four measures and the buffer's length are what document 01 allows, with the number of data intervals.
 // The size is judged before anything is divided by it, and sums are taken only of what is known to be small.
-pub fn judge(size: usize, offset: usize, key: usize, most: usize, length: usize) -> Judged
-    ensures { λ r. ⌜ r ≡ judgedOf size offset key most length ⌝ }
+pub fn judge(numbers: Numbers, length: usize) -> Judged
+    ensures { λ r. ⌜ r ≡ judgedOf (numbers .size) (numbers .offset) (numbers .key) (numbers .most) length ⌝ }
 {
+    let size = numbers.size;
+    let offset = numbers.offset;
+    let key = numbers.key;
+    let most = numbers.most;
     if !permitted(size) {
         return Judged::Outside;
     }

@@ -27,16 +27,15 @@ use Rattle.change.proofs.Made.{made-laid, made-whole, made-fewest, made-only-na
 use Rattle.requests.specs.Answers.{numberOf}
 use Rattle.requests.specs.Model.{Change}
 use Rattle.requests.specs.Reading.{checkOf}
-use Rattle.requests.specs.Changing.{Outcome}
-use Rattle.requests.specs.Accepted.{bytesOf, editOf}
+use Rattle.requests.specs.Changing.{Outcome, bytesOf, keyIn, editOf}
 use Rattle.requests.specs.declared.Answer.{Answer}
 use Rattle.requests.specs.declared.Answer.the-variants.{Intact}
 use Rattle.requests.proofs.Edits.{ledTo}
+use Rattle.requests.proofs.Ways.{Carried, carried}
 use Rattle.promises.specs.Trace.{Sound, ChangeAllowed}
-use Rattle.promises.specs.Home.{keyIn}
 use Rattle.promises.specs.Changes.{SpreadsFewest, OnlyNamedWritten, CountsTrue, CutPrescribed}
 use Rattle.promises.specs.Prescribed.{broughtBy}
-use Rattle.promises.proofs.Ways.{home, way-fits, way-placed, way-edits, Carried, carried, edit-entry, separators-cuts}
+use Rattle.promises.proofs.Ways.{edit-entry, home, way-fits, way-placed, way-edits}
 use Rattle.promises.proofs.History.{change-octets, change-makes}
 use Rattle.promises.proofs.Prescribed.{made-prescribed}
 use Rattle.promises.proofs.Parts.{new, new-records, new-numbers, new-many, new-parts, new-seps, written-forms, named-among, taken-apart}
@@ -54,8 +53,8 @@ module _ (size offset key most : ℕ) (m : Measures) (n : ℕ) (area : List ℕ)
   bytes : Octets (bytesOf ch)
   bytes = change-octets size offset key most area after ch a k
 
-  did : Carried size offset key most m n area c s ch
-  did = carried size offset key most m n area c s ch (ap numberOf (sym (change-makes size offset key most area after ch a k .answers)) ∙ z)
+  did : Carried size offset key most area m n c (s .judges) (s .reads) ch
+  did = carried size offset key most area m n c (s .judges) (s .reads) ch (ap numberOf (sym (change-makes size offset key most area after ch a k .answers)) ∙ z)
 
   left : after ≡ stored (m .size) area (did .ss)
   left = change-makes size offset key most area after ch a k .leaves ∙ ap (λ (o : Outcome). o .area) (did .leaves)
@@ -147,7 +146,7 @@ module _ (size offset key most : ℕ) (m : Measures) (n : ℕ) (area : List ℕ)
         let p = made-prescribed m (m .size) (edited (c .filled) e) (broughtBy ch) (e .ordinal) (way-placed size offset key most m n area c s ch (did .fine) bytes (did .legal)) in
         record {
           parts = rw (old-records, new-parts m c f ps some) p;
-          cuts = new-seps m c f ps some ∙ rw (new-parts m c f ps some, separators-cuts m ps);
+          cuts = new-seps m c f ps some ∙ rw (new-parts m c f ps some);
         }
 
 -- A check of a sound area tells how many records and how many free intervals it has.

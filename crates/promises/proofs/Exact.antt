@@ -1,10 +1,12 @@
 -- Refusals are exact: every request answers with the number of the first condition of its table that holds, and with 0 if none does.
 use Prim.Native.Nat.{ℕ}
-use mathlib.Core.Path.{_≡_, refl, ap}
+use mathlib.Core.Path.{_≡_, refl, _∙_, sym, ap}
+use mathlib.Core.Bool.{Bool, true, false}
 use mathlib.Core.List.{List, []}
-use mathlib.Core.Logic.{_⊎_, inl, inr}
+use mathlib.Core.Logic.{inl, inr}
 use lib.ListN.{length}
 use Rattle.fields.specs.Bytes.{Octets}
+use Rattle.fields.proofs.Choices.{false-true}
 use Rattle.measures.specs.Judgement.{judgedOf, measures, countOf}
 use Rattle.measures.specs.declared.Measures.{Measures}
 use Rattle.measures.specs.declared.Judged.the-variants.{Fine}
@@ -13,21 +15,24 @@ use Rattle.interval.specs.Records.{keyOf}
 use Rattle.area.specs.Content.{Content, recordsOf}
 use Rattle.area.specs.Reading.{damaged, whole, readArea}
 use Rattle.change.specs.Parts.{Edit}
+use Rattle.change.specs.Plan.{planOf}
 use Rattle.change.proofs.Made.{erase-stays-put}
 use Rattle.requests.specs.Answers.{numberOf}
 use Rattle.requests.specs.Records.{withKey}
 use Rattle.requests.specs.Model.{Change, insert, update, erase, Legal}
 use Rattle.requests.specs.Finding.{Keyed}
-use Rattle.requests.specs.Changing.{insertOf, updateOf, eraseOf}
-use Rattle.requests.specs.Accepted.{changeOf, bytesOf, editOf}
+use Rattle.requests.specs.Changing.{bytesOf, lengthFine, editOf, carryOut, changeOf}
 use Rattle.requests.specs.declared.Answer.{Answer}
 use Rattle.requests.specs.declared.Answer.the-variants as answer
+use Rattle.requests.proofs.Gets.{with-keyed}
+use Rattle.requests.proofs.Proper.{some-first}
+use Rattle.requests.proofs.Ways.{unlawful, Decided, way-length, way-keyed, way-planned}
 use Rattle.promises.specs.Tables.{Table, done, row, First, OutsideLimits, DamagedSomewhere, Present, Absent, WantOfInterval, WantOfRoom, tableFor, changeTable}
 use Rattle.promises.specs.Trace.{Request, check, get, getAt, changes, ChangeAllowed, Allowed, Sound}
-use Rattle.promises.specs.Home.{keyIn, LengthFine}
-use Rattle.promises.proofs.Ways.{unlawful, length-either, way-length, way-unlawful, way-planned, way-fits}
+use Rattle.promises.specs.Home.{LengthFine}
+use Rattle.promises.proofs.Ways.{fine-tested, tested-fine, way-fits}
 use Rattle.promises.proofs.History.{change-octets, change-makes}
-use Rattle.promises.proofs.Rows.{first-two, held, keyed-either, none-with, some-with}
+use Rattle.promises.proofs.Rows.{first-two, held, none-with, some-with}
 use Rattle.promises.proofs.ExactReads.{check-exact, get-exact, get-at-exact}
 use Rattle.promises.proofs.ExactPlans.{plan-rows}
 
@@ -42,16 +47,12 @@ module _ (size offset key most : ℕ) (area : List ℕ) where
   told ch = numberOf (changeOf size offset key most area ch .answer)
 
   change-outside : (ch : Change) → judgedOf size offset key most (length area) ≡ judged.Outside → told ch ≡ 1
-  unfolding insertOf updateOf eraseOf
-  change-outside (insert r) o = rw o
-  change-outside (update r) o = rw o
-  change-outside (erase wanted) o = rw o
+  unfolding changeOf
+  change-outside ch o = rw o
 
   change-damaged : (ch : Change) → judgedOf size offset key most (length area) ≡ Fine m n → (p : ℕ) → readArea m n area ≡ damaged p → told ch ≡ 2
-  unfolding insertOf updateOf eraseOf
-  change-damaged (insert r) j p d = rw (j, d)
-  change-damaged (update r) j p d = rw (j, d)
-  change-damaged (erase wanted) j p d = rw (j, d)
+  unfolding changeOf
+  change-damaged ch j p d = rw (j, d)
 
   module _ (o : Octets area) where
     sound : (c : Content) → judgedOf size offset key most (length area) ≡ Fine m n → readArea m n area ≡ whole c → Sound size offset key most m n area c
@@ -62,55 +63,52 @@ module _ (size offset key most : ℕ) (area : List ℕ) where
       rs = recordsOf (c .filled)
 
       -- row 3, and those after it
-      by-length : (ch : Change) (later : Table) → (LengthFine m ch → First later (told ch)) → First (row 3 (LengthFine m ch → ⊥) later) (told ch)
-      by-length ch later more = go (length-either m ch)
+      by-length : (ch : Change) (later : Table) → (lengthFine m ch ≡ true → First later (told ch)) → First (row 3 (LengthFine m ch → ⊥) later) (told ch)
+      by-length ch later more = go (lengthFine m ch) refl
         where
-          go : LengthFine m ch ⊎ (LengthFine m ch → ⊥) → First (row 3 (LengthFine m ch → ⊥) later) (told ch)
-          go (inl f) = inr (λ (g : LengthFine m ch → ⊥). g f, more f)
-          go (inr f) = inl (f, rw (way-length size offset key most m n area c s ch f))
+          go : (t : Bool) → lengthFine m ch ≡ t → First (row 3 (LengthFine m ch → ⊥) later) (told ch)
+          go true f = inr (λ (g : LengthFine m ch → ⊥). g (tested-fine m ch f), more f)
+          go false f = inl (λ (g : LengthFine m ch). false-true (sym f ∙ fine-tested m ch g), rw (way-length size offset key most area m n c (s .judges) (s .reads) ch f))
 
-      -- row 4, and those after it
-      by-presence : (r : List ℕ) (later : Table) → LengthFine m (insert r) → (Legal m (insert r) rs → First later (told (insert r)))
-          → First (row 4 (Present size offset key most area (keyOf m r)) later) (told (insert r))
-      by-presence r later f more = go (keyed-either size offset key most area (keyOf m r) rs)
-        where
-          go : ((x : List ℕ) × Keyed m (keyOf m r) rs x) ⊎ ((x : List ℕ) → Keyed m (keyOf m r) rs x → ⊥)
-              → First (row 4 (Present size offset key most area (keyOf m r)) later) (told (insert r))
-          go (inl x) = inl ((c, s .reads, x), rw (way-unlawful size offset key most m n area c s (insert r) f (some-with size offset key most area (keyOf m r) rs x)))
-          go (inr x) =
-              inr (
-                λ (h : Present size offset key most area (keyOf m r)).
-                    let y = held size offset key most area (λ (d : Content). (z : List ℕ) × Keyed m (keyOf m r) (recordsOf (d .filled)) z) c (s .reads) h in
-                    x (y .0) (y .1),
-                more (none-with size offset key most area (keyOf m r) rs x),
-              )
+      -- Some record has a key exactly if one is found by it,
+      present : (wanted : List ℕ) → (withKey m wanted rs ≡ [] → ⊥) → Present size offset key most area wanted
+      present wanted h = let x = some-first (withKey m wanted rs) h in (c, s .reads, (x .0, with-keyed m wanted rs (x .0) (x .1) (x .2)))
 
-      -- row 5, and those after it, for a change that is refused with 5
-      by-absence : (ch : Change) → unlawful ch ≡ answer.Absent → (later : Table) → LengthFine m ch
-          → (((x : List ℕ) × Keyed m (keyIn m ch) rs x) → Legal m ch rs) → (((x : List ℕ) → Keyed m (keyIn m ch) rs x → ⊥) → Legal m ch rs → ⊥)
-          → (Legal m ch rs → First later (told ch)) → First (row 5 (Absent size offset key most area (keyIn m ch)) later) (told ch)
-      by-absence ch u later f there gone more = go (keyed-either size offset key most area (keyIn m ch) rs)
+      present-some : (wanted : List ℕ) → Present size offset key most area wanted → withKey m wanted rs ≡ [] → ⊥
+      present-some wanted h =
+          some-with size offset key most area wanted rs
+          (held size offset key most area (λ (d : Content). (r : List ℕ) × Keyed m wanted (recordsOf (d .filled)) r) c (s .reads) h)
+
+      -- and none exactly if none is.
+      absent : (wanted : List ℕ) → ((withKey m wanted rs ≡ [] → ⊥) → ⊥) → Absent size offset key most area wanted
+      absent wanted h = (c, s .reads, λ (r : List ℕ) (k : Keyed m wanted rs r). h (some-with size offset key most area wanted rs (r, k)))
+
+      absent-none : (wanted : List ℕ) → Absent size offset key most area wanted → withKey m wanted rs ≡ []
+      absent-none wanted h =
+          none-with size offset key most area wanted rs
+          (held size offset key most area (λ (d : Content). (r : List ℕ) → Keyed m wanted (recordsOf (d .filled)) r → ⊥) c (s .reads) h)
+
+      -- row 4 or 5, and those after it: its condition holds exactly where the change may not be made
+      by-law : (ch : Change) (condition : Type 0) → ((Legal m ch rs → ⊥) → condition) → (condition → Legal m ch rs → ⊥) → (later : Table) → lengthFine m ch ≡ true
+          → (Legal m ch rs → First later (told ch)) → First (row (numberOf (unlawful ch)) condition later) (told ch)
+      by-law ch condition told-so only-so later f more = go (way-keyed size offset key most area m n c (s .judges) (s .reads) ch f)
         where
-          go : ((x : List ℕ) × Keyed m (keyIn m ch) rs x) ⊎ ((x : List ℕ) → Keyed m (keyIn m ch) rs x → ⊥)
-              → First (row 5 (Absent size offset key most area (keyIn m ch)) later) (told ch)
-          go (inl x) =
-              inr (
-                λ (h : Absent size offset key most area (keyIn m ch)).
-                    held size offset key most area (λ (d : Content). (z : List ℕ) → Keyed m (keyIn m ch) (recordsOf (d .filled)) z → ⊥) c (s .reads) h (x .0) (x .1),
-                more (there x),
-              )
-          go (inr x) = inl ((c, s .reads, x), rw (way-unlawful size offset key most m n area c s ch f (gone x), u))
+          go : Decided (Legal m ch rs) ch area (carryOut m area (planOf m c (editOf m c ch))) (changeOf size offset key most area ch)
+              → First (row (numberOf (unlawful ch)) condition later) (told ch)
+          go (inl d) = inr (λ (x : condition). only-so x (d .0), more (d .0))
+          go (inr d) = inl (told-so (d .0), rw (d .1))
 
       -- rows 6 and 7
-      by-plan : (ch : Change) → Octets (bytesOf ch) → LengthFine m ch → Legal m ch rs
+      by-plan : (ch : Change) → Octets (bytesOf ch) → lengthFine m ch ≡ true → Legal m ch rs
           → First (row 6 (WantOfInterval size offset key most area ch) (row 7 (WantOfRoom size offset key most area ch) done)) (told ch)
-      by-plan ch b f l = rw (way-planned size offset key most m n area c s ch f l) (plan-rows size offset key most area c s ch b f l)
+      by-plan ch b f l = rw (way-planned size offset key most area m n c (s .judges) (s .reads) ch f l) (plan-rows size offset key most area c s ch b f l)
 
       -- an erase has neither
-      erase-done : (wanted : List ℕ) → Octets wanted → LengthFine m (erase wanted) → Legal m (erase wanted) rs → told (erase wanted) ≡ 0
+      erase-done : (wanted : List ℕ) → Octets wanted → lengthFine m (erase wanted) ≡ true → Legal m (erase wanted) rs → told (erase wanted) ≡ 0
       erase-done wanted b f l =
           let e : Edit = editOf m c (erase wanted) in
-          rw (way-planned size offset key most m n area c s (erase wanted) f l, erase-stays-put m n area c e (way-fits size offset key most m n area c s (erase wanted) f b l) refl)
+          let p = erase-stays-put m n area c e (way-fits size offset key most m n area c s (erase wanted) f b l) refl in
+          rw (way-planned size offset key most area m n c (s .judges) (s .reads) (erase wanted) f l, p)
 
     -- the rows of a change after the second
     abbrev planRows : Change → Table
@@ -121,17 +119,17 @@ module _ (size offset key most : ℕ) (area : List ℕ) where
     lastRows (update r) = row 5 (Absent size offset key most area (keyOf m r)) (planRows (update r))
     lastRows (erase wanted) = row 5 (Absent size offset key most area wanted) done
 
-    last-rows : (c : Content) → Sound size offset key most m n area c → (ch : Change) → Octets (bytesOf ch) → LengthFine m ch → First (lastRows ch) (told ch)
-    last-rows c s (insert r) b f = by-presence c s r (planRows (insert r)) f (by-plan c s (insert r) b f)
+    last-rows : (c : Content) → Sound size offset key most m n area c → (ch : Change) → Octets (bytesOf ch) → lengthFine m ch ≡ true → First (lastRows ch) (told ch)
+    last-rows c s (insert r) b f =
+        by-law c s (insert r) (Present size offset key most area (keyOf m r)) (present c s (keyOf m r)) (present-some c s (keyOf m r)) (planRows (insert r)) f
+        (by-plan c s (insert r) b f)
     last-rows c s (update r) b f =
-        by-absence c s (update r) refl (planRows (update r)) f (some-with size offset key most area (keyOf m r) (recordsOf (c .filled)))
-        (λ (x : (z : List ℕ) → Keyed m (keyOf m r) (recordsOf (c .filled)) z → ⊥) (g : withKey m (keyOf m r) (recordsOf (c .filled)) ≡ [] → ⊥).
-        g (none-with size offset key most area (keyOf m r) (recordsOf (c .filled)) x))
-        (by-plan c s (update r) b f)
+        by-law c s (update r) (Absent size offset key most area (keyOf m r)) (absent c s (keyOf m r))
+        (λ (x : Absent size offset key most area (keyOf m r)) (l : withKey m (keyOf m r) (recordsOf (c .filled)) ≡ [] → ⊥). l (absent-none c s (keyOf m r) x))
+        (planRows (update r)) f (by-plan c s (update r) b f)
     last-rows c s (erase wanted) b f =
-        by-absence c s (erase wanted) refl done f (some-with size offset key most area wanted (recordsOf (c .filled)))
-        (λ (x : (z : List ℕ) → Keyed m wanted (recordsOf (c .filled)) z → ⊥) (g : withKey m wanted (recordsOf (c .filled)) ≡ [] → ⊥).
-        g (none-with size offset key most area wanted (recordsOf (c .filled)) x))
+        by-law c s (erase wanted) (Absent size offset key most area wanted) (absent c s wanted)
+        (λ (x : Absent size offset key most area wanted) (l : withKey m wanted (recordsOf (c .filled)) ≡ [] → ⊥). l (absent-none c s wanted x)) done f
         (erase-done c s wanted b f)
 
     all-rows : (ch : Change) → Octets (bytesOf ch)

@@ -1,6 +1,7 @@
 -- Rows 6 and 7: want of an interval and want of room in the index record, said over the interval to which the key belongs.
 use Prim.Native.Nat.{ℕ, _*_, _+_, _-_, _≤_, _<_}
 use mathlib.Core.Path.{_≡_, refl, _∙_, sym, ap}
+use mathlib.Core.Bool.{true}
 use mathlib.Core.List.{List, [], _∷_, _++_, map}
 use mathlib.Core.Logic.{_⊎_, inl, inr}
 use lib.ListN.{length, take, drop}
@@ -30,15 +31,14 @@ use Rattle.change.proofs.After.{after-meaning}
 use Rattle.change.proofs.Fitted.{one-to-three}
 use Rattle.requests.specs.Answers.{numberOf}
 use Rattle.requests.specs.Model.{Change, makeChange, Legal}
-use Rattle.requests.specs.Changing.{carryOut}
-use Rattle.requests.specs.Accepted.{bytesOf, editOf}
+use Rattle.requests.specs.Changing.{bytesOf, keyIn, lengthFine, editOf, carryOut}
 use Rattle.promises.specs.Tables.{done, row, First, changed, indexNeeds, Crowded, Roomless, WantOfInterval, WantOfRoom}
 use Rattle.promises.specs.Trace.{Sound}
-use Rattle.promises.specs.Home.{keyIn, LengthFine, Home}
+use Rattle.promises.specs.Home.{Home}
 use Rattle.promises.specs.Prescribed.{broughtBy, PrescribedParts}
 use Rattle.promises.specs.Entries.{sepsBy, entriesNeed}
 use Rattle.promises.proofs.Prescribed.{Placed, made-prescribed, prescribed-made}
-use Rattle.promises.proofs.Ways.{way-fits, way-placed, way-edits, home, edit-entry, separators-cuts}
+use Rattle.promises.proofs.Ways.{edit-entry, home, way-fits, way-placed, way-edits}
 use Rattle.promises.proofs.Homes.{home-one}
 use Rattle.promises.proofs.Rows.{held}
 use Rattle.promises.proofs.Parts.{new, new-seps}
@@ -60,7 +60,7 @@ module _ (size offset key most : ℕ) (area : List ℕ) where
   abbrev n : ℕ
   n = countOf size (length area)
 
-  module _ (c : Content) (s : Sound size offset key most m n area c) (ch : Change) (b : Octets (bytesOf ch)) (f : LengthFine m ch) (l : Legal m ch (recordsOf (c .filled))) where
+  module _ (c : Content) (s : Sound size offset key most m n area c) (ch : Change) (b : Octets (bytesOf ch)) (f : lengthFine m ch ≡ true) (l : Legal m ch (recordsOf (c .filled))) where
     abbrev e : Edit
     e = editOf m c ch
 
@@ -124,7 +124,7 @@ module _ (size offset key most : ℕ) (area : List ℕ) where
         let o : h .pre ≡ take i (c .filled) = q .0 in
         let f : h .old ≡ entryAt (c .filled) i = q .1 in
         let t : h .post ≡ drop (i + 1) (c .filled) = q .2 in
-        rw (separators-cuts m ps, o, f, t, ← edit-entry m c ch) (sym needs-after ∙ ap (indexSize (widthIn c)) (after-meaning m c e))
+        rw (o, f, t, ← edit-entry m c ch) (sym needs-after ∙ ap (indexSize (widthIn c)) (after-meaning m c e))
 
     -- Rows 6 and 7 decide a change whose length is fine and which may be made.
     pub plan-rows : First (row 6 (WantOfInterval size offset key most area ch) (row 7 (WantOfRoom size offset key most area ch) done)) (numberOf (carryOut m area (planOf m c e) .answer))

@@ -13,8 +13,8 @@ use Rattle.area.specs.Reading.{whole, readArea}
 use Rattle.area.specs.Layout.{Lent}
 use Rattle.change.specs.Fitting.{Fitting, Proper}
 use Rattle.requests.specs.Model.{Change}
-use Rattle.requests.specs.Changing.{Outcome}
-use Rattle.requests.specs.Accepted.{editOf, Accepted}
+use Rattle.requests.specs.Changing.{Outcome, editOf}
+use Rattle.requests.specs.Accepted.{Accepted}
 
 -- Bytes whose length is not refused are lent as the laws ask.
 pub judged-lent : (size offset key most n : ℕ) (m : Measures) (area : List ℕ) → judgedOf size offset key most (length area) ≡ Fine m n → Octets area → Lent m n area

@@ -19,16 +19,15 @@ use Rattle.requests.specs.Answers.{numberOf}
 use Rattle.requests.specs.Model.{Change, insert, update, erase, makeChange, makeAll, Legal, total, gainedAll, lostAll}
 use Rattle.requests.specs.Reading.{Given, getOf, getAtOf, Gives}
 use Rattle.requests.specs.Finding.{Keyed, Lies, Finds}
-use Rattle.requests.specs.Changing.{Outcome, Makes}
-use Rattle.requests.specs.Accepted.{changeOf, bytesOf, editOf, Accepted}
+use Rattle.requests.specs.Changing.{Outcome, bytesOf, editOf, changeOf, Makes}
+use Rattle.requests.specs.Accepted.{Accepted}
 use Rattle.requests.specs.declared.Answer.{Answer}
 use Rattle.requests.specs.declared.Answer.the-variants.{Absent, NoRecord}
 use Rattle.requests.proofs.Making.{total-all}
 use Rattle.requests.proofs.Gets.{get-finds as area-get-finds, get-at-finds as area-get-at-finds}
 use Rattle.requests.proofs.Accepted.{accepted}
-use Rattle.promises.specs.Harmless.{Refusal}
 use Rattle.promises.specs.Trace.{Request, check, get, getAt, changes, Step, ChangeAllowed, Allowed, Trace, areaAfter, taking, acceptedIn, Sound, Stands}
-use Rattle.promises.proofs.Refused.{refused-harmless}
+use Rattle.promises.proofs.Refused.{change-harmless}
 use Rattle.promises.proofs.Fits.{accepted-fits-area}
 
 module _ (size offset key most : ℕ) where
@@ -40,17 +39,11 @@ module _ (size offset key most : ℕ) where
   change-octets before after (update r) a k = k .0
   change-octets before after (erase wanted) a k = k .0
 
-  -- its result is the one that the request's contract gives,
+  -- and its result is the one that the request's contract gives.
   pub change-makes : (before after : List ℕ) (ch : Change) (a : Answer) → ChangeAllowed size offset key most before ch a after → Makes (changeOf size offset key most before ch) a after
   change-makes before after (insert r) a k = k .1
   change-makes before after (update r) a k = k .1
   change-makes before after (erase wanted) a k = k .1
-
-  -- and if it is refused it leaves the area.
-  change-harmless : (before after : List ℕ) (ch : Change) (a : Answer) → ChangeAllowed size offset key most before ch a after → Refusal a → after ≡ before
-  change-harmless before after (insert r) a k n = refused-harmless size offset key most before .insert r a after (k .1) n
-  change-harmless before after (update r) a k n = refused-harmless size offset key most before .update r a after (k .1) n
-  change-harmless before after (erase wanted) a k n = refused-harmless size offset key most before .erase wanted a after (k .1) n
 
   module _ (m : Measures) (n : ℕ) where
     -- what an accepted change left
@@ -118,7 +111,9 @@ module _ (size offset key most : ℕ) where
           let o : Outcome = changeOf size offset key most before ch in
           let l = change-left before c s ch o (accepted size offset key most before ch (change-octets before after ch a w) (ap numberOf (sym (g .answers)) ∙ z)) in
           one-more ch (rw (g .leaves) l)
-      one-change ch a w (suc k) z = same-area (change-harmless before after ch a w (λ (y : numberOf a ≡ 0). let x : suc k ≡ 0 = sym z ∙ y in omega arith))
+      one-change ch a w (suc k) z =
+          same-area
+          (change-harmless size offset key most before ch a after (change-makes before after ch a w) (λ (y : numberOf a ≡ 0). let x : suc k ≡ 0 = sym z ∙ y in omega arith))
 
       one-request : (q : Request) (a : Answer) (out : List ℕ) → Allowed size offset key most before q a after out
           → Stands size offset key most m n before last (recordsOf (c .filled)) (taking q (numberOf a) chs)

@@ -1,6 +1,6 @@
 -- The values that come with a refusal are exact.
 use Prim.Native.Nat.{ℕ}
-use mathlib.Core.Path.{_≡_, refl, _∙_, ap}
+use mathlib.Core.Path.{_≡_, refl, ap}
 use mathlib.Core.Bool.{Bool, true, false}
 use mathlib.Core.List.{List, [], _∷_}
 use mathlib.Core.Logic.{_⊎_, inl, inr}
@@ -10,18 +10,15 @@ use native.Mathlib.Omega.{arith}
 use borrow.Author.Tests.{eqb-true, eqb-false, leb-true, leb-false}
 use Rattle.measures.specs.Judgement.{judgedOf, measures, countOf}
 use Rattle.measures.specs.declared.Measures.{Measures}
-use Rattle.measures.specs.declared.Judged.{Judged}
 use Rattle.measures.specs.declared.Judged.the-variants.{Fine}
 use Rattle.measures.specs.declared.Judged.the-variants as judged
 use Rattle.area.specs.Content.{Content}
-use Rattle.area.specs.Reading.{Reading, damaged, whole, readArea}
-use Rattle.area.specs.Checked.{checkedOf}
+use Rattle.area.specs.Reading.{damaged, whole, readArea}
 use Rattle.requests.specs.Answers.{numberOf, valuesOf}
-use Rattle.requests.specs.Model.{insert, update, erase}
-use Rattle.requests.specs.Reading.{Given, checkTold, checkJudged, checkOf, getRead, getJudged, getOf, getAtRead, getAtJudged, getAtOf}
+use Rattle.requests.specs.Opening.{Opening, shut, openingOf}
+use Rattle.requests.specs.Reading.{Given, checkOpened, checkOf, getOpened, getOf, getAtOpened, getAtOf}
 use Rattle.requests.specs.Finding.{Finds}
-use Rattle.requests.specs.Changing.{insertRead, insertJudged, insertOf, updateRead, updateJudged, updateOf, eraseRead, eraseJudged, eraseOf}
-use Rattle.requests.specs.Accepted.{changeOf}
+use Rattle.requests.specs.Changing.{changeOpened, changeOf}
 use Rattle.requests.specs.declared.Answer.{Answer}
 use Rattle.requests.specs.declared.Answer.the-variants as answer
 use Rattle.requests.proofs.Gets.{get-finds, get-wrong-length, get-at-finds}
@@ -77,23 +74,19 @@ module _ (size offset key most : ℕ) (area : List ℕ) where
   own-is (getAt address lent) a after out k = k .1 .answers
   own-is (changes ch) a after out k = change-makes size offset key most area after ch a k .answers
 
+  -- what is told where a request comes no further than the opening
+  own-shut : (q : Request) (a : Answer) → openingOf size offset key most area ≡ shut a → own q ≡ a
+  unfolding checkOf getOf getAtOf changeOf
+  own-shut check a e = ap checkOpened e
+  own-shut (get wanted lent) a e = ap (λ (d : Opening). getOpened d wanted lent .answer) e
+  own-shut (getAt address lent) a e = ap (λ (d : Opening). getAtOpened d address lent .answer) e
+  own-shut (changes ch) a e = ap (λ (d : Opening). changeOpened d area ch .answer) e
+
   own-outside : (q : Request) → judgedOf size offset key most (length area) ≡ judged.Outside → own q ≡ answer.Outside
-  unfolding checkOf getOf getAtOf insertOf updateOf eraseOf
-  own-outside check o = ap (λ (d : Judged). checkJudged d area) o
-  own-outside (get wanted lent) o = ap (λ (d : Judged). getJudged d area wanted lent .answer) o
-  own-outside (getAt address lent) o = ap (λ (d : Judged). getAtJudged d area address lent .answer) o
-  own-outside (changes (insert r)) o = ap (λ (d : Judged). insertJudged d area r .answer) o
-  own-outside (changes (update r)) o = ap (λ (d : Judged). updateJudged d area r .answer) o
-  own-outside (changes (erase wanted)) o = ap (λ (d : Judged). eraseJudged d area wanted .answer) o
+  own-outside q o = own-shut q answer.Outside (rw o)
 
   own-damaged : (q : Request) → FineHere → (p : ℕ) → readArea m n area ≡ damaged p → own q ≡ answer.Damaged p
-  unfolding checkOf getOf getAtOf insertOf updateOf eraseOf
-  own-damaged check j p d = ap (λ (x : Judged). checkJudged x area) j ∙ ap (λ (x : Reading). checkTold (checkedOf x)) d
-  own-damaged (get wanted lent) j p d = ap (λ (x : Judged). getJudged x area wanted lent .answer) j ∙ ap (λ (x : Reading). getRead m wanted lent x .answer) d
-  own-damaged (getAt address lent) j p d = ap (λ (x : Judged). getAtJudged x area address lent .answer) j ∙ ap (λ (x : Reading). getAtRead m address lent x .answer) d
-  own-damaged (changes (insert r)) j p d = ap (λ (x : Judged). insertJudged x area r .answer) j ∙ ap (λ (x : Reading). insertRead m area r x .answer) d
-  own-damaged (changes (update r)) j p d = ap (λ (x : Judged). updateJudged x area r .answer) j ∙ ap (λ (x : Reading). updateRead m area r x .answer) d
-  own-damaged (changes (erase wanted)) j p d = ap (λ (x : Judged). eraseJudged x area wanted .answer) j ∙ ap (λ (x : Reading). eraseRead m area wanted x .answer) d
+  own-damaged q j p d = own-shut q (answer.Damaged p) (rw (j, d))
 
   own-needed : (q : Request) → FineHere → numberOf (own q) ≡ 8 → (c : Content) → readArea m n area ≡ whole c → (r : List ℕ) → Asked m c q r
       → valuesOf (own q) ≡ length r ∷ []

@@ -1,24 +1,28 @@
 -- Want of an interval and want of room, each by itself.
 use Prim.Native.Nat.{ℕ, _+_, _-_, _*_, _≤_}
 use mathlib.Core.Path.{_≡_}
+use mathlib.Core.Bool.{true}
 use mathlib.Core.List.{List, []}
 use mathlib.Core.Logic.{inl, inr, _↔_}
 use lib.ListN.{length}
 use native.Mathlib.Omega.{arith}
 use Rattle.measures.specs.Judgement.{measures, countOf}
+use Rattle.measures.specs.declared.Measures.{Measures}
 use Rattle.index.specs.Form.{entriesSize, indexSize}
 use Rattle.index.specs.Layout.{LaidOut}
 use Rattle.index.proofs.Shortest.{laid-fits}
 use Rattle.area.specs.Content.{Content, recordsOf, entriesOf, meaningOf, widthIn}
 use Rattle.requests.specs.Answers.{numberOf}
 use Rattle.requests.specs.Model.{Change, Legal}
+use Rattle.requests.specs.Changing.{lengthFine}
 use Rattle.requests.specs.declared.Answer.{Answer}
+use Rattle.requests.proofs.Ways.{way-planned}
 use Rattle.promises.specs.Trace.{ChangeAllowed, Sound}
 use Rattle.promises.specs.Entries.{sepsBy, entriesNeed}
 use Rattle.promises.specs.Home.{LengthFine}
 use Rattle.promises.specs.Tables.{Table, done, row, First, WantOfInterval, WantOfRoom}
 use Rattle.promises.proofs.History.{change-octets, change-makes}
-use Rattle.promises.proofs.Ways.{way-planned}
+use Rattle.promises.proofs.Ways.{fine-tested}
 use Rattle.promises.proofs.ExactPlans.{entries-need, plan-rows}
 
 -- A row decides its own number, where the later ones have others.
@@ -31,8 +35,10 @@ module _ (size offset key most : ℕ) (area : List ℕ) (c : Content) (s : Sound
     (l : Legal (measures size offset key most) ch (recordsOf (c .filled))) where
   rows : First (row 6 (WantOfInterval size offset key most area ch) (row 7 (WantOfRoom size offset key most area ch) done)) (numberOf a)
   rows =
-      rw (change-makes size offset key most area after ch a k .answers, way-planned size offset key most (measures size offset key most) (countOf size (length area)) area c s ch f l)
-      (plan-rows size offset key most area c s ch (change-octets size offset key most area after ch a k) f l)
+      let m : Measures = measures size offset key most in
+      let t : lengthFine m ch ≡ true = fine-tested m ch f in
+      let p = way-planned size offset key most area m (countOf size (length area)) c (s .judges) (s .reads) ch t l in
+      rw (change-makes size offset key most area after ch a k .answers, p) (plan-rows size offset key most area c s ch (change-octets size offset key most area after ch a k) t l)
 
   -- A change that may be made is refused for want of an interval exactly if the fewest intervals that hold the records need more new ones than are free.
   pub want-of-interval : (numberOf a ≡ 6) ↔ WantOfInterval size offset key most area ch

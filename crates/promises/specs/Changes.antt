@@ -11,10 +11,11 @@ use Rattle.index.specs.Cuts.{separators}
 use Rattle.division.specs.Fewest.{Fewest}
 use Rattle.area.specs.Content.{Filled, Content, recordsOf, entriesOf, meaningOf, indexIn, dataIn, widthIn}
 use Rattle.requests.specs.Model.{Change, makeChange}
+use Rattle.requests.specs.Changing.{keyIn}
 use Rattle.requests.specs.declared.Answer.{Answer}
 use Rattle.requests.specs.declared.Answer.the-variants.{Done}
 use Rattle.promises.specs.Entries.{recordsBy, sepsBy}
-use Rattle.promises.specs.Home.{keyIn, Home}
+use Rattle.promises.specs.Home.{Home}
 use Rattle.promises.specs.Prescribed.{broughtBy, PrescribedParts}
 
 -- The entry to which the key belongs gave way to new ones, all others stayed. The new ones hold the old one's records with the change made, in order, and

@@ -1,5 +1,4 @@
--- What a change is about: its key, the length that it must have, and the interval to which its key belongs: document 01, 'Index record'. Nothing here
--- searches.
+-- What a change is about: the length that it must have, and the interval to which its key belongs: document 01, 'Index record'. Nothing here searches.
 use Prim.Native.Nat.{ℕ}
 use mathlib.Core.Path.{_≡_}
 use mathlib.Core.Bool.{true, false}
@@ -7,17 +6,11 @@ use mathlib.Core.List.{List, [], _∷_, _++_}
 use lib.ListN.{length}
 use Rattle.fields.specs.Order.{less}
 use Rattle.measures.specs.declared.Measures.{Measures}
-use Rattle.interval.specs.Records.{keyOf, within}
+use Rattle.interval.specs.Records.{within}
 use Rattle.index.specs.Bounds.{bound}
 use Rattle.index.specs.Rules.{boundBefore}
 use Rattle.area.specs.Content.{Filled, Content, entriesOf}
 use Rattle.requests.specs.Model.{Change, insert, update, erase}
-
--- the key of the record that a change is about
-abbrev pub keyIn : Measures → Change → List ℕ
-keyIn m (insert r) = keyOf m r
-keyIn m (update r) = keyOf m r
-keyIn m (erase wanted) = wanted
 
 -- a record has a length that the measures allow, a key that of a key
 abbrev pub LengthFine : Measures → Change → Type 0

@@ -15,9 +15,10 @@ use Rattle.area.specs.Content.{Content, recordsOf, baseOf, widthIn}
 use Rattle.area.specs.Reading.{damaged, whole, readArea}
 use Rattle.requests.specs.Model.{Change, insert, update, erase, makeChange}
 use Rattle.requests.specs.Finding.{Keyed, Lies}
+use Rattle.requests.specs.Changing.{keyIn}
 use Rattle.promises.specs.Trace.{Request, check, get, getAt, changes}
 use Rattle.promises.specs.Entries.{sepsBy, entriesNeed}
-use Rattle.promises.specs.Home.{keyIn, LengthFine, Home}
+use Rattle.promises.specs.Home.{LengthFine, Home}
 use Rattle.promises.specs.Prescribed.{broughtBy, PrescribedParts}
 
 -- ---- tables

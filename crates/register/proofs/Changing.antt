@@ -1,24 +1,34 @@
--- The ways out of the requests that change, each against the request's meaning.
-use Prim.Native.Nat.{ℕ, _≤_, _<_}
-use mathlib.Core.Path.{_≡_, refl, _∙_, sym, ap}
-use mathlib.Core.Bool.{true, false}
+-- The requests that change, against their meaning: a plan carried out and told, the lengths that the measures allow, and a change by what the area was
+-- opened as.
+use Prim.Native.Nat.{ℕ, _+_, _-_, _≤_, _<_}
+use mathlib.Core.Path.{_≡_, refl, _∙_, ap}
+use mathlib.Core.Bool.{Bool, true, false}
 use mathlib.Core.List.{List, [], _∷_}
-use lib.ListN.{length}
-use borrow.Author.Tests.{eq-eqb, ne-eqb, le-leb, lt-leb}
-use Rattle.measures.specs.Judgement.{judgedOf}
+use mathlib.Core.Logic.{⊎-elim}
+use lib.ListN.{length, take, drop}
+use native.Mathlib.Omega.{arith}
+use types.Run.{OneOf}
+use denote.Enum.Declared.{tagOf}
+use borrow.Author.Tests.{le-leb, lt-leb, eq-eqb, ne-eqb}
+use Rattle.fields.proofs.Splices.{part-is}
 use Rattle.measures.specs.declared.Measures.{Measures}
-use Rattle.measures.specs.declared.Judged.the-variants as judged
+use Rattle.measures.specs.declared.Numbers.{Numbers}
 use Rattle.interval.specs.Records.{keyOf, within}
-use Rattle.area.specs.Content.{Content, recordsOf}
-use Rattle.area.specs.Reading.{damaged, whole, readArea}
 use Rattle.change.specs.Plan.{Plan, noInterval, noRoom, stores}
 use Rattle.change_write.specs.AidCarried.{Carries}
 use Rattle.change_write.specs.declared.Made.{Made}
-use Rattle.requests.specs.Records.{withKey}
-use Rattle.requests.specs.Changing.{Outcome, carryOut, makeEdit, insertRead, insertOf, updateRead, updateOf, eraseRead, eraseOf, Makes}
+use Rattle.requests.specs.Model.{Change}
+use Rattle.requests.specs.Changing.{Outcome, lengthFine, carryOut, changeIn, changeOf, Makes}
 use Rattle.requests.specs.declared.Answer.{Answer}
-use Rattle.requests.specs.declared.Answer.the-variants.{Damaged, Outside, WrongLength, Present, Absent}
-use Rattle.register.specs.AidTold.{answerFor}
+use Rattle.requests.specs.declared.Answer.the-variants.{WrongLength}
+use Rattle.opening.specs.AidOpened.{openedOf}
+use Rattle.opening.specs.declared.Opened.the-variants as opened
+use Rattle.opening.proofs.Opening.{opened-shut, opened-whole}
+use Rattle.register.specs.AidTold.{answerFor, MakesIn}
+use Rattle.register.specs.AidChange.{changeFor, changeAt, Asked, keyedIn}
+use Rattle.register.specs.declared.Kind.{Kind}
+use Rattle.register.specs.declared.Kind.the-variants.{Insert, Update, Erase}
+use Rattle.register.proofs.Kind.{the-type}
 
 -- a contract in other words
 pub makes-as : {g h : Outcome} {a : Answer} {area : List ℕ} → g ≡ h → Makes g a area → Makes h a area
@@ -40,81 +50,67 @@ length-short m l h = rw (lt-leb (m .least) l h)
 pub length-long : (m : Measures) (l : ℕ) → m .least ≤ l → m .most < l → within (m .least) (m .most) l ≡ false
 length-long m l h k = rw (le-leb (m .least) l h, lt-leb l (m .most) k)
 
--- ---- erase
+-- a refusal is the answer, and the area stays; a whole area is answered by what it holds
+module _ (k : Numbers) (area : List ℕ) (ch : Change) where
+  pub change-shut : (a : Answer) → openedOf k area ≡ opened.Refused a → Makes (changeOf (k .size) (k .offset) (k .key) (k .most) area ch) a area
+  unfolding changeOf
+  change-shut a e = rw (opened-shut k area a e) (record { answers = refl; leaves = refl })
 
-module _ (size offset key most : ℕ) (area wanted : List ℕ) where
-  pub erase-outside : judgedOf size offset key most (length area) ≡ judged.Outside → Makes (eraseOf size offset key most area wanted) Outside area
-  unfolding eraseOf
-  erase-outside e = record { answers = rw e; leaves = rw e }
+  pub change-whole : (m : Measures) (n records free : ℕ) → openedOf k area ≡ opened.Whole m n records free
+      → (a : Answer) (after : List ℕ) → MakesIn m n area (λ c. changeIn m c area ch) a after
+      → Makes (changeOf (k .size) (k .offset) (k .key) (k .most) area ch) a after
+  unfolding changeOf
+  change-whole m n records free e a after g = let o = opened-whole k area m n records free e in rw (o .1) (g (o .0) (o .2))
 
-  module _ (m : Measures) (n : ℕ) (e : judgedOf size offset key most (length area) ≡ judged.Fine m n) where
-    erase-read : eraseOf size offset key most area wanted ≡ eraseRead m area wanted (readArea m n area)
-    unfolding eraseOf
-    erase-read = rw e
+-- ---- by the length of what is handed over
 
-    pub erase-damaged : (p : ℕ) → readArea m n area ≡ damaged p → Makes (eraseOf size offset key most area wanted) (Damaged p) area
-    erase-damaged p h = makes-as (sym (erase-read ∙ ap (eraseRead m area wanted) h)) (record { answers = refl; leaves = refl })
+module _ (m : Measures) (n : ℕ) (area : List ℕ) (ch : Change) where
+  -- a wrong length is told, and the area stays
+  pub wrong-makes : lengthFine m ch ≡ false → MakesIn m n area (λ c. changeIn m c area ch) WrongLength area
+  wrong-makes f c w = rw f (record { answers = refl; leaves = refl })
 
-    module _ (c : Content) (h : readArea m n area ≡ whole c) where
-      pub erase-wrong : (length wanted ≡ m .key → ⊥) → Makes (eraseOf size offset key most area wanted) WrongLength area
-      erase-wrong d = makes-as (sym (erase-read ∙ rw (h, ne-eqb (length wanted) (m .key) d))) (record { answers = refl; leaves = refl })
+  -- of a fine one the key decides
+  pub fine-makes : lengthFine m ch ≡ true → (a : Answer) (after : List ℕ) → MakesIn m n area (λ c. keyedIn m c area ch) a after → MakesIn m n area (λ c. changeIn m c area ch) a after
+  fine-makes f a after g c w = rw f (g c w)
 
-      pub erase-absent : length wanted ≡ m .key → withKey m wanted (recordsOf (c .filled)) ≡ [] → Makes (eraseOf size offset key most area wanted) Absent area
-      erase-absent d k = makes-as (sym (erase-read ∙ rw (h, eq-eqb (length wanted) (m .key) d, k))) (record { answers = refl; leaves = refl })
+-- an erase: a key, and no record
+module _ (m : Measures) (kind : Kind) (e : kind ≡ Erase) (given : List ℕ) where
+  pub erase-wrong : (length given ≡ m .key → ⊥) → lengthFine m (changeFor kind given) ≡ false
+  erase-wrong h = rw e (ne-eqb (length given) (m .key) h)
 
-      pub erase-makes : length wanted ≡ m .key → (x : List ℕ) (xs : List (List ℕ)) → withKey m wanted (recordsOf (c .filled)) ≡ x ∷ xs
-          → makeEdit m c area wanted 1 [] ≡ eraseOf size offset key most area wanted
-      erase-makes d x xs k = sym (erase-read ∙ rw (h, eq-eqb (length wanted) (m .key) d, k))
+  pub erase-fine : length given ≡ m .key → lengthFine m (changeFor kind given) ≡ true
+  erase-fine h = rw e (eq-eqb (length given) (m .key) h)
 
--- ---- insert
+  pub erase-asked : length given ≡ m .key → Asked m kind given (take 0 given)
+  erase-asked h = rw e (record { is = refl; fine = eq-eqb (length given) (m .key) h; none = refl })
 
-module _ (size offset key most : ℕ) (area r : List ℕ) where
-  pub insert-outside : judgedOf size offset key most (length area) ≡ judged.Outside → Makes (insertOf size offset key most area r) Outside area
-  unfolding insertOf
-  insert-outside e = record { answers = rw e; leaves = rw e }
+  pub erase-same : changeAt kind given (take 0 given) ≡ changeFor kind given
+  erase-same = rw e
 
-  module _ (m : Measures) (n : ℕ) (e : judgedOf size offset key most (length area) ≡ judged.Fine m n) where
-    insert-read : insertOf size offset key most area r ≡ insertRead m area r (readArea m n area)
-    unfolding insertOf
-    insert-read = rw e
+-- the others: a record, with its key in it
+module _ (m : Measures) (given : List ℕ) where
+  abbrev pub key : List ℕ
+  key = take (m .offset + m .key - m .offset) (drop (m .offset) given)
 
-    pub insert-damaged : (p : ℕ) → readArea m n area ≡ damaged p → Makes (insertOf size offset key most area r) (Damaged p) area
-    insert-damaged p h = makes-as (sym (insert-read ∙ ap (insertRead m area r) h)) (record { answers = refl; leaves = refl })
+  key-in : key ≡ keyOf m given
+  key-in = part-is given (m .offset) (m .key)
 
-    module _ (c : Content) (h : readArea m n area ≡ whole c) where
-      pub insert-wrong : within (m .least) (m .most) (length r) ≡ false → Makes (insertOf size offset key most area r) WrongLength area
-      insert-wrong d = makes-as (sym (insert-read ∙ rw (h, d))) (record { answers = refl; leaves = refl })
+  pub record-length : (kind : Kind) → OneOf (0 ∷ 1 ∷ []) (tagOf the-type kind) → (b : Bool) → within (m .least) (m .most) (length given) ≡ b → lengthFine m (changeFor kind given) ≡ b
+  record-length Insert h b f = f
+  record-length Update h b f = f
+  record-length Erase h b f = absurd (⊎-elim (λ z. omega arith) (λ z. omega arith) h)
 
-      pub insert-present : within (m .least) (m .most) (length r) ≡ true → (x : List ℕ) (xs : List (List ℕ)) → withKey m (keyOf m r) (recordsOf (c .filled)) ≡ x ∷ xs
-          → Makes (insertOf size offset key most area r) Present area
-      insert-present d x xs k = makes-as (sym (insert-read ∙ rw (h, d, k))) (record { answers = refl; leaves = refl })
+  pub record-asked : (kind : Kind) → OneOf (0 ∷ 1 ∷ []) (tagOf the-type kind) → within (m .least) (m .most) (length given) ≡ true → Asked m kind key given
+  record-asked Insert h f = record { is = key-in; fine = f; none = tt }
+  record-asked Update h f = record { is = key-in; fine = f; none = tt }
+  record-asked Erase h f = absurd (⊎-elim (λ z. omega arith) (λ z. omega arith) h)
 
-      pub insert-makes : within (m .least) (m .most) (length r) ≡ true → withKey m (keyOf m r) (recordsOf (c .filled)) ≡ []
-          → makeEdit m c area (keyOf m r) 0 (r ∷ []) ≡ insertOf size offset key most area r
-      insert-makes d k = sym (insert-read ∙ rw (h, d, k))
+  pub record-same : (kind : Kind) → OneOf (0 ∷ 1 ∷ []) (tagOf the-type kind) → changeAt kind key given ≡ changeFor kind given
+  record-same Insert h = refl
+  record-same Update h = refl
+  record-same Erase h = absurd (⊎-elim (λ z. omega arith) (λ z. omega arith) h)
 
--- ---- update
-
-module _ (size offset key most : ℕ) (area r : List ℕ) where
-  pub update-outside : judgedOf size offset key most (length area) ≡ judged.Outside → Makes (updateOf size offset key most area r) Outside area
-  unfolding updateOf
-  update-outside e = record { answers = rw e; leaves = rw e }
-
-  module _ (m : Measures) (n : ℕ) (e : judgedOf size offset key most (length area) ≡ judged.Fine m n) where
-    update-read : updateOf size offset key most area r ≡ updateRead m area r (readArea m n area)
-    unfolding updateOf
-    update-read = rw e
-
-    pub update-damaged : (p : ℕ) → readArea m n area ≡ damaged p → Makes (updateOf size offset key most area r) (Damaged p) area
-    update-damaged p h = makes-as (sym (update-read ∙ ap (updateRead m area r) h)) (record { answers = refl; leaves = refl })
-
-    module _ (c : Content) (h : readArea m n area ≡ whole c) where
-      pub update-wrong : within (m .least) (m .most) (length r) ≡ false → Makes (updateOf size offset key most area r) WrongLength area
-      update-wrong d = makes-as (sym (update-read ∙ rw (h, d))) (record { answers = refl; leaves = refl })
-
-      pub update-absent : within (m .least) (m .most) (length r) ≡ true → withKey m (keyOf m r) (recordsOf (c .filled)) ≡ [] → Makes (updateOf size offset key most area r) Absent area
-      update-absent d k = makes-as (sym (update-read ∙ rw (h, d, k))) (record { answers = refl; leaves = refl })
-
-      pub update-makes : within (m .least) (m .most) (length r) ≡ true → (x : List ℕ) (xs : List (List ℕ)) → withKey m (keyOf m r) (recordsOf (c .filled)) ≡ x ∷ xs
-          → makeEdit m c area (keyOf m r) 1 (r ∷ []) ≡ updateOf size offset key most area r
-      update-makes d x xs k = sym (update-read ∙ rw (h, d, k))
+-- the same change by another name
+pub makes-same : (m : Measures) (n : ℕ) (area : List ℕ) (ch dh : Change) → ch ≡ dh → (a : Answer) (after : List ℕ) → MakesIn m n area (λ c. keyedIn m c area ch) a after
+    → MakesIn m n area (λ c. keyedIn m c area dh) a after
+makes-same m n area ch dh e a after g c w = rw (← e) (g c w)

@@ -83,13 +83,11 @@ module _ (m : Measures) (n : ℕ) (area : List ℕ) (o : Fits m n (length area))
       with-there ∙ with-at m key (recordsIn (dataIn m area (r .number))) i t l (readable-ascends m (dataIn m area (r .number)) ready) p
       ∙ ap (λ (x : List ℕ). x ∷ []) (sym b ∙ part-part area ((r .number + 1) * m .size) (m .size) t l f)
 
-  -- the record found ends within the area; the size may go by the name that the request has for it
-  pub key-inside : (i t l size : ℕ) → r .found ≡ At i t l → m .size ≡ size → (r .number + 1) * size + t + l ≤ length area
-  key-inside i t l size e z =
+  -- the record found ends within the area
+  pub key-inside : (i t l : ℕ) → r .found ≡ At i t l → (r .number + 1) * m .size + t + l ≤ length area
+  key-inside i t l e =
       let q = rw e at (s .place) in
-      let h : (r .number + 1) * m .size + t + l ≤ length area =
-      omega (arith, q .1, readable-rdfs m (dataIn m area (r .number)) ready, length-data m n area o (r .number) (s .within), data-ends m n area o (r .number) (s .within)) in
-      rw z at h
+      omega (arith, q .1, readable-rdfs m (dataIn m area (r .number)) ready, length-data m n area o (r .number) (s .within), data-ends m n area o (r .number) (s .within))
 
   pub key-absent : (i t : ℕ) → r .found ≡ Gap i t → withKey m key (recordsOf (w .content .filled)) ≡ []
   key-absent i t e =

@@ -1,7 +1,6 @@
-pub mod Measures
 pub mod KeyFound
 pub mod AddressFound
 pub mod Reading
-pub mod Edited
+pub mod Aimed
 pub mod Changing
 pub mod Unique

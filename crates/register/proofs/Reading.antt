@@ -1,4 +1,4 @@
--- The ways out of the requests that read, each against the request's meaning.
+-- The requests that read, against their meaning: a record handed out, the ways out of a get in a sound area, and each request by what the area was opened as.
 use Prim.Native.Nat.{ℕ, _+_, _≤_, _<_}
 use mathlib.Core.Path.{_≡_, refl, _∙_, sym, ap}
 use mathlib.Core.List.{List, [], _∷_}
@@ -7,36 +7,19 @@ use native.Mathlib.Omega.{arith}
 use borrow.Author.Tests.{eq-eqb, ne-eqb, le-leb, lt-leb}
 use Rattle.fields.specs.Bytes.{part, splice}
 use Rattle.fields.proofs.Splices.{length-mid}
-use Rattle.measures.specs.Judgement.{judgedOf}
+use Rattle.measures.specs.Judgement.{Fits}
 use Rattle.measures.specs.declared.Measures.{Measures}
-use Rattle.measures.specs.declared.Judged.the-variants as judged
-use Rattle.area.specs.Content.{Content, recordsOf, baseOf}
-use Rattle.area.specs.Reading.{damaged, whole, readArea}
-use Rattle.area.specs.Checked.{checkedOf}
-use Rattle.area.specs.declared.Checked.{Checked}
-use Rattle.area.specs.declared.Checked.the-variants as checked
-use Rattle.requests.specs.Records.{withKey, lyingAt}
-use Rattle.requests.specs.Reading.{checkTold, checkOf, Given, handOut, getRead, getOf, getAtRead, getAtOf, Gives}
+use Rattle.measures.specs.declared.Numbers.{Numbers}
+use Rattle.area.specs.Content.{Content, recordsOf}
+use Rattle.area_find.specs.AidSought.{Whole}
+use Rattle.requests.specs.Records.{withKey}
+use Rattle.requests.specs.Reading.{checkOf, Given, handOut, getIn, getOf, getAtIn, getAtOf, Gives}
 use Rattle.requests.specs.declared.Answer.{Answer}
-use Rattle.requests.specs.declared.Answer.the-variants.{Found, Intact, Damaged, Short, Outside, WrongLength, Absent, NoRecord}
-
--- ---- check
-
-module _ (size offset key most : ℕ) (area : List ℕ) where
-  pub check-outside : judgedOf size offset key most (length area) ≡ judged.Outside → Outside ≡ checkOf size offset key most area
-  unfolding checkOf
-  check-outside e = rw e
-
-  module _ (m : Measures) (n : ℕ) (e : judgedOf size offset key most (length area) ≡ judged.Fine m n) where
-    check-is : (x : Checked) → x ≡ checkedOf (readArea m n area) → checkTold x ≡ checkOf size offset key most area
-    unfolding checkOf
-    check-is x h = sym (rw e (ap checkTold (sym h)))
-
-    pub check-intact : (r f : ℕ) → checked.Intact r f ≡ checkedOf (readArea m n area) → Intact r f ≡ checkOf size offset key most area
-    check-intact r f h = check-is (checked.Intact r f) h
-
-    pub check-damaged : (p : ℕ) → checked.Damaged p ≡ checkedOf (readArea m n area) → Damaged p ≡ checkOf size offset key most area
-    check-damaged p h = check-is (checked.Damaged p) h
+use Rattle.requests.specs.declared.Answer.the-variants.{Found, Intact, Short, WrongLength, Absent}
+use Rattle.opening.specs.AidOpened.{openedOf}
+use Rattle.opening.specs.declared.Opened.the-variants as opened
+use Rattle.opening.proofs.Opening.{opened-shut, opened-whole}
+use Rattle.register.specs.AidTold.{GivesIn}
 
 -- ---- handing a record out
 
@@ -58,43 +41,50 @@ module _ (area : List ℕ) (from bytes : ℕ) (out : List ℕ) (inside : from + 
 pub gives-as : {g h : Given} {a : Answer} {out : List ℕ} → g ≡ h → Gives g a out → Gives h a out
 gives-as e k = record { answers = k .answers ∙ ap (λ x. x .answer) e; outputs = k .outputs ∙ ap (λ x. x .output) e }
 
--- ---- get by key
+-- ---- get by key, in a sound area
 
-module _ (size offset key most : ℕ) (area wanted out : List ℕ) where
-  pub get-outside : judgedOf size offset key most (length area) ≡ judged.Outside → Gives (getOf size offset key most area wanted out) Outside out
-  unfolding getOf
-  get-outside e = record { answers = rw e; outputs = rw e }
+module _ (m : Measures) (c : Content) (wanted out : List ℕ) where
+  pub get-wrong : (length wanted ≡ m .key → ⊥) → Gives (getIn m c wanted out) WrongLength out
+  get-wrong d = record { answers = rw (ne-eqb (length wanted) (m .key) d); outputs = rw (ne-eqb (length wanted) (m .key) d) }
 
-  module _ (m : Measures) (n : ℕ) (e : judgedOf size offset key most (length area) ≡ judged.Fine m n) where
-    get-read : getOf size offset key most area wanted out ≡ getRead m wanted out (readArea m n area)
+  pub get-hands : length wanted ≡ m .key → (rs : List (List ℕ)) → withKey m wanted (recordsOf (c .filled)) ≡ rs → handOut Absent rs out ≡ getIn m c wanted out
+  get-hands d rs k = sym (rw (eq-eqb (length wanted) (m .key) d, k))
+
+-- ---- by what the area was opened as
+
+module _ (k : Numbers) (area : List ℕ) where
+  -- a refusal is the answer, and the output stays
+  module _ (a : Answer) (e : openedOf k area ≡ opened.Refused a) where
+    pub check-shut : a ≡ checkOf (k .size) (k .offset) (k .key) (k .most) area
+    unfolding checkOf
+    check-shut = sym (rw (opened-shut k area a e))
+
+    pub get-shut : (wanted out : List ℕ) → Gives (getOf (k .size) (k .offset) (k .key) (k .most) area wanted out) a out
     unfolding getOf
-    get-read = rw e
+    get-shut wanted out = rw (opened-shut k area a e) (record { answers = refl; outputs = refl })
 
-    pub get-damaged : (p : ℕ) → readArea m n area ≡ damaged p → Gives (getOf size offset key most area wanted out) (Damaged p) out
-    get-damaged p h = gives-as (sym (get-read ∙ ap (getRead m wanted out) h)) (record { answers = refl; outputs = refl })
-
-    module _ (c : Content) (h : readArea m n area ≡ whole c) where
-      pub get-wrong : (length wanted ≡ m .key → ⊥) → Gives (getOf size offset key most area wanted out) WrongLength out
-      get-wrong d = gives-as (sym (get-read ∙ ap (getRead m wanted out) h)) (record { answers = rw (ne-eqb (length wanted) (m .key) d); outputs = rw (ne-eqb (length wanted) (m .key) d) })
-
-      pub get-hands : length wanted ≡ m .key → (rs : List (List ℕ)) → withKey m wanted (recordsOf (c .filled)) ≡ rs → handOut Absent rs out ≡ getOf size offset key most area wanted out
-      get-hands d rs k = sym (get-read ∙ rw (h, eq-eqb (length wanted) (m .key) d, k))
-
--- ---- get by address
-
-module _ (size offset key most : ℕ) (area : List ℕ) (address : ℕ) (out : List ℕ) where
-  pub get-at-outside : judgedOf size offset key most (length area) ≡ judged.Outside → Gives (getAtOf size offset key most area address out) Outside out
-  unfolding getAtOf
-  get-at-outside e = record { answers = rw e; outputs = rw e }
-
-  module _ (m : Measures) (n : ℕ) (e : judgedOf size offset key most (length area) ≡ judged.Fine m n) where
-    get-at-read : getAtOf size offset key most area address out ≡ getAtRead m address out (readArea m n area)
+    pub get-at-shut : (address : ℕ) (out : List ℕ) → Gives (getAtOf (k .size) (k .offset) (k .key) (k .most) area address out) a out
     unfolding getAtOf
-    get-at-read = rw e
+    get-at-shut address out = rw (opened-shut k area a e) (record { answers = refl; outputs = refl })
 
-    pub get-at-damaged : (p : ℕ) → readArea m n area ≡ damaged p → Gives (getAtOf size offset key most area address out) (Damaged p) out
-    get-at-damaged p h = gives-as (sym (get-at-read ∙ ap (getAtRead m address out) h)) (record { answers = refl; outputs = refl })
+  -- an area that is whole is one in which the floors below may search, and it is answered by what it holds
+  module _ (m : Measures) (n records free : ℕ) (e : openedOf k area ≡ opened.Whole m n records free) where
+    pub whole-there : Fits m n (length area) × Whole m n area
+    whole-there = let o = opened-whole k area m n records free e in (o .3, record { content = o .0; reads = o .2 })
 
-    pub get-at-hands : (c : Content) → readArea m n area ≡ whole c → (rs : List (List ℕ)) → lyingAt m (baseOf c) address (c .filled) ≡ rs
-        → handOut NoRecord rs out ≡ getAtOf size offset key most area address out
-    get-at-hands c h rs k = sym (get-at-read ∙ rw (h, k))
+    pub check-whole : Intact records free ≡ checkOf (k .size) (k .offset) (k .key) (k .most) area
+    unfolding checkOf
+    check-whole =
+        let o = opened-whole k area m n records free e in
+        let z : checkOf (k .size) (k .offset) (k .key) (k .most) area ≡ Intact (length (recordsOf (o .0 .filled))) (length (o .0 .free)) = rw (o .1) in
+        cc (z, o .4, o .5)
+
+    pub get-whole : (wanted out : List ℕ) (a : Answer) (after : List ℕ) → GivesIn m n area (λ c. getIn m c wanted out) a after
+        → Gives (getOf (k .size) (k .offset) (k .key) (k .most) area wanted out) a after
+    unfolding getOf
+    get-whole wanted out a after g = let o = opened-whole k area m n records free e in rw (o .1) (g (o .0) (o .2))
+
+    pub get-at-whole : (address : ℕ) (out : List ℕ) (a : Answer) (after : List ℕ) → GivesIn m n area (λ c. getAtIn m c address out) a after
+        → Gives (getAtOf (k .size) (k .offset) (k .key) (k .most) area address out) a after
+    unfolding getAtOf
+    get-at-whole address out a after g = let o = opened-whole k area m n records free e in rw (o .1) (g (o .0) (o .2))

@@ -1,1 +1,2 @@
 pub mod AidTold
+pub mod AidChange

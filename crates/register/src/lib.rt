@@ -5,16 +5,21 @@ ghost use mathlib.Core.Path.{_≡_};
 ghost use mathlib.Core.List.{[], _∷_};
 ghost use lib.ListN.{length};
 ghost use Rattle.fields.specs.Bytes.{part};
-ghost use Rattle.requests.specs.Reading.{checkOf, getOf, getAtOf, handOut, Gives};
-ghost use Rattle.requests.specs.Changing.{insertOf, updateOf, eraseOf, Makes};
+ghost use Rattle.measures.specs.Judgement.{Fits};
+ghost use Rattle.area_find.specs.AidSought.{Whole};
+ghost use Rattle.requests.specs.Reading.{checkOf, getIn, getOf, getAtIn, getAtOf, handOut, Gives};
+ghost use Rattle.requests.specs.Changing.{changeIn, insertOf, updateOf, eraseOf, Makes};
 ghost use Rattle.requests.specs.declared.Answer.the-variants.{Absent};
-ghost use Rattle.register.specs.AidTold.{answerFor};
-use area::Checked;
+ghost use Rattle.register.specs.AidTold.{answerFor, GivesIn, MakesIn};
+ghost use Rattle.register.specs.AidChange.{changeFor, changeAt, MakesKeyed, changeBy, aimOf, Asked};
 use area_find::Lying;
+use area_find::Spot;
 use change_write::Made;
 use interval::Found;
 use interval_edit::Site;
-use measures::Judged;
+use measures::Measures;
+use measures::Numbers;
+use opening::Opened;
 use requests::Answer;
 use requests::Written;
 
@@ -22,16 +27,20 @@ use requests::Written;
 pub fn check(area: &[u8], size: usize, offset: usize, key: usize, most: usize) -> Answer
     ensures { λ r. ⌜ r ≡ checkOf size offset key most (now (area .entry)) ⌝ }
 {
-    let Judged::Fine {
-        measures: m,
-        count: n,
-    } = measures::judge(size, offset, key, most, area.len())
-    else {
-        return Answer::Outside;
+    let numbers = Numbers {
+        size,
+        offset,
+        key,
+        most,
     };
-    match area_read::check(area, m, n) {
-        Checked::Intact { records, free } => Answer::Intact { records, free },
-        Checked::Damaged { place } => Answer::Damaged(place),
+    match opening::open(area, numbers) {
+        Opened::Refused { answer } => answer,
+        Opened::Whole {
+            measures: _,
+            count: _,
+            records,
+            free,
+        } => Answer::Intact { records, free },
     }
 }
 
@@ -48,29 +57,12 @@ pub(crate) fn hand_out(area: &[u8], from: usize, bytes: usize, out: &mut [u8]) -
     Answer::Found(bytes)
 }
 
-// The record with a key: refusals 1, 2, 3, 5, 8. Done writes it at the front of the output; later bytes of the output stay.
-pub fn get(
-    area: &[u8],
-    size: usize,
-    offset: usize,
-    key: usize,
-    most: usize,
-    wanted: &[u8],
-    out: &mut [u8],
-) -> Answer
-    ensures { λ r. ⌜ Gives (getOf size offset key most (now (area .entry)) (now (wanted .entry)) (now (out .entry))) r (now (out .exit)) ⌝ }
+// In a sound area, the record with a key.
+pub(crate) fn get_in(area: &[u8], m: Measures, n: usize, wanted: &[u8], out: &mut [u8]) -> Answer
+    requires { ⌜ Fits m n (length (now area)) × Whole m n (now area) ⌝ }
+    ensures { λ r. ⌜ GivesIn m n (now (area .entry)) (λ c. getIn m c (now (wanted .entry)) (now (out .entry))) r (now (out .exit)) ⌝ }
 {
-    let Judged::Fine {
-        measures: m,
-        count: n,
-    } = measures::judge(size, offset, key, most, area.len())
-    else {
-        return Answer::Outside;
-    };
-    if let Checked::Damaged { place } = area_read::check(area, m, n) {
-        return Answer::Damaged(place);
-    }
-    if wanted.len() != key {
+    if wanted.len() != m.key {
         return Answer::WrongLength;
     }
     let spot = area_find::find(area, m, n, wanted);
@@ -84,7 +76,47 @@ pub fn get(
     else {
         return Answer::Absent;
     };
-    hand_out(area, (number + 1) * size + start, length, out)
+    hand_out(area, (number + 1) * m.size + start, length, out)
+}
+
+// The record with a key: refusals 1, 2, 3, 5, 8. Done writes it at the front of the output; later bytes of the output stay.
+pub fn get(
+    area: &[u8],
+    size: usize,
+    offset: usize,
+    key: usize,
+    most: usize,
+    wanted: &[u8],
+    out: &mut [u8],
+) -> Answer
+    ensures { λ r. ⌜ Gives (getOf size offset key most (now (area .entry)) (now (wanted .entry)) (now (out .entry))) r (now (out .exit)) ⌝ }
+{
+    let numbers = Numbers {
+        size,
+        offset,
+        key,
+        most,
+    };
+    match opening::open(area, numbers) {
+        Opened::Refused { answer } => answer,
+        Opened::Whole {
+            measures,
+            count,
+            records: _,
+            free: _,
+        } => get_in(area, measures, count, wanted, out),
+    }
+}
+
+// In a sound area, the record at an address.
+pub(crate) fn get_at_in(area: &[u8], m: Measures, n: usize, address: u64, out: &mut [u8]) -> Answer
+    requires { ⌜ Fits m n (length (now area)) × Whole m n (now area) ⌝ }
+    ensures { λ r. ⌜ GivesIn m n (now (area .entry)) (λ c. getAtIn m c address (now (out .entry))) r (now (out .exit)) ⌝ }
+{
+    let Lying::Here { from, length } = area_find::record_at(area, m, n, address) else {
+        return Answer::NoRecord;
+    };
+    hand_out(area, from, length, out)
 }
 
 // The record at an address: refusals 1, 2, 9, 8.
@@ -99,20 +131,83 @@ pub fn get_at(
 ) -> Answer
     ensures { λ r. ⌜ Gives (getAtOf size offset key most (now (area .entry)) address (now (out .entry))) r (now (out .exit)) ⌝ }
 {
-    let Judged::Fine {
-        measures: m,
-        count: n,
-    } = measures::judge(size, offset, key, most, area.len())
-    else {
-        return Answer::Outside;
+    let numbers = Numbers {
+        size,
+        offset,
+        key,
+        most,
     };
-    if let Checked::Damaged { place } = area_read::check(area, m, n) {
-        return Answer::Damaged(place);
+    match opening::open(area, numbers) {
+        Opened::Refused { answer } => answer,
+        Opened::Whole {
+            measures,
+            count,
+            records: _,
+            free: _,
+        } => get_at_in(area, measures, count, address, out),
     }
-    let Lying::Here { from, length } = area_find::record_at(area, m, n, address) else {
-        return Answer::NoRecord;
-    };
-    hand_out(area, from, length, out)
+}
+
+// Which change is asked for.
+pub(crate) enum Kind {
+    Insert,
+    Update,
+    Erase,
+}
+
+// Where a change is made, or why it may not be.
+pub(crate) enum Aim {
+    At { site: Site },
+    Not { answer: Answer },
+}
+
+// 4 where a record has the key of one that is to come, 5 where none has the key of one that is to make way or to go.
+pub(crate) fn take_aim(kind: Kind, spot: Spot) -> Aim
+    ensures { λ r. ⌜ r ≡ aimOf kind spot ⌝ }
+{
+    let entry = spot.entry;
+    let number = spot.number;
+    let found = spot.found;
+    match found {
+        Found::Gap { ordinal, start } => {
+            let Kind::Insert = kind else {
+                return Aim::Not {
+                    answer: Answer::Absent,
+                };
+            };
+            Aim::At {
+                site: Site {
+                    entry,
+                    number,
+                    ordinal,
+                    start,
+                    gone: 0,
+                    span: 0,
+                },
+            }
+        }
+        Found::At {
+            ordinal,
+            start,
+            length,
+        } => {
+            if let Kind::Insert = kind {
+                return Aim::Not {
+                    answer: Answer::Present,
+                };
+            }
+            Aim::At {
+                site: Site {
+                    entry,
+                    number,
+                    ordinal,
+                    start,
+                    gone: 1,
+                    span: length,
+                },
+            }
+        }
+    }
 }
 
 // What a change that was carried out is answered with.
@@ -123,6 +218,59 @@ pub(crate) fn told(made: Made) -> Answer
         Made::Written(count) => Answer::Done(Written { count }),
         Made::NoInterval => Answer::NoInterval,
         Made::NoRoom => Answer::NoRoom,
+    }
+}
+
+// In a sound area, a change of the record with a key; bytes of a length that was found right.
+pub(crate) fn change_at(
+    area: &mut [u8],
+    m: Measures,
+    n: usize,
+    kind: Kind,
+    key: &[u8],
+    new: &[u8],
+) -> Answer
+    requires { ⌜ Fits m n (length (now area)) × Whole m n (now area) ⌝ }
+    requires asked { ⌜ Asked m kind (now key) (now new) ⌝ }
+    ensures { λ r. ⌜ MakesKeyed m n (now (area .entry)) (changeAt kind (now (key .entry)) (now (new .entry))) r (now (area .exit)) ⌝ }
+{
+    match take_aim(kind, area_find::find(area, m, n, key)) {
+        Aim::Not { answer } => answer,
+        Aim::At { site } => told(change_write::change(area, m, n, site, new)),
+    }
+}
+
+// In a sound area, a change with the bytes that are handed over: a record, or the key of the one that is to go.
+pub(crate) fn change_in(area: &mut [u8], m: Measures, n: usize, kind: Kind, given: &[u8]) -> Answer
+    requires { ⌜ Fits m n (length (now area)) × Whole m n (now area) ⌝ }
+    ensures { λ r. ⌜ MakesIn m n (now (area .entry)) (λ c. changeIn m c (now (area .entry)) (changeFor kind (now (given .entry)))) r (now (area .exit)) ⌝ }
+{
+    if let Kind::Erase = kind {
+        if given.len() != m.key {
+            return Answer::WrongLength;
+        }
+        return change_at(area, m, n, kind, given, &given[..0]);
+    }
+    if given.len() < m.least || m.most < given.len() {
+        return Answer::WrongLength;
+    }
+    let a = m.offset;
+    let e = a + m.key;
+    change_at(area, m, n, kind, &given[a..e], given)
+}
+
+// A change, of whichever kind.
+pub(crate) fn change(area: &mut [u8], numbers: Numbers, kind: Kind, given: &[u8]) -> Answer
+    ensures { λ r. ⌜ Makes (changeBy numbers (now (area .entry)) (changeFor kind (now (given .entry)))) r (now (area .exit)) ⌝ }
+{
+    match opening::open(area, numbers) {
+        Opened::Refused { answer } => answer,
+        Opened::Whole {
+            measures,
+            count,
+            records: _,
+            free: _,
+        } => change_in(area, measures, count, kind, given),
     }
 }
 
@@ -137,34 +285,13 @@ pub fn insert(
 ) -> Answer
     ensures { λ r. ⌜ Makes (insertOf size offset key most (now (area .entry)) (now (new .entry))) r (now (area .exit)) ⌝ }
 {
-    let Judged::Fine {
-        measures: m,
-        count: n,
-    } = measures::judge(size, offset, key, most, area.len())
-    else {
-        return Answer::Outside;
+    let numbers = Numbers {
+        size,
+        offset,
+        key,
+        most,
     };
-    if let Checked::Damaged { place } = area_read::check(area, m, n) {
-        return Answer::Damaged(place);
-    }
-    if new.len() < m.least || most < new.len() {
-        return Answer::WrongLength;
-    }
-    let e = offset + key;
-    let spot = area_find::find(area, m, n, &new[offset..e]);
-    let found = spot.found;
-    let Found::Gap { ordinal, start } = found else {
-        return Answer::Present;
-    };
-    let site = Site {
-        entry: spot.entry,
-        number: spot.number,
-        ordinal,
-        start,
-        gone: 0,
-        span: 0,
-    };
-    told(change_write::put_in(area, m, n, site, new))
+    change(area, numbers, Kind::Insert, new)
 }
 
 // Another record in place of the one with its key: refusals 1, 2, 3, 5, 6, 7.
@@ -178,39 +305,13 @@ pub fn update(
 ) -> Answer
     ensures { λ r. ⌜ Makes (updateOf size offset key most (now (area .entry)) (now (new .entry))) r (now (area .exit)) ⌝ }
 {
-    let Judged::Fine {
-        measures: m,
-        count: n,
-    } = measures::judge(size, offset, key, most, area.len())
-    else {
-        return Answer::Outside;
+    let numbers = Numbers {
+        size,
+        offset,
+        key,
+        most,
     };
-    if let Checked::Damaged { place } = area_read::check(area, m, n) {
-        return Answer::Damaged(place);
-    }
-    if new.len() < m.least || most < new.len() {
-        return Answer::WrongLength;
-    }
-    let e = offset + key;
-    let spot = area_find::find(area, m, n, &new[offset..e]);
-    let found = spot.found;
-    let Found::At {
-        ordinal,
-        start,
-        length,
-    } = found
-    else {
-        return Answer::Absent;
-    };
-    let site = Site {
-        entry: spot.entry,
-        number: spot.number,
-        ordinal,
-        start,
-        gone: 1,
-        span: length,
-    };
-    told(change_write::put_in(area, m, n, site, new))
+    change(area, numbers, Kind::Update, new)
 }
 
 // The record with a key taken out: refusals 1, 2, 3, 5. It never divides and never touches the index record.
@@ -224,36 +325,11 @@ pub fn erase(
 ) -> Answer
     ensures { λ r. ⌜ Makes (eraseOf size offset key most (now (area .entry)) (now (wanted .entry))) r (now (area .exit)) ⌝ }
 {
-    let Judged::Fine {
-        measures: m,
-        count: n,
-    } = measures::judge(size, offset, key, most, area.len())
-    else {
-        return Answer::Outside;
+    let numbers = Numbers {
+        size,
+        offset,
+        key,
+        most,
     };
-    if let Checked::Damaged { place } = area_read::check(area, m, n) {
-        return Answer::Damaged(place);
-    }
-    if wanted.len() != key {
-        return Answer::WrongLength;
-    }
-    let spot = area_find::find(area, m, n, wanted);
-    let found = spot.found;
-    let Found::At {
-        ordinal,
-        start,
-        length,
-    } = found
-    else {
-        return Answer::Absent;
-    };
-    let site = Site {
-        entry: spot.entry,
-        number: spot.number,
-        ordinal,
-        start,
-        gone: 1,
-        span: length,
-    };
-    told(change_write::take_out(area, m, n, site))
+    change(area, numbers, Kind::Erase, wanted)
 }

@@ -5,5 +5,7 @@ pub mod Edits
 pub mod Lying
 pub mod Gets
 pub mod Order
+pub mod Proper
+pub mod Ways
 pub mod Accepted
 pub mod Unique

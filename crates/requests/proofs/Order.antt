@@ -14,7 +14,7 @@ use Rattle.change.specs.Plan.{Plan, noInterval, noRoom, stores}
 use Rattle.requests.specs.Answers.{numberOf}
 use Rattle.requests.specs.Records.{withKey}
 use Rattle.requests.specs.Reading.{getOf, getAtOf}
-use Rattle.requests.specs.Changing.{kept, carryOut, insertOf}
+use Rattle.requests.specs.Changing.{kept, carryOut, insertOf, changeOf}
 use Rattle.requests.specs.declared.Answer.the-variants.{Damaged, Present}
 
 module _ (size offset key most : ℕ) (area : List ℕ) (m : Measures) (n : ℕ) (j : judgedOf size offset key most (length area) ≡ Fine m n)
@@ -33,7 +33,7 @@ module _ (size offset key most : ℕ) (area : List ℕ) (m : Measures) (n : ℕ)
 pub insert-present : (size offset key most : ℕ) (area : List ℕ) (m : Measures) (n : ℕ) → judgedOf size offset key most (length area) ≡ Fine m n
     → (c : Content) → readArea m n area ≡ whole c → (r x : List ℕ) (xs : List (List ℕ)) → within (m .least) (m .most) (length r) ≡ true
     → withKey m (keyOf m r) (recordsOf (c .filled)) ≡ x ∷ xs → insertOf size offset key most area r ≡ kept Present area
-unfolding insertOf
+unfolding changeOf
 insert-present size offset key most area m n j c w r x xs l e = rw (j, w, l, e) refl
 
 -- a plan that refuses leaves the area

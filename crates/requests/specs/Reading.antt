@@ -7,32 +7,22 @@ use lib.ListN.{length}
 use lib.Dec.{eqb, leb}
 use Rattle.fields.specs.Choice.{pick}
 use Rattle.fields.specs.Bytes.{splice}
-use Rattle.measures.specs.Judgement.{judgedOf}
 use Rattle.measures.specs.declared.Measures.{Measures}
-use Rattle.measures.specs.declared.Judged.{Judged}
-use Rattle.measures.specs.declared.Judged.the-variants.{Fine}
-use Rattle.measures.specs.declared.Judged.the-variants as judged
-use Rattle.area.specs.Content.{recordsOf, baseOf}
-use Rattle.area.specs.Reading.{Reading, damaged, whole, readArea}
-use Rattle.area.specs.Checked.{checkedOf}
-use Rattle.area.specs.declared.Checked.{Checked}
-use Rattle.area.specs.declared.Checked.the-variants as checked
+use Rattle.area.specs.Content.{Content, recordsOf, baseOf}
 use Rattle.requests.specs.Records.{withKey, lyingAt}
+use Rattle.requests.specs.Opening.{Opening, shut, holding, openingOf}
 use Rattle.requests.specs.declared.Answer.{Answer}
-use Rattle.requests.specs.declared.Answer.the-variants.{Found, Intact, Damaged, Short, Outside, WrongLength, Absent, NoRecord}
+use Rattle.requests.specs.declared.Answer.the-variants.{Found, Intact, Short, WrongLength, Absent, NoRecord}
 
 -- ---- check: 1, 2
 
-abbrev pub checkTold : Checked → Answer
-checkTold (checked.Intact records free) = Intact records free
-checkTold (checked.Damaged place) = Damaged place
-
-abbrev pub checkJudged : Judged → List ℕ → Answer
-checkJudged judged.Outside area = Outside
-checkJudged (Fine m n) area = checkTold (checkedOf (readArea m n area))
+-- how many records, and how many free intervals
+abbrev pub checkOpened : Opening → Answer
+checkOpened (shut a) = a
+checkOpened (holding m c) = Intact (length (recordsOf (c .filled))) (length (c .free))
 
 unfoldable pub checkOf : ℕ → ℕ → ℕ → ℕ → List ℕ → Answer
-checkOf size offset key most area = checkJudged (judgedOf size offset key most (length area)) area
+checkOf size offset key most area = checkOpened (openingOf size offset key most area)
 
 -- ---- the gets: an answer, and the output with the record at its front
 
@@ -52,30 +42,27 @@ handOut none (r ∷ rs) out =
 
 -- ---- get by key: 1, 2, 3, 5, 8
 
-abbrev pub getRead : Measures → List ℕ → List ℕ → Reading → Given
-getRead m key out (damaged place) = refused (Damaged place) out
-getRead m key out (whole c) =
-    pick (eqb (length key) (m .key)) (handOut Absent (withKey m key (recordsOf (c .filled))) out) (refused WrongLength out)
+abbrev pub getIn : Measures → Content → List ℕ → List ℕ → Given
+getIn m c wanted out = pick (eqb (length wanted) (m .key)) (handOut Absent (withKey m wanted (recordsOf (c .filled))) out) (refused WrongLength out)
 
-abbrev pub getJudged : Judged → List ℕ → List ℕ → List ℕ → Given
-getJudged judged.Outside area key out = refused Outside out
-getJudged (Fine m n) area key out = getRead m key out (readArea m n area)
+abbrev pub getOpened : Opening → List ℕ → List ℕ → Given
+getOpened (shut a) wanted out = refused a out
+getOpened (holding m c) wanted out = getIn m c wanted out
 
 unfoldable pub getOf : ℕ → ℕ → ℕ → ℕ → List ℕ → List ℕ → List ℕ → Given
-getOf size offset key most area wanted out = getJudged (judgedOf size offset key most (length area)) area wanted out
+getOf size offset key most area wanted out = getOpened (openingOf size offset key most area) wanted out
 
 -- ---- get by address: 1, 2, 9, 8
 
-abbrev pub getAtRead : Measures → ℕ → List ℕ → Reading → Given
-getAtRead m address out (damaged place) = refused (Damaged place) out
-getAtRead m address out (whole c) = handOut NoRecord (lyingAt m (baseOf c) address (c .filled)) out
+abbrev pub getAtIn : Measures → Content → ℕ → List ℕ → Given
+getAtIn m c address out = handOut NoRecord (lyingAt m (baseOf c) address (c .filled)) out
 
-abbrev pub getAtJudged : Judged → List ℕ → ℕ → List ℕ → Given
-getAtJudged judged.Outside area address out = refused Outside out
-getAtJudged (Fine m n) area address out = getAtRead m address out (readArea m n area)
+abbrev pub getAtOpened : Opening → ℕ → List ℕ → Given
+getAtOpened (shut a) address out = refused a out
+getAtOpened (holding m c) address out = getAtIn m c address out
 
 unfoldable pub getAtOf : ℕ → ℕ → ℕ → ℕ → List ℕ → ℕ → List ℕ → Given
-getAtOf size offset key most area address out = getAtJudged (judgedOf size offset key most (length area)) area address out
+getAtOf size offset key most area address out = getAtOpened (openingOf size offset key most area) address out
 
 -- the contract of a get: the answer, and the output at exit
 pub record Gives (given : Given) (answer : Answer) (output : List ℕ) : Type 0 where

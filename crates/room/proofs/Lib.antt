@@ -1,4 +1,5 @@
 pub mod Need
 pub mod Steps
+pub mod Runs
 pub mod Unique
 pub mod Vectors

@@ -17,7 +17,7 @@ use Rattle.room.specs.Room.{described, Group, allCounted, rdfCount, push
 use Rattle.room.specs.AidSteps.{starts, again, ahead, marks, ended, behind}
 
 -- so many records of one length, described together
-abbrev group : ℕ → ℕ → Group
+abbrev pub group : ℕ → ℕ → Group
 group l n = record { len = l; count = n }
 
 -- What the writer's groups describe.

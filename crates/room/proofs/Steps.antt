@@ -129,6 +129,10 @@ snoc (a ∷ ls) l = snoc-some (a ∷ ls) l (omega arith)
 pub snoc-at : (ls : List ℕ) (i : ℕ) (r : Room) → i < length ls → r ≡ roomOf (take i ls) → also r (getD ls i 0) ≡ roomOf (take (i + 1) ls)
 snoc-at ls i r h e = rw (e, add-one, take-suc ls i 0 h) (snoc (take i ls) (getD ls i 0))
 
+-- and over their sum
+pub sum-turn : (ls : List ℕ) (i n : ℕ) → i < length ls → n ≡ sum (take i ls) → n + getD ls i 0 ≡ sum (take (i + 1) ls)
+sum-turn ls i n h e = rw (e, add-one, take-suc ls i 0 h) (sym (sum-snoc (take i ls) (getD ls i 0)))
+
 pub also-bytes : (r : Room) (l : ℕ) → also r l .bytes ≡ r .bytes + l
 unfolding also
 also-bytes r l = go (eqb (r .run) 0) (eqb (r .last) l)

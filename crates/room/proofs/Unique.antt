@@ -5,7 +5,9 @@ use Prim.Native.Nat.{ℕ}
 use mathlib.Core.Path.{_≡_}
 use Rattle.fields.proofs.Choices.{agree}
 use Rattle.room.specs.declared.Room.{Room}
+use Rattle.room.proofs.Runs.{run-unique}
 use Rattle.room.proofs.add.Reads as add
+use Rattle.room.proofs.run_at.Reads as run-at
 use Rattle.room.proofs.room_of.Reads as room-of
 use Rattle.room.proofs.ahead_at.Reads as ahead-at
 use Rattle.room.proofs.bytes_to.Reads as bytes-to
@@ -14,6 +16,9 @@ use Rattle.room.proofs.need_of_lengths.Reads as need-of-lengths
 
 pub unique-add : (κs : _) (args : _) (r s : Room) (e f : _) → add.Learnt κs args r e → add.Learnt κs args s f → r ≡ s
 unique-add κs args r s e f p q = agree p q
+
+pub unique-run-at : (κs : _) (args : _) (r s : ℕ) (e f : _) → run-at.Learnt κs args r e → run-at.Learnt κs args s f → r ≡ s
+unique-run-at κs args r s e f p q = run-unique (args .0 .now) (args .1 .0) r s (p .0) (q .0)
 
 pub unique-room-of : (κs : _) (args : _) (r s : Room) (e f : _) → room-of.Learnt κs args r e → room-of.Learnt κs args s f → r ≡ s
 unique-room-of κs args r s e f p q = agree (p .0) (q .0)

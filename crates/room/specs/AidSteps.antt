@@ -1,9 +1,10 @@
 -- Aids: the same room, counted one record after another. Contracts of leaf functions cite them; their laws (proofs/Need.antt,
 -- proofs/Steps.antt) join each to `groups` and `need` of specs/Room.antt, and nothing here has to be believed.
-use Prim.Native.Nat.{ℕ, _+_, _-_}
+use Prim.Native.Nat.{ℕ, zero, suc, _+_, _-_}
+use mathlib.Core.Path.{_≡_}
 use mathlib.Core.Bool.{Bool, false}
 use mathlib.Core.List.{List, [], _∷_}
-use lib.ListN.{length, getD}
+use lib.ListN.{length, getD, drop}
 use lib.Dec.{eqb, leb}
 use Rattle.fields.specs.Choice.{pick, both}
 use Rattle.fields.specs.Lists.{sum}
@@ -57,3 +58,12 @@ also r l =
     (pick (eqb (r .last) l)
     (record { bytes = r .bytes + l; rdfs = pick (eqb (r .run) 1) (r .rdfs + 1) (r .rdfs); last = l; run = 2 })
     (record { bytes = r .bytes + l; rdfs = r .rdfs + 1; last = l; run = 1 }))
+
+-- and with a run of k more
+unfoldable pub alsoRun : Room → ℕ → ℕ → Room
+alsoRun r l zero = r
+alsoRun r l (suc k) = alsoRun (also r l) l k
+
+-- the first group of the lengths from place i on has r of them, and the other groups are those from i + r on
+abbrev pub RunAt : List ℕ → ℕ → ℕ → Type 0
+RunAt lens i r = groups (drop i lens) ≡ record { len = getD lens i 0; count = r } ∷ groups (drop (i + r) lens)

@@ -5,7 +5,7 @@ ghost use mathlib.Core.List.{List};
 ghost use lib.ListN.{length, getD, take, drop};
 ghost use Rattle.fields.specs.Lists.{sum};
 ghost use Rattle.room.specs.Room.{need};
-ghost use Rattle.room.specs.AidSteps.{ahead, roomOf, also};
+ghost use Rattle.room.specs.AidSteps.{ahead, roomOf, also, alsoRun, RunAt};
 
 // What records take so far, as much as is needed to add one more: their bytes; their RDFs; the last length; and 0, 1 or 2
 // where no record, a single one or a run stands at the end.
@@ -49,7 +49,42 @@ pub fn add(r: Room, len: u16) -> Room
     }
 }
 
-// The room that records of these lengths take.
+// How many records, from record i on, are as long as it: the first group of the lengths from there.
+pub fn run_at(lens: &[u16], i: usize) -> usize
+    requires { ⌜ i < length (now lens) ⌝ }
+    ensures run { λ r. ⌜ RunAt (now (lens .entry)) i r ⌝ }
+    ensures inside { λ r. ⌜ (1 ≤ r) × (i + r ≤ length (now (lens .entry))) ⌝ }
+{
+    let l = lens[i];
+    let mut j = i + 1;
+    while j < lens.len() {
+        if lens[j] != l {
+            return j - i;
+        }
+        j += 1;
+    }
+    j - i
+}
+
+// The room with a run more at the end: count records of one length.
+pub(crate) fn add_run(r: Room, len: u16, count: usize) -> Room
+    requires { ⌜ (1 ≤ count) × (count ≤ 32768) × (r .bytes < 2147483648) × (r .rdfs < 2147483648) ⌝ }
+    ensures { λ s. ⌜ s ≡ alsoRun r len count ⌝ }
+{
+    let one = add(r, len);
+    if count == 1 {
+        return one;
+    }
+    let two = add(one, len);
+    Room {
+        bytes: r.bytes + count * len as usize,
+        rdfs: two.rdfs,
+        last: len,
+        run: 2,
+    }
+}
+
+// The room that records of these lengths take, a run at a time.
 pub fn room_of(lens: &[u16]) -> Room
     requires { ⌜ length (now lens) ≤ 32768 ⌝ }
     ensures is { λ r. ⌜ r ≡ roomOf (now (lens .entry)) ⌝ }
@@ -63,8 +98,9 @@ pub fn room_of(lens: &[u16]) -> Room
     };
     let mut i = 0;
     while i < lens.len() {
-        r = add(r, lens[i]);
-        i += 1;
+        let count = run_at(lens, i);
+        r = add_run(r, lens[i], count);
+        i += count;
     }
     r
 }
@@ -93,8 +129,13 @@ pub fn bytes_to(lens: &[u16], k: usize) -> usize
     ensures is { λ r. ⌜ r ≡ sum (take k (now (lens .entry))) ⌝ }
     ensures small { λ r. ⌜ r ≤ 65535 * k ⌝ }
 {
-    let r = room_of(&lens[..k]);
-    r.bytes
+    let mut sum: usize = 0;
+    let mut i = 0;
+    while i < k {
+        sum += lens[i] as usize;
+        i += 1;
+    }
+    sum
 }
 
 // How many bytes of an interval the records take: their own, three for each RDF, four for the CIDF.

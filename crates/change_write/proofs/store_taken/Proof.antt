@@ -1,141 +1,109 @@
--- No loop. The numbers read are the free ones from the right end, as the plan takes them; so the stores made are those of the plan, one after
--- the other (stored-one, stored-two). Each is below n and so names an interval that lies in the area and can be written (writable).
--- Enough are free: one for two parts (some-free), two for three (two-free). Each part fits an interval (fit-last, fit-middle, fit-third).
-use mathlib.Core.Path.{refl, sym}
+-- No loop. The first of the later parts ends where the second cut is, or with the last record (last-is), and can be stored in interval a (later-storable). That leaves
+-- the old interval as it was, so that the edit is still seen there (later-seen), and the last of three parts can be stored in interval b (Keeping).
+use mathlib.Core.Path.{_≡_, _∙_}
+use mathlib.Core.Logic.{⊎-elim}
 use lib.ListN.{length}
 use native.Mathlib.Omega.{arith}
+use borrow.Author.Tests.{eq-eqb, ne-eqb}
+use denote.Ref.{now}
+use Rattle.fields.specs.Choice.{pick}
+use Rattle.change_plan.specs.AidParts.{threeOf}
+use Rattle.change_write.proofs.Keeping.{place-small, later-storable, one-taken, later-seen, last-storable, two-taken}
 use borrow.Author.Needs.{needs}
-use borrow.Author.Tests.{not-true, not-false}
-use Rattle.measures.proofs.Width.{width-small}
-use Rattle.area.proofs.Places.{length-index}
-use Rattle.change_write.proofs.Taking.{fit-last, fit-middle, fit-third, some-free, two-free, takable, writable, stored-one, stored-two}
 use Rattle.change_write.proofs.store_taken.Statement.{statement}
 use Rattle.change_write.proofs.store_taken.Tie as tie
 
-width-for-requires : tie.Need-width-for-requires
-width-for-requires c κs = search needs
+-- The states that the proof looks back to, by their names.
+abbrev begun : tie.After-struct-known → tie.Start
+begun k = k .before .before .before .before .before
 
-slice-reshare-prefix-taken : tie.Need-slice-reshare-prefix-taken
-slice-reshare-prefix-taken c = search needs
+abbrev joined : tie.After-store → tie.Joined1
+joined k = k .before .before .before
 
-slice-aggregate-taken : tie.Need-slice-aggregate-taken
-slice-aggregate-taken c =
-    let s = c .before .before .before .before .before in
+abbrev start-of : tie.After-store → tie.Start
+start-of k = begun (joined k .before)
+
+abbrev stored-of : tie.After-struct-known3 → tie.After-store
+stored-of k = k .before .before .before
+
+abbrev third-of : tie.After-store-arg2 → tie.Then2
+third-of k = k .before .before
+
+-- where the first of the later parts ends
+last-is : (j : tie.Joined1)
+    → j .if1 .last ≡ pick (threeOf (begun (j .before) .args .spread .parts)) (begun (j .before) .args .spread .parts .second) (length (now (begun (j .before) .args .lens)))
+last-is j =
+    let p = begun (j .before) .args .spread .parts in
+    ⊎-elim (λ h. h .1 ∙ rw (eq-eqb (p .many) 3 (h .0 .taken))) (λ h. h .1 ∙ rw (ne-eqb (p .many) 3 (h .0 .left))) (j .if1 .came)
+
+add-t12 : tie.Need-add-t12
+add-t12 c =
+    let s = begun (c .before .before) in
     let a = s .args in
-    sym (length-index (a .m) (a .n) (a .area .now) (s .pre .0 .0))
+    omega (arith, place-small (a .m) (now (a .area)) (now (a .new)) (now (a .lens)) (a .spread) (s .pre) (a .spread .a) (s .pre .a-there))
 
-taken-requires : tie.Need-taken-requires
-taken-requires c κs =
-    let s = c .before .before .before .before .before in
-    let v = c .before .width-for in
+store-requires : tie.Need-store-requires
+store-requires c κs =
+    let j = c .before .before in
+    let s = begun (j .before) in
     let a = s .args in
-    rw (v .ensures)
-    (takable (a .m) (a .n) (a .area .now) (s .pre .0 .1) 0 (some-free (a .m) (a .n) (a .area .now) (a .three) (s .pre .1)))
+    (s .pre .seen, later-storable (a .m) (now (a .area)) (now (a .new)) (now (a .lens)) (a .spread) (s .pre) (j .if1 .last) (last-is j))
 
-add-write-part : tie.Need-add-write-part
-add-write-part c =
-    let s = c .before .before .before .before .before .before .before .before in
-    let v = c .before .before .before .before .width-for in
-    omega (arith, width-small (s .args .n), rw (v .ensures) at (c .before .before .taken .ensures .1))
-
-write-part-requires : tie.Need-write-part-requires
-write-part-requires c κs =
-    let s = c .before .before .before .before .before .before .before .before in
-    let v = c .before .before .before .before .width-for in
+add-t16 : tie.Need-add-t16
+add-t16 c =
+    let s = start-of (stored-of (c .before .before)) in
     let a = s .args in
-    let t = c .before .before .taken in
-    writable (a .m) (a .n) (a .area .now) (s .pre .0 .0) (s .pre .0 .1) (a .bytes .now) (a .lens .now) (s .pre .0 .2) 0 (t .result) (a .first) (length (a .lens .now)) (length (a .area .now)) (some-free (a .m) (a .n) (a .area .now) (a .three) (s .pre .1)) (rw (v .ensures) at (t .ensures .0)) (omega (arith, s .pre .0 .3, s .pre .0 .4)) (omega arith) (fit-last (a .m .size) (a .first) (a .second) (a .lens .now) (a .three) (not-true (a .three) (c .before .if1 .taken)) (s .pre .0 .5)) refl
+    let z = eq-eqb (a .spread .parts .many) 3 (c .before .if2 .taken) in
+    omega (arith, place-small (a .m) (now (a .area)) (now (a .new)) (now (a .lens)) (a .spread) (s .pre) (a .spread .b) (s .pre .b-there z))
+
+store-requires-2 : tie.Need-store-requires-2
+store-requires-2 c κs =
+    let k = third-of c in
+    let t = stored-of (k .before) in
+    let j = joined t in
+    let s = start-of t in
+    let a = s .args in
+    let z = eq-eqb (a .spread .parts .many) 3 (k .if2 .taken) in (
+      later-seen (a .m) (now (a .area)) (now (a .new)) (now (a .lens)) (a .spread) (s .pre) (j .if1 .last) (last-is j) (t .store .last .0) (t .store .ensures),
+      last-storable (a .m) (now (a .area)) (now (a .new)) (now (a .lens)) (a .spread) (s .pre) (j .if1 .last) (last-is j) (t .store .last .0) (t .store .ensures) z,
+    )
 
 same-length : tie.Need-same-length
 same-length c = search needs
 
 returns : tie.Need-returns
 returns c =
-    let s = c .before .before .before .before .before .before .before .before .before .before .before in
-    let v = c .before .before .before .before .before .before .before .width-for in
+    let v = c .before .before in
+    let k = third-of (v .before) in
+    let t = stored-of (k .before) in
+    let j = joined t in
+    let s = start-of t in
     let a = s .args in
-    let x = c .before .before .write-part in
-    let t = c .before .before .before .before .before .taken in
-    stored-one (a .m) (a .n) (a .area .now) (a .bytes .now) (a .lens .now) (a .first) (a .second) (t .result) (rw (v .ensures) at (t .ensures .0)) (a .three) (not-true (a .three) (c .before .before .before .before .if1 .taken)) (s .pre .1) (x .last .0) (x .ensures)
-
-slice-reshare-prefix-taken-2 : tie.Need-slice-reshare-prefix-taken-2
-slice-reshare-prefix-taken-2 c = search needs
-
-slice-aggregate-taken-2 : tie.Need-slice-aggregate-taken-2
-slice-aggregate-taken-2 c =
-    let s = c .before .before .before .before .before .before .before .before in
-    let a = s .args in
-    sym (length-index (a .m) (a .n) (a .area .now) (s .pre .0 .0))
-
-taken-requires-2 : tie.Need-taken-requires-2
-taken-requires-2 c κs =
-    let s = c .before .before .before .before .before .before .before .before in
-    let v = c .before .before .before .before .width-for in
-    let a = s .args in
-    rw (v .ensures)
-    (takable (a .m) (a .n) (a .area .now) (s .pre .0 .1) 1 (two-free (a .m) (a .n) (a .area .now) (a .three) (not-false (a .three) (c .before .if1 .left)) (s .pre .1)))
-
-add-write-part-2 : tie.Need-add-write-part-2
-add-write-part-2 c =
-    let s = c .before .before .before .before .before .before .before .before .before .before in
-    let v = c .before .before .before .before .before .before .width-for in
-    omega (arith, width-small (s .args .n), rw (v .ensures) at (c .before .before .before .before .taken .ensures .1))
-
-write-part-requires-2 : tie.Need-write-part-requires-2
-write-part-requires-2 c κs =
-    let s = c .before .before .before .before .before .before .before .before .before .before in
-    let v = c .before .before .before .before .before .before .width-for in
-    let a = s .args in
-    let t = c .before .before .before .before .taken in
-    writable (a .m) (a .n) (a .area .now) (s .pre .0 .0) (s .pre .0 .1) (a .bytes .now) (a .lens .now) (s .pre .0 .2) 0 (t .result) (a .first) (a .second) (length (a .area .now)) (some-free (a .m) (a .n) (a .area .now) (a .three) (s .pre .1)) (rw (v .ensures) at (t .ensures .0)) (s .pre .0 .3) (s .pre .0 .4) (fit-middle (a .m .size) (a .first) (a .second) (a .lens .now) (a .three) (not-false (a .three) (c .before .before .before .if1 .left)) (s .pre .0 .5)) refl
-
-add-write-part-3 : tie.Need-add-write-part-3
-add-write-part-3 c =
-    let s = c .before .before .before .before .before .before .before .before .before .before .before .before .before .before in
-    let v = c .before .before .before .before .before .before .before .before .before .before .width-for in
-    omega (arith, width-small (s .args .n), rw (v .ensures) at (c .before .before .before .before .before .taken2 .ensures .1))
-
-write-part-requires-3 : tie.Need-write-part-requires-3
-write-part-requires-3 c κs =
-    let s = c .before .before .before .before .before .before .before .before .before .before .before .before .before .before in
-    let v = c .before .before .before .before .before .before .before .before .before .before .width-for in
-    let a = s .args in
-    let x = c .before .before .before .write-part2 in
-    let u = c .before .before .before .before .before .taken2 in
-    writable (a .m) (a .n) (a .area .now) (s .pre .0 .0) (s .pre .0 .1) (a .bytes .now) (a .lens .now) (s .pre .0 .2) 1 (u .result) (a .second) (length (a .lens .now)) (length (x .last .0)) (two-free (a .m) (a .n) (a .area .now) (a .three) (not-false (a .three) (c .before .before .before .before .before .before .before .if1 .left)) (s .pre .1)) (rw (v .ensures) at (u .ensures .0)) (s .pre .0 .4) (omega arith) (fit-third (a .m .size) (a .first) (a .second) (a .lens .now) (a .three) (not-false (a .three) (c .before .before .before .before .before .before .before .if1 .left)) (s .pre .0 .5)) (x .kept .0)
+    let z = eq-eqb (a .spread .parts .many) 3 (k .if2 .taken) in
+    two-taken (a .m) (now (a .area)) (now (a .new)) (now (a .lens)) (a .spread) (s .pre) (j .if1 .last) (last-is j) (t .store .last .0) (t .store .ensures) z
+    (v .store2 .last .0) (v .store2 .ensures)
 
 same-length-2 : tie.Need-same-length-2
 same-length-2 c = search needs
 
 returns-2 : tie.Need-returns-2
 returns-2 c =
-    let s = c .before .before .before .before .before .before .before .before .before .before .before .before .before .before .before .before .before in
-    let v = c .before .before .before .before .before .before .before .before .before .before .before .before .before .width-for in
+    let t = stored-of (c .before) in
+    let j = joined t in
+    let s = start-of t in
     let a = s .args in
-    let y = c .before .before .write-part3 in
-    let x = c .before .before .before .before .before .before .write-part2 in
-    let u = c .before .before .before .before .before .before .before .before .taken2 in
-    let t = c .before .before .before .before .before .before .before .before .before .before .before .taken in
-    stored-two (a .m) (a .n) (a .area .now) (a .bytes .now) (a .lens .now) (a .first) (a .second) (t .result) (rw (v .ensures) at (t .ensures .0)) (u .result) (rw (v .ensures) at (u .ensures .0)) (a .three) (not-false (a .three) (c .before .before .before .before .before .before .before .before .before .before .if1 .left)) (s .pre .1) (x .last .0) (y .last .0) (x .ensures) (y .ensures)
+    one-taken (a .m) (now (a .area)) (now (a .new)) (now (a .lens)) (a .spread) (s .pre) (j .if1 .last) (last-is j) (t .store .last .0) (t .store .ensures)
+    (ne-eqb (a .spread .parts .many) 3 (c .if2 .left))
 
 pub store-taken-spec : {M : Type 1} → statement M
 store-taken-spec =
     tie.close
     (tie.spec
-    width-for-requires
-    slice-reshare-prefix-taken
-    slice-aggregate-taken
-    taken-requires
-    add-write-part
-    write-part-requires
+    add-t12
+    store-requires
+    add-t16
+    store-requires-2
     same-length
     returns
-    slice-reshare-prefix-taken-2
-    slice-aggregate-taken-2
-    taken-requires-2
-    add-write-part-2
-    write-part-requires-2
-    add-write-part-3
-    write-part-requires-3
     same-length-2
     returns-2)

@@ -1,0 +1,9 @@
+pub mod Pieces
+pub mod Seeing
+pub mod Keys
+pub mod Cutting
+pub mod Free
+pub mod Dividing
+pub mod Planning
+pub mod Telling
+pub mod Unique

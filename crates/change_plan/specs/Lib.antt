@@ -1,0 +1,3 @@
+pub mod AidEdited
+pub mod AidParts
+pub mod AidPlanned
