@@ -49,13 +49,23 @@ def loaded(free, lens):
     return area_of(SIZE, [(b"", 0)], free, {0: [bytes([65 + 2 * i]) * length for i, length in enumerate(lens)]})
 
 
-def case(t, free, lens, letter, byte, *lengths):
-    """A request with each of some lengths, each of the area as loaded."""
-    for length in lengths:
+def case(t, free, lens, letter, byte, *lengths, come=()):
+    """A request with each of some lengths, each of the area as loaded; what the papers say that they come to, where they do."""
+    for place, length in enumerate(lengths):
         t.text("%s of %s, %d bytes; %d free" % (model.NAMES[letter], byte, length, len(free)))
         t.lay(loaded(free, lens))
-        t.ask(letter, M4, filled(byte.encode() * 4, length))
+        answer = t.ask(letter, M4, filled(byte.encode() * 4, length))
+        if come:
+            t.answers(answer, *come[place])
         t.ask("C", M4)
+
+
+STAYS, TWO, THREE, NO_INTERVAL = (0, 1), (0, 3), (0, 4), (6,)
+
+
+def ends(t, d, u):
+    """Document 01 on interval 0: its records' bytes and its unused space."""
+    t.says(1020, "%04x%04x" % (d, u))
 
 
 # ---- gets
@@ -83,9 +93,9 @@ def addresses(t):
     for address, out in ((1, 12), (7, 12), (511, 12), (1032, 10), (1032, 11), (0, 0)):
         t.ask("R", M4, address=address, out=out)
     for base in (0x12345, 2 ** 32 - 4 * SIZE):
-        t.text("base %d: below it, at it, at records, at what no base gives, past the last interval" % base)
         t.lay(bent(SOUND, 4, base.to_bytes(4, "big")))
         for address in (base - 1, base, base + 8, base + 4, base + 512, base + 1032, base + 1536, base + 2048, 0, 8, 1032, 2 ** 32 + base, HIGHEST):
+            t.text("base %d, address %d" % (base, address))
             t.ask("R", M4, address=address, out=11)
     t.text("base one past the limit")
     t.lay(bent(SOUND, 4, (2 ** 32 - 4 * SIZE + 1).to_bytes(4, "big")))
@@ -198,31 +208,42 @@ def figure_38(t):
 
 def fitting(t):
     t.text("== at the end of four of 100")
-    case(t, [1, 2, 3], [100] * 4, "I", "I", 99, 100, 101)
+    case(t, [1, 2, 3], [100] * 4, "I", "I", 99, come=[STAYS])
+    ends(t, 499, 0)
+    case(t, [1, 2, 3], [100] * 4, "I", "I", 100, 101, come=[STAYS, TWO])
+    ends(t, 300, 202)
     t.text("== between two and two of 100")
-    case(t, [1, 2, 3], [100] * 4, "I", "D", 93, 94)
-    case(t, [3, 2, 1], [100] * 4, "I", "D", 99)
-    case(t, [1], [100] * 4, "I", "D", 100)
+    case(t, [1, 2, 3], [100] * 4, "I", "D", 93, come=[STAYS])
+    ends(t, 493, 0)
+    case(t, [1, 2, 3], [100] * 4, "I", "D", 94, come=[TWO])
+    ends(t, 200, 302)
+    case(t, [3, 2, 1], [100] * 4, "I", "D", 99, come=[TWO])
+    case(t, [1], [100] * 4, "I", "D", 100, come=[STAYS])
+    ends(t, 500, 2)
     t.text("== between two and two of 99")
-    case(t, [1], [99] * 4, "I", "D", 97, 98)
+    case(t, [1], [99] * 4, "I", "D", 97, 98, come=[STAYS, TWO])
 
 
 def three_parts(t):
-    for title, free, bytes_ in (("400 to 250 and 240: between, before, after", [1, 2], "B@D"),
-                                ("free numbers in another order", [2, 3, 1], "B"),
-                                ("one free", [1], "B@D"), ("none free", [], "B@D")):
+    for title, free, come in (("400 to 250 and 240: between, before, after", [1, 2], [THREE, TWO, TWO]),
+                              ("free numbers in another order", [2, 3, 1], [THREE]),
+                              ("one free", [1], [NO_INTERVAL, TWO, TWO]), ("none free", [], [NO_INTERVAL] * 3)):
         t.text("== " + title)
-        for byte in bytes_:
-            case(t, free, [250, 240], "I", byte, 400)
+        for byte, comes in zip("B@D", come):
+            case(t, free, [250, 240], "I", byte, 400, come=[comes])
 
 
 def updates(t):
     t.text("== third of five of 99 updated")
-    case(t, [1], [99] * 5, "U", "E", 97, 98, 99)
-    case(t, [], [99] * 5, "U", "E", 98)
-    case(t, [2, 1], [99] * 5, "U", "E", 300, 500)
+    case(t, [1], [99] * 5, "U", "E", 97, come=[STAYS])
+    ends(t, 493, 0)
+    case(t, [1], [99] * 5, "U", "E", 98, come=[TWO])
+    ends(t, 198, 304)
+    case(t, [1], [99] * 5, "U", "E", 99, come=[STAYS])
+    case(t, [], [99] * 5, "U", "E", 98, come=[NO_INTERVAL])
+    case(t, [2, 1], [99] * 5, "U", "E", 300, 500, come=[TWO, THREE])
     t.text("== one of 505 updated to 505 and to 4")
-    case(t, [], [505], "U", "A", 505, 4)
+    case(t, [], [505], "U", "A", 505, 4, come=[STAYS, STAYS])
 
 
 def shortenings(t):
@@ -256,12 +277,14 @@ def refusals(t):
 
 def far_cut(t):
     t.text("== 206 after five of 40 and before forty of 4 and 5")
-    case(t, [1], [40] * 5 + [4, 5] * 20, "I", "J", 206)
+    case(t, [1], [40] * 5 + [4, 5] * 20, "I", "J", 206, come=[TWO])
+    ends(t, 406, 93)
 
 
 def record_bytes(t):
     t.text("== 130 after 30, 31, 30, 31 and three of 100")
-    case(t, [1], [30, 31, 30, 31, 100, 100, 100], "I", "O", 130)
+    case(t, [1], [30, 31, 30, 31, 100, 100, 100], "I", "O", 130, come=[TWO])
+    ends(t, 322, 168)
 
 
 def joined(t):
@@ -326,13 +349,14 @@ def long_key(t, length, free, last):
 
 
 def short_fronts_counted(t):
-    """Found with short Fs the record is full; with the longest a division has room (A7, E7)."""
-    t.text("== full of short Fs, and divided all the same")
+    """Found with short Fs: 24 + 4 x 103 + 3, and 103 for the new entry, would be 542. Counted is what will be written, 245 (A7, E7)."""
+    t.text("== no room with the Fs found, but with the longest")
     m = Measures(SIZE, 0, 100, MOST)
     entries = [(b"A" * 99 + bytes([65 + i]), i) for i in range(4)] + [(b"", 4)]
-    t.lay(area_of(SIZE, entries, [5], {4: [filled(b"B" * 100, 300)]}, found={0: index_interval(entries, [5], SIZE, fronts=[0] * 5)}))
+    left, right = b"B" * 99 + b"A", b"B" * 100
+    t.lay(area_of(SIZE, entries, [5], {4: [filled(left, 300)]}, found={0: index_interval(entries, [5], SIZE, fronts=[0] * 5)}))
     t.ask("C", m)
-    t.answers(t.ask("I", m, filled(b"C" * 100, 300)), 0, 3)
+    t.answers(t.ask("I", m, filled(right, 300)), 0, 3)
     t.ask("C", m)
 
 

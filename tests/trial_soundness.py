@@ -22,18 +22,10 @@ def measures(t):
     t.answers(t.ask("C", Measures(SIZE, 0, 8, 505)), 0, 0, 0)
     t.answers(t.ask("C", Measures(SIZE, 0, 8, 506)), 1)
     t.answers(t.ask("I", Measures(SIZE, 0, 8, 505), bytes(506)), 3)
-    t.text("K 0, 1, 255, 256; offset + K at M and above")
-    for m in ((0, 0, 60), (0, 1, 60), (0, 255, 255), (0, 256, 256), (52, 8, 60), (53, 8, 60), (497, 8, 505), (498, 8, 505)):
-        t.ask("C", Measures(SIZE, *m))
-    t.text("one number 0, or near the highest there is")
-    for place in range(4):
-        for hostile in (0, 2 ** 63, HIGHEST - 7, HIGHEST):
-            numbers = [SIZE, 0, 8, 60]
-            numbers[place] = hostile
-            t.ask("C", Measures(*numbers))
-    t.text("offset and K whose sum would be small again")
-    t.ask("C", Measures(SIZE, HIGHEST - 7, 8, 60))
-    t.ask("C", Measures(SIZE, HIGHEST, 1, 60))
+    for m, number in edges_of_measures():
+        t.text("S %d, offset %d, K %d, M %d" % m)
+        answer = t.ask("C", Measures(*m))
+        assert answer.number == number, (m, answer)
     t.text("each request with M 506 and with S 0; then lengths 0, one byte short, 512")
     for m in (Measures(SIZE, 0, 8, 506), Measures(0, 0, 8, 60)):
         for letter in "CGRIUE":
@@ -41,6 +33,18 @@ def measures(t):
     for lent in (0, len(empty) - 1, SIZE):
         t.answers(t.ask("C", Measures(SIZE, 0, 8, 60), lent=lent), 1)
     interval_sizes(t)
+
+
+def edges_of_measures():
+    """Measures, and 0 or 1: K and M at their edges, each number at 0 and near the highest there is, sums that would be small again."""
+    for offset, key, most, number in ((0, 0, 60, 1), (0, 1, 60, 0), (0, 255, 255, 0), (0, 256, 256, 1), (52, 8, 60, 0), (53, 8, 60, 1),
+                                      (497, 8, 505, 0), (498, 8, 505, 1), (HIGHEST - 7, 8, 60, 1), (HIGHEST, 1, 60, 1)):
+        yield (SIZE, offset, key, most), number
+    for place in range(4):
+        for hostile in (0, 2 ** 63, HIGHEST - 7, HIGHEST):
+            numbers = [SIZE, 0, 8, 60]
+            numbers[place] = hostile
+            yield tuple(numbers), 0 if numbers == [SIZE, 0, 8, 60] else 1
 
 
 def interval_sizes(t):
