@@ -6,13 +6,15 @@ over. Records are laid out in the order of their keys, each interval filled to a
 the intervals left over are free.
 """
 import os
-import struct
 import sys
+
+HERE = os.path.dirname(os.path.abspath(__file__))
+sys.path.insert(0, os.path.join(HERE, "..", "tests"))
+import layout  # noqa: E402
 
 SIZE, KEY, MOST = 512, 8, 60
 INTERVALS = 14
 FILLED = 340
-HERE = os.path.dirname(os.path.abspath(__file__))
 
 
 def certificates(path):
@@ -41,61 +43,22 @@ def spread(records):
     return parts
 
 
-def record_fields(records):
-    """The RDFs, the first record's rightmost; neighbours of one length share a pair."""
-    out, at = b"", 0
-    while at < len(records):
-        length, count = len(records[at]), 1
-        while at + count < len(records) and len(records[at + count]) == length:
-            count += 1
-        single = struct.pack(">BH", 0, length)
-        pair = struct.pack(">BHBH", 8, count, 64, length)
-        out = (single if count == 1 else pair) + out
-        at += count
-    return out
-
-
-def interval(records):
-    body, fields = b"".join(records), record_fields(records)
-    unused = SIZE - 4 - len(body) - len(fields)
-    return body + bytes(unused) + fields + struct.pack(">HH", len(body), unused)
-
-
-def common(a, b):
-    return len(os.path.commonprefix([a, b]))
-
-
 def separators(parts):
     """One for each interval: its last key, cut where the next interval's first key departs from it; none for the last."""
     out = []
     for left, right in zip(parts, parts[1:]):
-        high, low = left[-1][:KEY], right[0][:KEY]
-        out.append(high[:common(high, low) + 1])
+        out.append(layout.cut_at(left[-1][:KEY], right[0][:KEY]))
     return out + [b""]
-
-
-def index(parts):
-    entries, before, chars = b"", b"", b""
-    for number, separator in enumerate(separators(parts)):
-        front = common(before, separator)
-        chars = separator[front:]
-        entries = chars + bytes([front, len(chars), number]) + entries
-        before = separator
-    record = SIZE - 7
-    free = bytes(reversed(range(len(parts), INTERVALS)))
-    last = record - len(entries) + len(chars)
-    head = struct.pack(">HBBIIIBBHHH", record, 3, 1, 0, 0, 0, 1, 0, 24 + len(free), last, last)
-    unused = record - len(head) - len(free) - len(entries)
-    return head + free + bytes(unused) + entries + struct.pack(">BHHH", 0, record, record, 0)
 
 
 def main():
     parts = spread(certificates(os.path.join(HERE, "certificates.txt")))
     if len(parts) > INTERVALS:
         sys.exit("%d intervals are needed, and the area has %d" % (len(parts), INTERVALS))
-    rest = [[]] * (INTERVALS - len(parts))
+    entries = [(separator, number) for number, separator in enumerate(separators(parts))]
+    free = list(reversed(range(len(parts), INTERVALS)))
     with open(os.path.join(HERE, "register", "area.ci"), "wb") as out:
-        out.write(index(parts) + b"".join(interval(part) for part in parts + rest))
+        out.write(layout.area_of(SIZE, entries, free, dict(enumerate(parts))))
 
 
 if __name__ == "__main__":

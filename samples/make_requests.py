@@ -8,8 +8,11 @@ from samples/requests.txt to samples/register/requests.rec.
 import os
 import sys
 
-KEY, MOST, LINE = 8, 60, 64
 HERE = os.path.dirname(os.path.abspath(__file__))
+sys.path.insert(0, os.path.join(HERE, "..", "tests"))
+import layout  # noqa: E402
+
+KEY, MOST = 8, 60
 
 
 def wrong(text):
@@ -38,8 +41,7 @@ def requests(path):
                 print("%s:%d: %s" % (path, place, reason), file=sys.stderr)
                 bad += 1
                 continue
-            content = text[2:].encode("ascii")
-            out.append((text[:1].encode("ascii") + bytes([len(content)]) + content).ljust(LINE, b"\0"))
+            out.append(layout.request_line(text[:1].encode("ascii"), text[2:].encode("ascii")))
     if bad:
         sys.exit("%d bad lines, nothing written" % bad)
     return b"".join(out)

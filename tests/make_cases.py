@@ -6,44 +6,45 @@ repository's root; it writes the same bytes each time.
 """
 import os
 import shutil
-import struct
 
-from model import Area, data_interval
+import layout
+from layout import bent, kept_bytes
+from layout import request_line as request
+from model import Measures, asked, check
 
-KEY, MOST = 8, 60
+SIZE, KEY, MOST = 512, 8, 60
+DEPOT = Measures(SIZE, 0, KEY, MOST)
 
 
 def area_of(entries, free, data, kept=(0, 0)):
     """An area as the depot lends it; kept are base RBA and horizontal pointer."""
-    return Area(entries, free, data, KEY, MOST, struct.pack(">III", kept[0], kept[1], 0) + b"\0")
+    return layout.area_of(SIZE, entries, free, data, kept_bytes(*kept))
+
+
+def data_interval(records):
+    return layout.data_interval(records, SIZE)
 
 
 # ---- the depot's day
 
-def request(letter, content, length=None, filling=0):
-    head = letter + bytes([len(content) if length is None else length]) + content
-    return head + bytes([filling]) * (64 - len(head))
-
-
 def serve(area, line):
-    """The text after the place: a number, and a found record in capitals."""
+    """The text after the place, a number, and a found record in capitals; and the area afterwards."""
     letter, length = line[:1], line[1] if len(line) > 1 else 0
     if len(line) != 64 or letter not in (b"G", b"I", b"U", b"E") or length > 62:
-        return "10"
-    content = line[2:2 + length]
-    if letter == b"G":
-        number, found = area.get(content)
-        return "%d" % number if found is None else "0 " + found.hex().upper()
-    if letter == b"E":
-        return "%d" % area.erase(content)[0]
-    return "%d" % area.put(content, letter == b"I")[0]
+        return "10", area
+    came = asked(letter.decode(), area, DEPOT, line[2:2 + length], out=bytes(MOST))
+    if letter == b"G" and came.answer.number == 0:
+        return "0 " + came.out[:came.answer.values[0]].hex().upper(), area
+    return "%d" % came.answer.number, came.area
 
 
 def day(area, requests):
-    lines = [requests[at:at + 64] for at in range(0, len(requests), 64)]
-    out = ["%d %s" % (place, serve(area, line)) for place, line in enumerate(lines, 1)]
-    out.append("records %d free %d" % area.counts())
-    return "".join(line + "\n" for line in out)
+    """What the depot's program prints, and the area afterwards."""
+    text = ""
+    for place, at in enumerate(range(0, len(requests), 64), 1):
+        told, area = serve(area, requests[at:at + 64])
+        text += "%d %s\n" % (place, told)
+    return text + "records %d free %d\n" % check(area, DEPOT).values, area
 
 
 # ---- the cases
@@ -72,9 +73,8 @@ def case(name, stdout, area=None, requests=None, after=None, before=None, stderr
 
 def served(name, area, requests, before=None, missing=False):
     """A case with a sound area: the model says what comes out."""
-    opening = area.bytes()
-    text = day(area, requests)
-    case(name, text, opening, None if missing else requests, area.bytes(), before)
+    text, after = day(area, requests)
+    case(name, text, area, None if missing else requests, after, before)
 
 
 def refused(name, text, area, before=None):
@@ -103,13 +103,9 @@ def full():
     return area_of([(b"", 0)], [], {0: [record(b"A000000%d" % i, 60) for i in range(8)] + [record(b"A0000009", 19)]})
 
 
-def bent(area, at, new):
-    return area[:at] + new + area[at + len(new):]
-
-
 def areas():
-    sound = three().bytes()
-    longest = area_of([(b"", 0)], range(1, 127), {}).bytes()
+    sound = three()
+    longest = area_of([(b"", 0)], range(1, 127), {})
     refused("area_missing", "area 1\n", None)
     refused("area_empty", "area 1\n", b"")
     refused("area_no_data_interval", "area 1\n", sound[:512])
@@ -171,11 +167,11 @@ def divisions():
 
 def failures():
     """Files that cannot be read or written: nothing is taken for an end, and nothing is half written."""
-    sound, one = three().bytes(), request(b"G", b"C0000001")
+    sound, one = three(), request(b"G", b"C0000001")
     case("area_is_a_folder", "area 1\n", FOLDER, one)
     case("requests_are_a_folder", "", sound, FOLDER, stderr=b"requests.rec: Is a directory\n")
     case("requests_are_a_folder_old_out", "", sound, FOLDER, b"an older one", b"an older one", b"requests.rec: Is a directory\n")
-    case("out_is_a_folder", day(three(), one), sound, one, FOLDER, FOLDER, b"area.out: Is a directory\n")
+    case("out_is_a_folder", day(three(), one)[0], sound, one, FOLDER, FOLDER, b"area.out: Is a directory\n")
 
 
 def scattered(i):

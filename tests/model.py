@@ -1,199 +1,428 @@
-"""A small model of document 01, for what the tests expect: intervals of 512 bytes.
+"""A model of document 01: what each request comes to on any bytes, under any measures.
 
-It follows the papers and knows nothing of the program. An area is a list of entries (separator, interval number) and a
-list of free numbers; an interval is a list of records. Every area here is sound, so no request meets refusal 2.
+It follows the papers (document 01; where that is open, docs/DECISIONS.md, whose points are cited as C2, D1 and so on) and knows nothing
+of the program. An area is bytes. Each request gives an answer, which is a number and its values, and the bytes of area and output
+afterwards.
+
+Each rule of soundness is one named test, a call of `ask` below. A name of RULES handed over as `without` leaves that one rule out, so that
+a script can show which rule an area breaks.
 """
-import struct
+import functools
+from typing import NamedTuple
 
-SIZE = 512
-NONE_KEPT = bytes(13)
+from layout import HEADER, cut_at, data_interval, entry_bytes, index_interval, needs
 
+SIZES = tuple(range(512, 8193, 512)) + tuple(range(10240, 32769, 2048))
 
-# ---- bytes of intervals
-
-def runs(records):
-    """Neighbours of equal length, as [length, count]."""
-    out = []
-    for record in records:
-        if out and out[-1][0] == len(record):
-            out[-1][1] += 1
-        else:
-            out.append([len(record), 1])
-    return out
-
-
-def need(records):
-    fields = sum(1 if count == 1 else 2 for _, count in runs(records))
-    return sum(map(len, records)) + 3 * fields + 4
-
-
-def data_interval(records):
-    fields = b""
-    for length, count in runs(records):
-        if count == 1:
-            fields = struct.pack(">BH", 0, length) + fields
-        else:
-            fields = struct.pack(">BHBH", 8, count, 64, length) + fields
-    body = b"".join(records)
-    unused = SIZE - len(body) - len(fields) - 4
-    assert unused >= 0
-    return body + bytes(unused) + fields + struct.pack(">HH", len(body), unused)
-
-
-def same_front(a, b):
-    n = 0
-    while n < min(len(a), len(b)) and a[n] == b[n]:
-        n += 1
-    return n
-
-
-def entry_bytes(entries, longest=True):
-    """The entries as they stand in the record, the first one rightmost. An area may be found with shorter Fs than a
-    writer's; here the other way is F = 0 throughout."""
-    out, before = b"", b""
-    for separator, number in entries:
-        front = same_front(before, separator) if longest else 0
-        chars = separator[front:]
-        out = chars + bytes([front, len(chars), number]) + out
-        before = separator
-    return out
+INDEX_RULES = {
+    "record length": "the header's record length is S - 7",
+    "control length": "the control length is 3",
+    "pointer indicator": "the pointer indicator is 1",
+    "base": "base + n x S is at most 2^32",
+    "level": "the level is 1",
+    "index RDF": "the index record's RDF is X'00'",
+    "index RDF's length": "the RDF's length is S - 7",
+    "index CIDF": "the index interval's CIDF has the displacement S - 7",
+    "index CIDF's unused": "and no unused space",
+    "F": "F is at most the previous separator's length",
+    "separator's length": "separators have at most K bytes",
+    "X'FF'": "separators don't end in X'FF'",
+    "bounds": "separators filled up with X'FF' to K bytes strictly ascend",
+    "one entry": "there is at least one entry",
+    "last empty": "the last entry has an empty separator",
+    "last entry": "the displacement to the last entry's control information agrees with what lies there",
+    "last section": "the last-section field equals the last-entry field",
+    "unused field": "the displacement to the unused space is not below the header's end",
+    "overlap": "free numbers and entries don't overlap",
+    "number below n": "no other number occurs",
+    "named once": "no interval number is named twice",
+    "all named": "every interval number below n is named",
+}
+DATA_RULES = {
+    "busy": "the busy flag is off",
+    "equation": "d + u + 3 x RDFs + 4 = S",
+    "control byte": "a control byte is X'00', X'40', or X'08' as X'40's partner",
+    "pair within": "X'40's partner is one of the interval's RDFs",
+    "partner": "X'40's partner is X'08'",
+    "count": "the count of a run is at least 2",
+    "least length": "each length is at least offset + K",
+    "greatest length": "each length is at most M",
+    "sum": "the lengths add up to d",
+    "keys ascend": "keys strictly ascend",
+    "free is empty": "a free interval is empty",
+    "above the bound before": "each key in an entry's interval is above the previous bound",
+    "at most its own bound": "and at most its own",
+}
+RULES = {**INDEX_RULES, **DATA_RULES}
 
 
-def index_interval(entries, free, kept=NONE_KEPT, longest=True):
-    """kept: base RBA, horizontal pointer and reserved bytes, 12 in all, and the reserved byte after the level. The last
-    entry has no characters, so it begins with its control information."""
-    tail = entry_bytes(entries, longest)
-    record = SIZE - 7
-    last = record - len(tail)
-    head = struct.pack(">HBB", record, 3, 1) + kept[:12] + bytes([1]) + kept[12:] + struct.pack(">HHH", 24 + len(free), last, last)
-    middle = record - len(head) - len(free) - len(tail)
-    assert len(head) == 24 and middle >= 0
-    return head + bytes(free) + bytes(middle) + tail + struct.pack(">BHHH", 0, record, record, 0)
+class Unsound(Exception):
+    """A rule is broken; which one, the message says."""
 
 
-# ---- areas and requests
+def asking(without):
+    """The function that asks for each rule, but for the one left out."""
+    assert without is None or without in RULES, without
 
-class Area:
-    """What an area holds: entries in their order, free numbers in theirs, the records of each interval; and the measures
-    that each request comes with: the key's length K, the greatest record length M, the key's offset. `found` has the bytes
-    of intervals that lie otherwise than a writer leaves them, 0 the index record and number + 1 a data interval, until a
-    change writes them. `length` is the buffer's, where it is not that of the intervals named."""
+    def ask(rule, holds):
+        assert rule in RULES, rule
+        if not holds and rule != without:
+            raise Unsound(rule)
+    return ask
 
-    def __init__(self, entries, free, data, key, most, kept=NONE_KEPT, found=None, length=None, offset=0):
-        self.entries, self.free, self.data, self.kept = list(entries), list(free), dict(data), kept
-        self.key, self.most, self.offset, self.found = key, most, offset, dict(found or {})
-        self.n = len(self.entries) + len(self.free)
-        self.length = (self.n + 1) * SIZE if length is None else length
 
-    def intervals(self):
-        """The bytes of each interval of the buffer, the index record first."""
-        parts = [index_interval(self.entries, self.free, self.kept)]
-        parts += [data_interval(self.data.get(number, [])) for number in range(self.n)]
-        return [self.found.get(place, part) for place, part in enumerate(parts)]
+# ---- measures (refusal 1)
 
-    def bytes(self):
-        return b"".join(self.intervals())
+class Measures(NamedTuple):
+    """The four numbers that come with each call: S, the key's offset, K and M."""
+    size: int
+    offset: int
+    key: int
+    most: int
 
-    def lawful(self):
-        """Whether measures and length are as document 01 has them."""
-        return (1 <= self.key <= 255 and self.offset + self.key <= self.most <= SIZE - 7
-                and self.length % SIZE == 0 and 2 <= self.length // SIZE <= 257)
+    @property
+    def least(self):
+        return self.offset + self.key
+
+    def judge(self, length):
+        """n, the number of data intervals in a buffer of this length; None is refusal 1."""
+        if self.size not in SIZES or not 1 <= self.key <= 255:
+            return None
+        if not self.least <= self.most <= self.size - 7:
+            return None
+        n = length // self.size - 1
+        return n if length % self.size == 0 and 1 <= n <= 256 else None
 
     def key_of(self, record):
-        return record[self.offset:self.offset + self.key]
+        return record[self.offset:self.least]
+
+    def bound_of(self, separator):
+        return separator.ljust(self.key, b"\xff")
+
+
+def number(part, at, width=2):
+    return int.from_bytes(part[at:at + width], "big")
+
+
+# ---- data intervals: their form
+
+@functools.lru_cache(maxsize=1024)
+def read_interval(interval, m, without=None):
+    """The records of a data interval by its own form, whatever its place in the index; Unsound where a rule is broken."""
+    ask = asking(without)
+    data, unused = number(interval, m.size - 4), number(interval, m.size - 2)
+    ask("busy", unused & 0x8000 == 0)
+    fields = m.size - 4 - data - (unused & 0x7FFF)
+    ask("equation", fields >= 0 and fields % 3 == 0)
+    groups = read_groups(interval, max(fields, 0) // 3, ask)
+    for length, _ in groups:
+        ask("least length", m.least <= length)
+        ask("greatest length", length <= m.most)
+    ask("sum", sum(length * count for length, count in groups) == data)
+    records, at = [], 0
+    for length, count in groups:
+        for _ in range(count):
+            records.append(interval[at:at + length])
+            at += length
+    keys = [m.key_of(record) for record in records]
+    ask("keys ascend", all(a < b for a, b in zip(keys, keys[1:])))
+    return tuple(records)
+
+
+def read_groups(interval, rdfs, ask):
+    """The groups as (length, count). RDFs run right to left, the first one next to the CIDF; a run's count stands left of its length."""
+    groups, i = [], 0
+    while i < rdfs:
+        control, value = read_rdf(interval, i)
+        i += 1
+        if control != 0x40:
+            ask("control byte", control == 0x00)
+            groups.append((value, 1))
+            continue
+        ask("pair within", i < rdfs)    # C2: not in the unused space
+        partner, count = read_rdf(interval, i)
+        i += 1
+        ask("partner", partner == 0x08)
+        ask("count", count >= 2)
+        groups.append((value, count))
+    return groups
+
+
+def read_rdf(interval, i):
+    at = max(len(interval) - 4 - 3 * (i + 1), 0)
+    return interval[at], number(interval, at + 1)
+
+
+# ---- the index record
+
+class Index(NamedTuple):
+    """kept: the header bytes that stay as found, 13 in all; entries as (separator, number)."""
+    kept: bytes
+    base: int
+    free: list
+    entries: list
+
+
+def read_index(interval, m, n, without=None):
+    """The index record of an area of n data intervals; Unsound where a rule is broken."""
+    ask = asking(without)
+    record = m.size - 7
+    base = number(interval, 4, 4)
+    ask("record length", number(interval, 0) == record)
+    ask("control length", interval[2] == 3)
+    ask("pointer indicator", interval[3] == 1)
+    ask("base", base + n * m.size <= 2 ** 32)
+    ask("level", interval[16] == 1)
+    ask("index RDF", interval[record] == 0x00)
+    ask("index RDF's length", number(interval, record + 1) == record)
+    ask("index CIDF", number(interval, record + 3) == record)
+    ask("index CIDF's unused", number(interval, record + 5) == 0)
+    unused, last, section = number(interval, 18), number(interval, 20), number(interval, 22)
+    ask("last section", section == last)
+    entries, start = read_entries(interval, m, last, ask)
+    ask("unused field", HEADER <= unused)
+    ask("overlap", unused <= start)
+    free = list(interval[HEADER:unused])
+    named = free + [named for _, named in entries]
+    ask("number below n", all(each < n for each in named))
+    ask("named once", len(set(named)) == len(named))
+    ask("all named", set(range(n)) <= set(named))
+    return Index(interval[4:16] + interval[17:18], base, free, entries)
+
+
+def read_entries(interval, m, last, ask):
+    """The entries from the right, and where they begin. The walk ends at the first empty separator, or where the header has the last entry;
+    it must be both (D1: walking to either alone judges the same). Left of it all is unused space, whatever it looks like (D2)."""
+    entries, before, bound = [], b"", None
+    control = start = m.size - 7
+    while control != last and HEADER <= start - 3:
+        control = start - 3
+        front, count, named = interval[control:control + 3]
+        start = control - count
+        ask("F", front <= len(before))
+        ask("separator's length", front + count <= m.key)
+        separator = before[:front] + interval[max(start, 0):control]
+        ask("X'FF'", not separator.endswith(b"\xff"))
+        ask("bounds", bound is None or bound < m.bound_of(separator))
+        entries.append((separator, named))
+        before, bound = separator, m.bound_of(separator)
+        if not separator:
+            break
+    ask("one entry", entries)
+    ask("last empty", not before)
+    ask("last entry", control == last)
+    return entries, start
+
+
+# ---- whole areas (refusals 1 and 2)
+
+class Answer(NamedTuple):
+    """A number of document 01's table, and the values that come with it."""
+    number: int
+    values: tuple = ()
+
+
+class Content(NamedTuple):
+    """What a sound area holds: its index, and the records of each interval by number."""
+    index: Index
+    data: list
 
     def entry_of(self, key):
-        for place, (separator, _) in enumerate(self.entries):
+        """The place of the first entry whose separator is at least the key's first bytes, as many as the separator has."""
+        for place, (separator, _) in enumerate(self.index.entries):
             if key[:len(separator)] <= separator:
                 return place
 
-    def counts(self):
-        return sum(map(len, self.data.values())), len(self.free)
+    def records_of(self, place):
+        return list(self.data[self.index.entries[place][1]])
 
-    # ---- what each request comes to: a number, and a record where one is found, or how many intervals were written
 
-    def get(self, key):
-        if not self.lawful():
-            return 1, None
-        if len(key) != self.key:
-            return 3, None
-        records = self.data.get(self.entries[self.entry_of(key)][1], [])
+def opened(area, m, without=None):
+    """What the area holds, or the answer 1, or 2 with the place: 0 the index, else the lowest unsound data interval's number + 1."""
+    n = m.judge(len(area))
+    if n is None:
+        return Answer(1)
+    try:
+        index = read_index(area[:m.size], m, n, without)
+    except Unsound:
+        return Answer(2, (0,))
+    ranges, data = ranges_of(index, m), []
+    for k in range(n):
+        try:
+            records = read_interval(area[(k + 1) * m.size:(k + 2) * m.size], m, without)
+            judge_role(records, m, k in index.free, ranges.get(k, []), asking(without))
+        except Unsound:
+            return Answer(2, (k + 1,))
+        data.append(records)
+    return Content(index, data)
+
+
+def ranges_of(index, m):
+    """For each number that entries name: the bound before and its own. (More than one only where `named once` is left out.)"""
+    ranges, before = {}, None
+    for separator, named in index.entries:
+        own = m.bound_of(separator)
+        ranges.setdefault(named, []).append((before, own))
+        before = own
+    return ranges
+
+
+def judge_role(records, m, is_free, ranges, ask):
+    """The two rules that bind an interval to its place in the index."""
+    ask("free is empty", not (is_free and records))
+    for before, own in ranges:
+        keys = [m.key_of(record) for record in records]
+        ask("above the bound before", before is None or all(before < key for key in keys))
+        ask("at most its own bound", all(key <= own for key in keys))
+
+
+# ---- requests that only read
+
+def check(area, m, without=None):
+    content = opened(area, m, without)
+    if isinstance(content, Answer):
+        return content
+    return Answer(0, (sum(map(len, content.data)), len(content.index.free)))
+
+
+def get(area, m, key, out):
+    """Answer and output. The order is 1, 2, 3, 5, 8."""
+    content = opened(area, m)
+    if isinstance(content, Answer):
+        return content, out
+    if len(key) != m.key:
+        return Answer(3), out
+    for record in content.records_of(content.entry_of(key)):
+        if m.key_of(record) == key:
+            return handed(record, out)
+    return Answer(5), out
+
+
+def get_at(area, m, address, out):
+    """Answer and output. The order is 1, 2, 9, 8; RBA = base + number x S + displacement, all bits of it compared (F5)."""
+    content = opened(area, m)
+    if isinstance(content, Answer):
+        return content, out
+    for k, records in enumerate(content.data):
+        start = content.index.base + k * m.size
+        if not start <= address < start + m.size:
+            continue
         for record in records:
-            if self.key_of(record) == key:
-                return 0, record
-        return 5, None
-
-    def erase(self, key):
-        if not self.lawful():
-            return 1, None
-        if len(key) != self.key:
-            return 3, None
-        number = self.entries[self.entry_of(key)][1]
-        left = [record for record in self.data.get(number, []) if self.key_of(record) != key]
-        if left == self.data.get(number, []):
-            return 5, None
-        self.write(number, left)
-        return 0, 1
-
-    def insert(self, record):
-        return self.put(record, True)
-
-    def update(self, record):
-        return self.put(record, False)
-
-    def put(self, record, is_new):
-        if not self.lawful():
-            return 1, None
-        if not self.offset + self.key <= len(record) <= self.most:
-            return 3, None
-        key = self.key_of(record)
-        place = self.entry_of(key)
-        old = self.data.get(self.entries[place][1], [])
-        there = key in map(self.key_of, old)
-        if is_new and there:
-            return 4, None
-        if not is_new and not there:
-            return 5, None
-        new = sorted([other for other in old if self.key_of(other) != key] + [record], key=self.key_of)
-        return self.store(place, new, new.index(record))
-
-    def store(self, place, records, changed):
-        parts = divide(records, changed)
-        separator, number = self.entries[place]
-        if len(parts) - 1 > len(self.free):
-            return 6, None
-        free = list(self.free)
-        numbers = [number] + [free.pop() for _ in parts[1:]]
-        cuts = [cut_at(self.key_of(left[-1]), self.key_of(right[0])) for left, right in zip(parts, parts[1:])] + [separator]
-        entries = self.entries[:place] + list(zip(cuts, numbers)) + self.entries[place + 1:]
-        if len(parts) > 1 and 24 + len(free) + len(entry_bytes(entries)) > SIZE - 7:
-            return 7, None
-        if len(parts) > 1:
-            self.entries, self.free = entries, free
-            self.found.pop(0, None)
-        for where, part in zip(numbers, parts):
-            self.write(where, part)
-        return 0, 1 if len(parts) == 1 else len(parts) + 1
-
-    def write(self, number, records):
-        self.data[number] = records
-        self.found.pop(number + 1, None)
+            if start == address:
+                return handed(record, out)
+            start += len(record)
+    return Answer(9), out
 
 
-def cut_at(left, right):
-    """The left key as far as the first byte in which the right one is another."""
-    return left[:same_front(left, right) + 1]
+def handed(record, out):
+    if len(out) < len(record):
+        return Answer(8, (len(record),)), out
+    return Answer(0, (len(record),)), record + out[len(record):]
 
 
-def divide(records, changed):
-    if need(records) <= SIZE:
+# ---- changes
+
+def insert(area, m, record):
+    """Answer and area. The order is 1, 2, 3, 4, 6, 7."""
+    return put(area, m, record, True)
+
+
+def update(area, m, record):
+    """Answer and area. The order is 1, 2, 3, 5, 6, 7."""
+    return put(area, m, record, False)
+
+
+def put(area, m, record, is_new):
+    content = opened(area, m)
+    if isinstance(content, Answer):
+        return content, area
+    if not m.least <= len(record) <= m.most:
+        return Answer(3), area
+    key = m.key_of(record)
+    place = content.entry_of(key)
+    records = content.records_of(place)
+    lower = [other for other in records if m.key_of(other) < key]
+    higher = [other for other in records if m.key_of(other) > key]
+    there = len(lower) + len(higher) < len(records)
+    if there == is_new:
+        return Answer(4 if is_new else 5), area
+    return stored(area, m, content.index, place, divide(lower + [record] + higher, len(lower), m.size))
+
+
+def erase(area, m, key):
+    """Answer and area. The order is 1, 2, 3, 5. What is left always fits (A1), so an erase never divides."""
+    content = opened(area, m)
+    if isinstance(content, Answer):
+        return content, area
+    if len(key) != m.key:
+        return Answer(3), area
+    place = content.entry_of(key)
+    records = content.records_of(place)
+    left = [record for record in records if m.key_of(record) != key]
+    if left == records:
+        return Answer(5), area
+    return stored(area, m, content.index, place, [left])
+
+
+def divide(records, changed, size):
+    """The parts that document 01's three rules prescribe for the records with the change made."""
+    lengths = [len(record) for record in records]
+    if needs(lengths)[-1] <= size:
         return [records]
-    fitting = []
+    left_needs, right_needs = needs(lengths), needs(lengths[::-1])
+    total, left, fitting = sum(lengths), 0, []
     for cut in range(1, len(records)):
-        left, right = records[:cut], records[cut:]
-        if need(left) <= SIZE and need(right) <= SIZE:
-            a, b = sum(map(len, left)), sum(map(len, right))
-            fitting.append((abs(a - b), a, [left, right]))
+        left += lengths[cut - 1]
+        if left_needs[cut] <= size and right_needs[len(records) - cut] <= size:
+            fitting.append((abs(left - (total - left)), left, cut))
     if fitting:
-        return min(fitting, key=lambda choice: choice[:2])[2]
+        cut = min(fitting)[2]
+        return [records[:cut], records[cut:]]
     return [records[:changed], records[changed:changed + 1], records[changed + 1:]]
+
+
+def stored(area, m, index, place, parts):
+    """The area with the parts of one entry's interval stored, or 6 or 7. Later parts take free numbers from the right, each cut
+    has a new separator, and the last part keeps the old one."""
+    separator, old = index.entries[place]
+    taken = len(parts) - 1
+    if taken > len(index.free):
+        return Answer(6), area
+    numbers = [old] + index.free[::-1][:taken]
+    free = index.free[:len(index.free) - taken]
+    separators = [cut_at(m.key_of(left[-1]), m.key_of(right[0])) for left, right in zip(parts, parts[1:])] + [separator]
+    entries = index.entries[:place] + list(zip(separators, numbers)) + index.entries[place + 1:]
+    stores = {named + 1: data_interval(part, m.size) for named, part in zip(numbers, parts)}
+    if taken:
+        if HEADER + len(free) + len(entry_bytes(entries)) > m.size - 7:
+            return Answer(7), area
+        stores[0] = index_interval(entries, free, m.size, index.kept)
+    return Answer(0, (len(stores),)), with_stores(area, m.size, stores)
+
+
+def with_stores(area, size, stores):
+    parts = [stores.get(at // size, area[at:at + size]) for at in range(0, len(area), size)]
+    return b"".join(parts)
+
+
+# ---- any request by its letter
+
+class Outcome(NamedTuple):
+    answer: Answer
+    area: bytes
+    out: bytes
+
+
+NAMES = {"C": "check", "G": "get", "R": "get at", "I": "insert", "U": "update", "E": "erase"}
+CHANGES = {"I": insert, "U": update, "E": erase}
+
+
+def asked(letter, area, m, content=b"", address=0, out=b""):
+    """What a request comes to: its answer, and area and output afterwards. content: the key or the record."""
+    if letter == "C":
+        return Outcome(check(area, m), area, out)
+    if letter in CHANGES:
+        answer, after = CHANGES[letter](area, m, content)
+        return Outcome(answer, after, out)
+    answer, given = get(area, m, content, out) if letter == "G" else get_at(area, m, address, out)
+    return Outcome(answer, area, given)

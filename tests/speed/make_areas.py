@@ -9,7 +9,7 @@ import os
 import sys
 
 sys.path.insert(0, os.path.join(os.path.dirname(os.path.abspath(__file__)), ".."))
-import model  # noqa: E402
+import layout  # noqa: E402
 
 #        name    S      n    free  records  their length, the key's
 AREAS = [("a20", 512, 20, 2, 100, 60, 8),
@@ -22,7 +22,6 @@ AREAS = [("a20", 512, 20, 2, 100, 60, 8),
 
 def main(folder):
     for name, size, n, free, count, long, key in AREAS:
-        model.SIZE = size
         used = n - free
         full = (size - 10) // long
         counts = [(count - full) // (used - 1)] * used
@@ -34,9 +33,8 @@ def main(folder):
         for c in counts:
             parts.append([b"%0*d" % (key, number + 10 * k) + b"x" * (long - key) for k in range(c)])
             number += 10 * c
-        entries = [(model.cut_at(parts[i][-1][:key], parts[i + 1][0][:key]) if i + 1 < used else b"", i) for i in range(used)]
-        area = model.index_interval(entries, list(range(n - 1, used - 1, -1)))
-        area += b"".join(model.data_interval(p) for p in parts) + model.data_interval([]) * free
+        entries = [(layout.cut_at(parts[i][-1][:key], parts[i + 1][0][:key]) if i + 1 < used else b"", i) for i in range(used)]
+        area = layout.area_of(size, entries, list(range(n - 1, used - 1, -1)), dict(enumerate(parts)))
         assert len(area) == (n + 1) * size
         there = parts[used // 3][len(parts[used // 3]) // 2][:key]
         middle = int(parts[used // 2][full // 2][:key]) + 5

@@ -9,7 +9,7 @@ use borrow.Author.Tests.{le-leb, lt-leb}
 use Rattle.fields.specs.Bytes.{digits, splice}
 use Rattle.fields.specs.Lists.{sum, concat}
 use Rattle.fields.proofs.Numbers.{length-digits}
-use Rattle.fields.proofs.Splices.{splice-splice, splice-after, splice-end, set-splice, mid-splice, length-mid, take-front}
+use Rattle.fields.proofs.Splices.{splice-splice, splice-after, splice-end, set-splice, mid-splice, length-mid}
 use Rattle.room.specs.Room.{groups, need}
 use Rattle.interval.specs.Layout.{rdfBytes, groupBytes, groupsBytes, cidf, layout, form}
 use Rattle.interval.specs.Reading.{cut}
@@ -87,13 +87,8 @@ module _ (b lens : List ℕ) (d left : ℕ) (fits : need lens ≤ length b) (sam
       → z ≡ splice y (length b - 4) (cidf d (left - d)) → z ≡ form (length b) (cut (take d b) lens)
   closed x y z e f g = g ∙ rw (f, e) all-stored
 
--- the records' bytes, copied to the front, are what is closed
-pub copied-closed : (b bytes lens c ys : List ℕ) → length c ≡ length b → c ≡ splice b 0 bytes → ys ≡ form (length c) (cut (take (length bytes) c) lens)
-    → ys ≡ form (length b) (cut bytes lens)
-copied-closed b bytes lens c ys l e q = q ∙ rw (l, e, take-front b bytes (length bytes) refl)
-
 -- an interval that was lent from the middle of an area, and has come back written
-pub lent : (xs : List ℕ) (at size : ℕ) (bytes lens ys : List ℕ) → at + size ≤ length xs → need lens ≤ size → sum lens ≡ length bytes
+lent : (xs : List ℕ) (at size : ℕ) (bytes lens ys : List ℕ) → at + size ≤ length xs → need lens ≤ size → sum lens ≡ length bytes
     → ys ≡ form (length (take (at + size - at) (drop at xs))) (cut bytes lens)
     → take at xs ++ (ys ++ drop (at + size - at) (drop at xs)) ≡ splice xs at (form size (cut bytes lens))
 lent xs at size bytes lens ys h k e q =

@@ -4,10 +4,6 @@
 use mathlib.Core.Path.{_≡_}
 use Rattle.fields.proofs.Choices.{agree}
 use Rattle.interval_write.proofs.close.Reads as close
-use Rattle.interval_write.proofs.write.Reads as write
 
 pub unique-close : (κs : _) (args : _) (r s : _) (e f : _) → close.Learnt κs args r e → close.Learnt κs args s f → e .0 .now ≡ f .0 .now
 unique-close κs args r s e f p q = agree p q
-
-pub unique-write : (κs : _) (args : _) (r s : _) (e f : _) → write.Learnt κs args r e → write.Learnt κs args s f → e .0 .now ≡ f .0 .now
-unique-write κs args r s e f p q = agree p q

@@ -69,12 +69,3 @@ pub fn close(ci: &mut [u8], displacement: usize, lens: &[u16])
     fields::fill(ci, displacement, left, 0);
     put_cidf(ci, end, displacement, left - displacement);
 }
-
-// Writes an interval of records of the given lengths, whose bytes lie one after another.
-pub fn write(ci: &mut [u8], bytes: &[u8], lens: &[u16])
-    requires { ⌜ (need (now lens) ≤ length (now ci)) × (length (now ci) ≤ 32768) × (sum (now lens) ≡ length (now bytes)) × (length (now lens) < 65536) ⌝ }
-    ensures { λ _. ⌜ now (ci .exit) ≡ form (length (now (ci .entry))) (cut (now (bytes .entry)) (now (lens .entry))) ⌝ }
-{
-    fields::copy(ci, 0, bytes);
-    close(ci, bytes.len(), lens);
-}

@@ -12,7 +12,6 @@ use Rattle.room.proofs.room_of.Reads as room-of
 use Rattle.room.proofs.ahead_at.Reads as ahead-at
 use Rattle.room.proofs.bytes_to.Reads as bytes-to
 use Rattle.room.proofs.need_of.Reads as need-of
-use Rattle.room.proofs.need_of_lengths.Reads as need-of-lengths
 
 pub unique-add : (κs : _) (args : _) (r s : Room) (e f : _) → add.Learnt κs args r e → add.Learnt κs args s f → r ≡ s
 unique-add κs args r s e f p q = agree p q
@@ -31,7 +30,3 @@ unique-bytes-to κs args r s e f p q = agree (p .0) (q .0)
 
 pub unique-need-of : (κs : _) (args : _) (r s : ℕ) (e f : _) → need-of.Learnt κs args r e → need-of.Learnt κs args s f → r ≡ s
 unique-need-of κs args r s e f p q = agree (p .0) (q .0)
-
-pub unique-need-of-lengths : (κs : _) (args : _) (r s : ℕ) (e f : _)
-    → need-of-lengths.Learnt κs args r e → need-of-lengths.Learnt κs args s f → r ≡ s
-unique-need-of-lengths κs args r s e f p q = agree p q

@@ -146,11 +146,3 @@ pub fn need_of(r: Room) -> usize
 {
     r.bytes + 3 * r.rdfs + 4
 }
-
-// How many bytes of an interval records of these lengths take.
-pub fn need_of_lengths(lens: &[u16]) -> usize
-    requires { ⌜ length (now lens) ≤ 32768 ⌝ }
-    ensures { λ r. ⌜ r ≡ need (now (lens .entry)) ⌝ }
-{
-    need_of(room_of(lens))
-}

@@ -1,0 +1,56 @@
+// The script's numbers and bytes. Every number has its highest byte first.
+ghost use Rattle.io.specs.Counts.{Counts};
+use measures::Numbers;
+
+// How many bytes came to the front of a buffer, and whether all of them did.
+pub(crate) struct Got {
+    pub bytes: usize,
+    pub whole: bool,
+}
+
+// A request as the script has it, but for its key or record. `lent` and `out` are lengths, of its area and of its output.
+pub(crate) struct Ask {
+    pub letter: u8,
+    pub numbers: Numbers,
+    pub lent: usize,
+    pub out: usize,
+    pub address: u64,
+}
+
+const NONE: Got = Got {
+    bytes: 0,
+    whole: false,
+};
+
+// A number in `width` bytes, 4 at most, and that many bytes after it, where the buffer has room for them.
+pub(crate) fn counted(fd: i32, width: usize, buf: &mut [u8]) -> Got
+    ensures { λ r. ⌜ Counts (r .bytes) (now (buf .exit)) ⌝ }
+{
+    let mut head = [0u8; 4];
+    if 4 < width || io::read_full(fd, &mut head[..width]) < width {
+        return NONE;
+    }
+    let n = fields::read_pointer(&head, 0, width);
+    if buf.len() < n {
+        return NONE;
+    }
+    let whole = io::read_full(fd, &mut buf[..n]) == n;
+    Got { bytes: n, whole }
+}
+
+// The numbers between a request's letter and the length of its bytes.
+pub(crate) fn parse(letter: u8, head: &[u8; 48]) -> Ask {
+    let numbers = Numbers {
+        size: fields::read_eight(head, 0),
+        offset: fields::read_eight(head, 8),
+        key: fields::read_eight(head, 16),
+        most: fields::read_eight(head, 24),
+    };
+    Ask {
+        letter,
+        numbers,
+        lent: fields::read_four(head, 32),
+        out: fields::read_four(head, 36),
+        address: fields::read_eight(head, 40) as u64,
+    }
+}

@@ -1,0 +1,158 @@
+#!/usr/bin/env python3
+"""tests/outside.py [SHARED_OBJECT]: the program, through C, against the model, on areas that the crates' own programs do not reach.
+
+The script of the program `trial`; all 28 interval sizes; 200 intervals of 2,048 and 256 of 32,768; on each a sequence of requests, damaged
+copies, hostile measures; at each size one field after another with other values; areas filled until 6 or 7. Answers, values, outputs and every byte
+of what is lent are compared. They are the same cases each time: the chance in them has fixed seeds. Without a shared object it is made first. The
+last line is `N compared, M different`; the status is 0 only where M is 0.
+"""
+import os
+import random
+import sys
+
+import model
+import program
+import random_areas
+from layout import area_of, bent
+from trial_script import replayed
+
+DONE = {"C": 2, "G": 1, "R": 1, "I": 1, "U": 1, "E": 1}
+
+
+def requests(comparing, made, count):
+    """A sequence of requests; gives the area that it leaves."""
+    area = made.area
+    for _ in range(count):
+        letter, content, address, out = random_areas.request(made, area)
+        area = comparing.ask(letter, area, made.m, content, address, out).area
+    comparing.ask("C", area, made.m)
+    return area
+
+
+def damages(comparing, made, area, count):
+    """Damaged copies, each checked and asked something."""
+    for _ in range(count):
+        hurt = random_areas.damaged(made.r, area, made.m)
+        comparing.ask("C", hurt, made.m)
+        letter, content, address, out = random_areas.request(made, hurt)
+        comparing.ask(letter, hurt, made.m, content, address, out)
+
+
+def strange_measures(comparing, made, area, count):
+    for _ in range(count):
+        letter, content, address, out = random_areas.request(made, area)
+        comparing.ask(letter, area, random_areas.hostile(made.r, made.m), content, address, out)
+    for length in (0, 1, made.m.size - 1, made.m.size, len(area) - 1):
+        comparing.ask("C", area[:length], made.m)
+    comparing.ask("C", area + area[-made.m.size:], made.m)
+
+
+def each_size(comparing):
+    for size in model.SIZES:
+        for turn in range(4):
+            r = random.Random("size %d %d" % (size, turn))
+            made = random_areas.Made(r, random_areas.measures(r, size), r.randint(1, 5))
+            area = requests(comparing, made, 40)
+            damages(comparing, made, area, 20)
+            strange_measures(comparing, made, area, 10)
+
+
+def fields(area, m):
+    """Places and widths of the layouts' fields: all of the index header, free numbers and entries at both ends, RDFs and CIDFs."""
+    size, last = m.size, model.number(area, 20)
+    found = [(0, 2), (2, 1), (3, 1), (4, 4), (16, 1), (18, 2), (20, 2), (22, 2), (24, 1), (25, 1)]
+    found += [(at, 1) for at in range(last, min(last + 12, size - 7))] + [(at, 1) for at in range(max(last, size - 19), size - 7)]
+    found += [(size - 7, 1), (size - 6, 2), (size - 4, 2), (size - 2, 2)]
+    for end in range(2 * size, min(len(area), 4 * size) + 1, size):
+        found += [(end - 4, 2), (end - 2, 2)]
+        for left in (end - 7, end - 10, end - 13):
+            found += [(left, 1), (left + 1, 2)]
+    return found
+
+
+def each_field(comparing):
+    """One field after another with other values, at every size."""
+    for size in model.SIZES:
+        r = random.Random("field %d" % size)
+        made = random_areas.Made(r, random_areas.measures(r, size, (4, 8)), 4)
+        limit = 2 ** 32 - made.n * size
+        for at, width in fields(made.area, made.m):
+            old, top = model.number(made.area, at, width), 256 ** width
+            for new in {old + 1, old - 1, old + 3, old - 3, 0, top - 1, old ^ (top // 2), limit if width == 4 else 0, limit + 1 if width == 4 else 0}:
+                comparing.ask("C", bent(made.area, at, (new % top).to_bytes(width, "big")), made.m)
+
+
+def no_room(comparing):
+    """Index records with little room, so that divisions meet 7, and such whose entries and free numbers overlap."""
+    for turn in range(60):
+        r = random.Random("crowded %d" % turn)
+        made = random_areas.crowded(r)
+        damages(comparing, made, requests(comparing, made, 20), 5)
+        for area, m in (random_areas.overlapping(r), random_areas.no_entries(r)):
+            comparing.ask("C", area, m)
+
+
+def far_cuts(comparing):
+    """Divisions whose cut nearest the middle does not fit."""
+    for turn in range(60):
+        area, m, record = random_areas.uneven(random.Random("uneven %d" % turn))
+        comparing.ask("I", area, m, record)
+
+
+def large(comparing, size, n, used, each, count):
+    """Many intervals, most of them full, so that an insert divides."""
+    made = random_areas.Even(random.Random("large %d %d" % (size, n)), n, used, each, size)
+    area = requests(comparing, made, count)
+    damages(comparing, made, area, count // 2)
+    strange_measures(comparing, made, area, 4)
+
+
+def filled_up(comparing, size, n, long):
+    """Inserts under scattered keys until three in a row found no room."""
+    m = model.Measures(size, 0, 8, size - 7)
+    area, refused, i = area_of(size, [(b"", 0)], list(range(n - 1, 0, -1)), {}), 0, 0
+    while refused < 3:
+        i += 1
+        came = comparing.ask("I", area, m, b"%08d" % (i * 48271 * 48271 % 99999989) + b"." * (long - 8 - i % 3))
+        refused = refused + 1 if came.number in (6, 7) else 0
+        area = came.area
+    comparing.ask("C", area, m)
+
+
+def replay(comparing):
+    """The cases of `trial`, asked through C, must print what its stored output has."""
+    folder = os.path.join(program.ROOT, "crates", "trial")
+    with open(os.path.join(folder, "data", "script"), "rb") as script, open(os.path.join(folder, "stdout"), encoding="ascii") as stdout:
+        found, stored = replayed(script.read(), lambda *request: plain(comparing, *request)), stdout.read()
+    if found != stored:
+        comparing.differences.append("crates/trial/stdout is not what its script comes to")
+
+
+def plain(comparing, letter, area, m, content, address, out):
+    """A request asked through C and compared; gives only the values that the answer has."""
+    told = comparing.program.asked(letter, area, m, content, address, out)
+    comparing.ask(letter, area, m, content, address, out)
+    count = DONE[letter] if told.number == 0 else 1 if told.number in (2, 8) else 0
+    return told.number, told.values[:count], told.area, told.out
+
+
+def main(words):
+    comparing = program.Comparing(program.Program(program.built(words[0] if words else None)))
+    replay(comparing)
+    each_size(comparing)
+    each_field(comparing)
+    for size in (512, 1024, 4096):
+        filled_up(comparing, size, 40, size // 4)
+    filled_up(comparing, 512, 127, 200)
+    no_room(comparing)
+    far_cuts(comparing)
+    large(comparing, 2048, 200, 190, 33, 200)
+    large(comparing, 32768, 256, 250, 545, 60)
+    for told in comparing.differences[:20]:
+        print(told)
+    print("%d compared, %d different" % (comparing.compared, len(comparing.differences)))
+    return 1 if comparing.differences else 0
+
+
+if __name__ == "__main__":
+    sys.exit(main(sys.argv[1:]))

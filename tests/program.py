@@ -1,0 +1,117 @@
+"""The program through C: crate `exports` as a shared object, each request asked as model.asked does it, so that the two can be held side by side."""
+import ctypes
+import faulthandler
+import os
+import subprocess
+
+import model
+
+ROOT = os.path.dirname(os.path.dirname(os.path.abspath(__file__)))
+GUARD = b"\xa5" * 64
+faulthandler.enable()   # should the program be brought down, Python still says where it stood
+UNSTORED = 0xDEADBEEF
+
+
+def built(path=None):
+    """The path of the shared object; without one it is made of the sources, unless the one made before is newer than all of them."""
+    if path:
+        return os.path.abspath(path)
+    path = os.path.join(ROOT, "target", "exports.so")
+    if not os.path.exists(path) or os.path.getmtime(path) < newest_source():
+        subprocess.run(["rt", "staticlib", "exports"], cwd=ROOT, check=True, stdout=subprocess.DEVNULL)
+        archive = os.path.join(ROOT, "target", "staticlib", "libexports.a")
+        subprocess.run(["cc", "-shared", "-o", path, "-Wl,--whole-archive", archive, "-Wl,--no-whole-archive"], check=True)
+    return path
+
+
+def newest_source():
+    sources = [os.path.join(folder, name) for folder, _, names in os.walk(os.path.join(ROOT, "crates")) for name in names]
+    return max(os.path.getmtime(path) for path in sources + [os.path.join(ROOT, "crates.txt")])
+
+
+class Lent:
+    """Bytes as they are lent to C: pointer and length, with other bytes on both sides that must stay."""
+
+    def __init__(self, content):
+        self.length = len(content)
+        self.buffer = bytearray(GUARD + content + GUARD)
+        self.start = ctypes.addressof(ctypes.c_ubyte.from_buffer(self.buffer)) + len(GUARD)
+
+    def words(self):
+        return [ctypes.c_void_p(self.start), ctypes.c_size_t(self.length)]
+
+    def content(self):
+        return bytes(self.buffer[len(GUARD):len(GUARD) + self.length])
+
+    def beside(self):
+        return bytes(self.buffer[:len(GUARD)] + self.buffer[len(GUARD) + self.length:])
+
+
+class Told(model.NamedTuple):
+    """What comes back from C: the number, the values (0 where there are fewer), all bytes that were lent, and those on both sides of them."""
+    number: int
+    values: tuple
+    area: bytes
+    out: bytes
+    content: bytes
+    beside: bytes = 6 * GUARD
+
+
+class Program:
+    FUNCTIONS = {"C": "check", "G": "get", "R": "get_at", "I": "insert", "U": "update", "E": "erase"}
+
+    def __init__(self, path):
+        library = ctypes.CDLL(path)
+        self.functions = {letter: getattr(library, "belquita_" + name) for letter, name in self.FUNCTIONS.items()}
+        for function in self.functions.values():
+            function.restype = ctypes.c_size_t
+
+    def asked(self, letter, area, m, content=b"", address=0, out=b""):
+        lent, given, output = Lent(area), Lent(content), Lent(out)
+        values = [ctypes.c_size_t(UNSTORED) for _ in range(2 if letter == "C" else 1)]
+        words = lent.words() + [ctypes.c_size_t(each) for each in m]
+        if letter == "R":
+            words.append(ctypes.c_uint64(address))
+        elif letter != "C":
+            words += given.words()
+        if letter in "GR":
+            words += output.words()
+        number = self.functions[letter](*words, *(ctypes.byref(value) for value in values))
+        beside = lent.beside() + output.beside() + given.beside()
+        return Told(number, tuple(value.value for value in values), lent.content(), output.content(), given.content(), beside)
+
+
+def expected(letter, area, m, content=b"", address=0, out=b""):
+    """What the model says, in the form in which C tells it."""
+    came = model.asked(letter, area, m, content, address, out)
+    values = (came.answer.values + (0, 0))[:2 if letter == "C" else 1]
+    return Told(came.answer.number, values, came.area, came.out, content)
+
+
+class Comparing:
+    """Requests asked of both; counts how many, and which numbers came."""
+
+    def __init__(self, program):
+        self.program, self.compared, self.differences, self.numbers = program, 0, [], {}
+
+    def ask(self, letter, area, m, content=b"", address=0, out=b""):
+        """The model's outcome; the area goes on from there."""
+        should = expected(letter, area, m, content, address, out)
+        found = self.program.asked(letter, area, m, content, address, out)
+        self.compared += 1
+        self.numbers[should.number] = self.numbers.get(should.number, 0) + 1
+        if should != found:
+            self.differences.append(difference(letter, m, area, content, address, should, found))
+        return should
+
+
+def difference(letter, m, area, content, address, should, found):
+    """One difference in words."""
+    told = "%s %s, %d bytes, content %s, address %d: model %d %s, program %d %s" % (
+        model.NAMES[letter], tuple(m), len(area), content.hex() or "none", address, should.number, should.values, found.number, found.values)
+    for name in ("area", "out", "content", "beside"):
+        a, b = getattr(should, name), getattr(found, name)
+        if a != b:
+            at = next(i for i in range(len(a)) if a[i] != b[i])
+            told += "; %s differs from byte %d: model %02x, program %02x" % (name, at, a[at], b[at])
+    return told
