@@ -123,6 +123,7 @@ def endings(t):
         for i, (length, end) in enumerate(zip(lens, ends)):
             t.answers(t.ask("I", M4, filled(bytes([65 + i]) * 4, length)), 0, 1)
             t.says(-len(end) // 2, end)
+        t.answers(t.ask("C", M4), 0, len(lens), 0)
     t.text("erased again: no record")
     t.lay(loaded([], [505]))
     t.answers(t.ask("E", M4, b"AAAA"), 0, 1)

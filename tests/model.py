@@ -183,7 +183,7 @@ def read_index(interval, m, n, without=None):
     ask("unused field", HEADER <= unused)
     ask("overlap", unused <= start)
     free = list(interval[HEADER:unused])
-    named = free + [named for _, named in entries]
+    named = free + [each for _, each in entries]
     ask("number below n", all(each < n for each in named))
     ask("named once", len(set(named)) == len(named))
     ask("all named", set(range(n)) <= set(named))

@@ -23,7 +23,7 @@ def requests(comparing, made, count):
     """A sequence of requests; gives the area that it leaves."""
     area = made.area
     for _ in range(count):
-        letter, content, address, out = random_areas.request(made, area)
+        letter, content, address, out = random_areas.request(made)
         area = comparing.ask(letter, area, made.m, content, address, out).area
     comparing.ask("C", area, made.m)
     return area
@@ -34,13 +34,13 @@ def damages(comparing, made, area, count):
     for _ in range(count):
         hurt = random_areas.damaged(made.r, area, made.m)
         comparing.ask("C", hurt, made.m)
-        letter, content, address, out = random_areas.request(made, hurt)
+        letter, content, address, out = random_areas.request(made)
         comparing.ask(letter, hurt, made.m, content, address, out)
 
 
 def strange_measures(comparing, made, area, count):
     for _ in range(count):
-        letter, content, address, out = random_areas.request(made, area)
+        letter, content, address, out = random_areas.request(made)
         comparing.ask(letter, area, random_areas.hostile(made.r, made.m), content, address, out)
     for length in (0, 1, made.m.size - 1, made.m.size, len(area) - 1):
         comparing.ask("C", area[:length], made.m)

@@ -275,21 +275,19 @@ def uneven(r):
 
 # ---- requests
 
-def request(made, area):
+def request(made):
     """A request by chance: letter, content, address, output."""
     r, m = made.r, made.m
     letter = r.choice("CGGRRIIIIIUUUUEE")
-    if letter == "C":
-        return letter, b"", 0, b""
     records = made.data.get(r.choice(made.entries)[1], [])
     record = r.choice(records) if records else made.record(made.key(), m.least)
     key = r.choice([m.key_of(record), m.key_of(record), made.key(), beside(m.key_of(record), r.choice([1, -1])), near_bound(made)])
     out = bytes([0xEE]) * r.choice([0, len(record), max(len(record) - 1, 0), m.least, min(m.most + 5, 40000)])
-    if letter == "R":
-        return letter, b"", address(made, area), out
+    if letter in "CR":
+        return letter, b"", address(made) if letter == "R" else 0, out if letter == "R" else b""
     if letter in "GE":
-        wrong = r.random() < 0.03
-        return letter, (key + b"A" if r.random() < 0.5 else key[:-1]) if wrong else key, 0, out if letter == "G" else b""
+        searched = r.choice([key] * 30 + [key + b"A", key[:-1]])
+        return letter, searched, 0, out if letter == "G" else b""
     length = r.choice([len(record), len(record), len(record) + r.choice([-9, -2, -1, 1, 2]), r.randint(m.least, m.most), m.most, m.least])
     if r.random() < 0.9:
         length = min(max(length, m.least), m.most)
@@ -302,7 +300,7 @@ def near_bound(made):
     return made.r.choice([bound, beside(bound, 1), separator.ljust(made.m.key, b"\0")])
 
 
-def address(made, area):
+def address(made):
     """Mostly one where a record may begin, seldom one far off."""
     r, m = made.r, made.m
     number = r.randrange(made.n)

@@ -7,7 +7,7 @@ use Rattle.requests.specs.Model.{Change}
 use Rattle.requests.specs.Model as model
 use Rattle.requests.specs.declared.Answer.{Answer}
 use Rattle.promises.specs.Trace.{Step}
-use Rattle.promises.specs.Trace as trace
+use Rattle.requests.specs.Allowed as asked
 use Rattle.lines.specs.Lines.{Command, commandOf, bad, get, insert, update, erase, servedOf, Serves}
 use Rattle.lines.specs.declared.Line.{Line}
 use Rattle.lines.specs.declared.Line.the-variants.{Bad, Told}
@@ -31,13 +31,13 @@ evening area [] = area
 evening area (t ∷ ts) = evening (t .area) ts
 
 abbrev pub changing : Change → Answer → Turn → Step
-changing ch a t = record { request = trace.changes ch; answer = a; area = t .area; output = t .output }
+changing ch a t = record { request = asked.changes ch; answer = a; area = t .area; output = t .output }
 
 -- the request of the register that a line stands for; a bad line stands for none
 abbrev pub stepFor : Command → Line → Turn → List Step
 stepFor bad l t = []
 stepFor (get key) Bad t = []
-stepFor (get key) (Told a) t = record { request = trace.get key (t .lent); answer = a; area = t .area; output = t .output } ∷ []
+stepFor (get key) (Told a) t = record { request = asked.get key (t .lent); answer = a; area = t .area; output = t .output } ∷ []
 stepFor (insert r) Bad t = []
 stepFor (insert r) (Told a) t = changing (model.insert r) a t ∷ []
 stepFor (update r) Bad t = []

@@ -32,7 +32,8 @@ use Rattle.requests.specs.declared.Answer.{Answer}
 use Rattle.requests.specs.declared.Answer.the-variants.{Intact}
 use Rattle.requests.proofs.Edits.{ledTo}
 use Rattle.requests.proofs.Ways.{Carried, carried}
-use Rattle.promises.specs.Trace.{Sound, ChangeAllowed}
+use Rattle.requests.specs.Allowed.{ChangeAllowed}
+use Rattle.promises.specs.Trace.{Sound}
 use Rattle.promises.specs.Changes.{SpreadsFewest, OnlyNamedWritten, CountsTrue, CutPrescribed}
 use Rattle.promises.specs.Prescribed.{broughtBy}
 use Rattle.promises.proofs.Ways.{edit-entry, home, way-fits, way-placed, way-edits}

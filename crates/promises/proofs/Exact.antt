@@ -28,7 +28,8 @@ use Rattle.requests.proofs.Gets.{with-keyed}
 use Rattle.requests.proofs.Proper.{some-first}
 use Rattle.requests.proofs.Ways.{unlawful, Decided, way-length, way-keyed, way-planned}
 use Rattle.promises.specs.Tables.{Table, done, row, First, OutsideLimits, DamagedSomewhere, Present, Absent, WantOfInterval, WantOfRoom, tableFor, changeTable}
-use Rattle.promises.specs.Trace.{Request, check, get, getAt, changes, ChangeAllowed, Allowed, Sound}
+use Rattle.requests.specs.Allowed.{Request, check, get, getAt, changes, ChangeAllowed, Allowed}
+use Rattle.promises.specs.Trace.{Sound}
 use Rattle.promises.specs.Home.{LengthFine}
 use Rattle.promises.proofs.Ways.{fine-tested, tested-fine, way-fits}
 use Rattle.promises.proofs.History.{change-octets, change-makes}

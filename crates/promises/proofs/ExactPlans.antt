@@ -131,12 +131,12 @@ module _ (size offset key most : ℕ) (area : List ℕ) where
     plan-rows = go (wants m c e)
       where
         six : WantsInterval m c e → WantOfInterval size offset key most area ch
-        six w = (c, s .reads, (here, λ (k : ℕ) (g : Fewest size (changed m c ch here) k). omega (arith, parts-only here k g)))
+        six w = (c, s .reads, (here, length ps, parts-fewest here, w))
 
         not-six : length ps - 1 ≤ length (c .free) → WantOfInterval size offset key most area ch → ⊥
         not-six w x =
             let y = held size offset key most area (Crowded size offset key most ch) c (s .reads) x in
-            omega (arith, y .1 (length ps) (parts-fewest (y .0)))
+            omega (arith, parts-only (y .0) (y .1) (y .2), y .3)
 
         seven : WantsRoom m c e → WantOfRoom size offset key most area ch
         seven w = (
@@ -144,7 +144,9 @@ module _ (size offset key most : ℕ) (area : List ℕ) where
           s .reads,
           (
             here,
-            λ (k : ℕ) (g : Fewest size (changed m c ch here) k). let q : 1 < length ps = w .1 in omega (arith, parts-only here k g),
+            length ps,
+            parts-fewest here,
+            w .1,
             ps,
             parts-prescribed here,
             rw (needs-is here) (w .2),
@@ -154,9 +156,9 @@ module _ (size offset key most : ℕ) (area : List ℕ) where
         not-seven : (1 < length ps → indexSize (widthIn c) (indexAfter m c e) ≤ size - 7) → WantOfRoom size offset key most area ch → ⊥
         not-seven w x =
             let y = held size offset key most area (Roomless size offset key most ch) c (s .reads) x in
-            let q : y .2 ≡ ps = prescribed-parts (y .0) (y .2) (y .3) in
-            let o : size - 7 < indexNeeds m c (keyIn m ch) (y .0) ps = rw q at (y .4) in
-            omega (arith, w (y .1 (length ps) (parts-fewest (y .0))), o, needs-is (y .0))
+            let q : y .4 ≡ ps = prescribed-parts (y .0) (y .4) (y .5) in
+            let o : size - 7 < indexNeeds m c (keyIn m ch) (y .0) ps = rw q at (y .6) in
+            omega (arith, w (omega (arith, parts-only (y .0) (y .1) (y .2), y .3)), o, needs-is (y .0))
 
         go : (WantsInterval m c e ⊎ WantsRoom m c e) ⊎ WantsNothing m c e
             → First (row 6 (WantOfInterval size offset key most area ch) (row 7 (WantOfRoom size offset key most area ch) done)) (numberOf (carryOut m area (planOf m c e) .answer))

@@ -26,7 +26,8 @@ use Rattle.requests.specs.declared.Answer.the-variants.{Absent, NoRecord}
 use Rattle.requests.proofs.Making.{total-all}
 use Rattle.requests.proofs.Gets.{get-finds as area-get-finds, get-at-finds as area-get-at-finds}
 use Rattle.requests.proofs.Accepted.{accepted}
-use Rattle.promises.specs.Trace.{Request, check, get, getAt, changes, Step, ChangeAllowed, Allowed, Trace, areaAfter, taking, acceptedIn, Sound, Stands}
+use Rattle.requests.specs.Allowed.{Request, check, get, getAt, changes, ChangeAllowed, Allowed}
+use Rattle.promises.specs.Trace.{Step, Trace, areaAfter, taking, acceptedIn, Sound, Stands}
 use Rattle.promises.proofs.Refused.{change-harmless}
 use Rattle.promises.proofs.Fits.{accepted-fits-area}
 

@@ -4,7 +4,8 @@ use mathlib.Core.Path.{_≡_, refl, _∙_, sym}
 use mathlib.Core.List.{List, [], _∷_}
 use native.Mathlib.Omega.{arith}
 use Rattle.requests.specs.declared.Answer.{Answer}
-use Rattle.promises.specs.Trace.{Request, check, get, getAt, changes, Step, Allowed, Trace}
+use Rattle.requests.specs.Allowed.{Request, check, get, getAt, changes, Allowed}
+use Rattle.promises.specs.Trace.{Step, Trace}
 use Rattle.promises.specs.Alike.{handedBack, requestsIn, answersIn, areasIn, outputsIn}
 use Rattle.promises.proofs.History.{change-makes}
 

@@ -22,7 +22,7 @@ use Rattle.requests.specs.Changing.{changeOpened, changeOf}
 use Rattle.requests.specs.declared.Answer.{Answer}
 use Rattle.requests.specs.declared.Answer.the-variants as answer
 use Rattle.requests.proofs.Gets.{get-finds, get-wrong-length, get-at-finds}
-use Rattle.promises.specs.Trace.{Request, check, get, getAt, changes, Allowed}
+use Rattle.requests.specs.Allowed.{Request, check, get, getAt, changes, Allowed}
 use Rattle.promises.specs.Values.{Asked, ValuesExact}
 use Rattle.promises.proofs.History.{change-makes}
 use Rattle.promises.proofs.Rows.{judged-either}

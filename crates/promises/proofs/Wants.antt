@@ -17,7 +17,8 @@ use Rattle.requests.specs.Model.{Change, Legal}
 use Rattle.requests.specs.Changing.{lengthFine}
 use Rattle.requests.specs.declared.Answer.{Answer}
 use Rattle.requests.proofs.Ways.{way-planned}
-use Rattle.promises.specs.Trace.{ChangeAllowed, Sound}
+use Rattle.requests.specs.Allowed.{ChangeAllowed}
+use Rattle.promises.specs.Trace.{Sound}
 use Rattle.promises.specs.Entries.{sepsBy, entriesNeed}
 use Rattle.promises.specs.Home.{LengthFine}
 use Rattle.promises.specs.Tables.{Table, done, row, First, WantOfInterval, WantOfRoom}

@@ -23,7 +23,7 @@ use Rattle.index.specs.Layout.{pieceBytes, piecesBytes, freeBytes, header, trai
 use Rattle.index.specs.Form.{packed, entriesSize, entrySize, indexSize, indexBytes}
 use Rattle.index.specs.Reading.{numbersAt, piecesAt, piecesIn, readIndex, frame, places, soundIndex}
 use Rattle.division.specs.Fewest.{Fewest}
-use Rattle.division.proofs.Intervals.{fewest-one}
+use Rattle.division.proofs.Intervals.{fewest-one, fewest-unique}
 use Rattle.area.specs.Content.{Filled, Content, recordsOf}
 use Rattle.area.specs.Soundness.{unsoundFree, unsoundUsed, unsoundData, lowest}
 use Rattle.area.specs.Reading.{damaged, whole, readArea}
@@ -35,7 +35,8 @@ use Rattle.requests.specs.Reading.{Given}
 use Rattle.requests.specs.Finding.{Keyed, Finds}
 use Rattle.requests.specs.declared.Answer.the-variants.{Intact, Absent}
 use Rattle.requests.proofs.Making.{count-add}
-use Rattle.promises.specs.Trace.{Request, check, get, changes, Step, Allowed, Trace, acceptedIn, Sound, Stands}
+use Rattle.requests.specs.Allowed.{Request, check, get, changes, Allowed}
+use Rattle.promises.specs.Trace.{Step, Trace, acceptedIn, Sound, Stands}
 use Rattle.promises.specs.Changes.{CountsTrue}
 use Rattle.promises.specs.Tables.{First, Holding, Crowded, changed, tableFor}
 use Rattle.promises.specs.Wrong.{run, Breaks, refusesAll, callsDamaged, alwaysFull, inventsCounts, untouchedDone, sameRecord}
@@ -108,7 +109,7 @@ always-full (inr (a, inr (b, inr (d, inr (e, inl x))))) =
     let o : y .0 .old ≡ record { sep = []; num = 0; records = first ∷ second ∷ [] } = only-entry (y .0 .pre) (y .0 .old) _ (y .0 .post) (y .0 .split) in
     let f : Fewest 512 (changed depot held (insert third) (y .0)) 1 =
     rw o (fewest-one 512 (makeChange depot (insert third) (first ∷ second ∷ [])) three-fit) in
-    omega (arith, y .1 1 f)
+    omega (arith, fewest-unique 512 (changed depot held (insert third) (y .0)) 1 (y .1) f (y .2), y .3)
 always-full (inr (a, inr (b, inr (d, inr (e, inr (f, inl x)))))) = omega (arith, x .1)
 always-full (inr (a, inr (b, inr (d, inr (e, inr (f, inr x)))))) = omega (arith, x .1)
 

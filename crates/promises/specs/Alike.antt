@@ -3,7 +3,8 @@
 use Prim.Native.Nat.{ℕ}
 use mathlib.Core.List.{List, [], map}
 use Rattle.requests.specs.declared.Answer.{Answer}
-use Rattle.promises.specs.Trace.{Request, check, get, getAt, changes, Step}
+use Rattle.requests.specs.Allowed.{Request, check, get, getAt, changes}
+use Rattle.promises.specs.Trace.{Step}
 
 -- the output that a request gets back; a check and a change are lent none
 abbrev pub handedBack : Request → List ℕ → List ℕ

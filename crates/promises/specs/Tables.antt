@@ -16,7 +16,7 @@ use Rattle.area.specs.Reading.{damaged, whole, readArea}
 use Rattle.requests.specs.Model.{Change, insert, update, erase, makeChange}
 use Rattle.requests.specs.Finding.{Keyed, Lies}
 use Rattle.requests.specs.Changing.{keyIn}
-use Rattle.promises.specs.Trace.{Request, check, get, getAt, changes}
+use Rattle.requests.specs.Allowed.{Request, check, get, getAt, changes}
 use Rattle.promises.specs.Entries.{sepsBy, entriesNeed}
 use Rattle.promises.specs.Home.{LengthFine, Home}
 use Rattle.promises.specs.Prescribed.{broughtBy, PrescribedParts}
@@ -89,15 +89,17 @@ module _ (size offset key most : ℕ) (ch : Change) where
   abbrev m : Measures
   m = measures size offset key most
 
-  -- the fewest intervals that hold the key's interval's records with the change made are more, besides that interval, than are free
+  -- there is a fewest number of intervals that hold the key's interval's records with the change made, and it is more, besides that interval, than are free
   abbrev pub Crowded : Content → Type 0
-  Crowded c = (h : Home m c (keyIn m ch)) × ((k : ℕ) → Fewest size (changed m c ch h) k → length (c .free) < k - 1)
+  Crowded c = (h : Home m c (keyIn m ch)) × (k : ℕ) × Fewest size (changed m c ch h) k × (length (c .free) < k - 1)
 
-  -- they are more than one, and the index record that names the prescribed parts would need more than size - 7 bytes
+  -- it is more than one, and the index record that names the prescribed parts would need more than size - 7 bytes
   abbrev pub Roomless : Content → Type 0
   Roomless c =
       (h : Home m c (keyIn m ch))
-      × ((k : ℕ) → Fewest size (changed m c ch h) k → 1 < k)
+      × (k : ℕ)
+      × Fewest size (changed m c ch h) k
+      × (1 < k)
       × (parts : List (List (List ℕ)))
       × PrescribedParts size (changed m c ch h) (broughtBy ch) parts
       × (size - 7 < indexNeeds m c (keyIn m ch) h parts)

@@ -10,7 +10,7 @@ use Rattle.area.specs.Reading.{damaged, whole, readArea}
 use Rattle.requests.specs.Answers.{numberOf, valuesOf}
 use Rattle.requests.specs.Finding.{Keyed, Lies}
 use Rattle.requests.specs.declared.Answer.{Answer}
-use Rattle.promises.specs.Trace.{Request, check, get, getAt, changes}
+use Rattle.requests.specs.Allowed.{Request, check, get, getAt, changes}
 
 -- r is the record that a request asks for
 abbrev pub Asked : Measures → Content → Request → List ℕ → Type 0

@@ -10,7 +10,8 @@ use Rattle.area.specs.Content.{meaningOf}
 use Rattle.area.specs.Example.{first, second, held, bytes}
 use Rattle.requests.specs.declared.Answer.{Answer}
 use Rattle.requests.specs.declared.Answer.the-variants.{Done, Found, Intact, Damaged, Absent, NoInterval}
-use Rattle.promises.specs.Trace.{Request, check, get, getAt, changes, Step, Trace}
+use Rattle.requests.specs.Allowed.{Request, check, get, getAt, changes}
+use Rattle.promises.specs.Trace.{Step, Trace}
 
 -- A register, as a depot meets it: what comes back for an area and a request.
 abbrev pub Register : Type 0

@@ -4,3 +4,4 @@ pub mod Reading
 pub mod Aimed
 pub mod Changing
 pub mod Unique
+pub mod Called

@@ -6,3 +6,4 @@ pub mod Reading
 pub mod Finding
 pub mod Changing
 pub mod Accepted
+pub mod Allowed

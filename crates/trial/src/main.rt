@@ -3,7 +3,9 @@ mod print;
 mod request;
 mod script;
 
-// What became of a step: so many bytes are the area from now on, the script was at its end, or it goes against the form.
+use script::Head;
+
+// What became of a step: so many bytes are the area from now on, the script was at its end, or this is no step.
 enum Turn {
     Held(usize),
     Ended,
@@ -11,16 +13,16 @@ enum Turn {
 }
 
 // Prints a text and a newline.
-fn text(fd: i32) -> bool {
-    let mut buf = [0u8; 65536];
+fn text(fd: i32, held: usize) -> Turn {
+    let mut buf = io::large_buffer();
     let got = script::counted(fd, 2, &mut buf);
     let n = got.bytes;
     if !got.whole {
-        return false;
+        return Turn::Bad;
     }
     print::words(&buf[..n]);
     print::words(b"\n");
-    true
+    Turn::Held(held)
 }
 
 // Takes another area.
@@ -33,20 +35,21 @@ fn renewed(fd: i32, area: &mut [u8]) -> Turn {
 }
 
 // A request is lent bytes of the area alone, never those that a longer area before it left behind its end.
-fn asked(fd: i32, letter: u8, area: &mut [u8], old: &mut [u8], held: usize) -> bool {
-    let mut head = [0u8; 48];
-    if io::read_full(fd, &mut head) < 48 {
-        return false;
-    }
-    let ask = script::parse(letter, &head);
-    let mut given = [0u8; 65536];
+fn asked(fd: i32, letter: u8, area: &mut [u8], old: &mut [u8], held: usize) -> Turn {
+    let Head::Whole(ask) = script::read_ask(fd, letter) else {
+        return Turn::Bad;
+    };
+    let mut given = io::large_buffer();
     let got = script::counted(fd, 2, &mut given);
     let n = got.bytes;
     let lent = ask.lent;
     if !got.whole || held < lent || area.len() < lent {
-        return false;
+        return Turn::Bad;
     }
-    request::serve(&mut area[..lent], old, ask, &given[..n])
+    if !request::serve(&mut area[..lent], old, ask, &given[..n]) {
+        return Turn::Bad;
+    }
+    Turn::Held(held)
 }
 
 // One step, by its letter. A script may end before a step, and nowhere else.
@@ -56,42 +59,42 @@ fn step(fd: i32, area: &mut [u8], old: &mut [u8], held: usize) -> Turn {
         return Turn::Ended;
     }
     let letter = first[0];
-    if letter == b'A' {
-        return renewed(fd, area);
+    match letter {
+        b'T' => text(fd, held),
+        b'A' => renewed(fd, area),
+        _ => asked(fd, letter, area, old, held),
     }
-    if letter == b'T' {
-        if !text(fd) {
-            return Turn::Bad;
-        }
-        return Turn::Held(held);
-    }
-    if !asked(fd, letter, area, old, held) {
-        return Turn::Bad;
-    }
-    Turn::Held(held)
 }
 
-// Whether every step was carried out. Nothing says that a file ends, and a proved loop does: so steps are counted up to a number that
-// no script reaches.
-fn steps(fd: i32, area: &mut [u8], old: &mut [u8]) -> bool {
+fn bad() {
+    print::words(b"bad script\n");
+}
+
+// Nothing says that a file ends, and a proved loop does: so steps are counted up to a number that no script reaches.
+fn steps(area: &mut [u8], old: &mut [u8]) {
+    let fd = os::open_read(b"script");
+    if fd < 0 {
+        bad();
+        return;
+    }
     let mut held = 0;
     let mut n = 0;
     while n < u64::MAX {
         match step(fd, area, old, held) {
             Turn::Held(length) => held = length,
-            Turn::Ended => return true,
-            Turn::Bad => return false,
+            Turn::Ended => return,
+            Turn::Bad => {
+                bad();
+                return;
+            }
         }
         n += 1;
     }
-    false
 }
 
+// The area, and what it was before a change.
 fn main() {
     let mut area = [0u8; 1048576];
     let mut old = [0u8; 1048576];
-    let fd = os::open_read(b"script");
-    if fd < 0 || !steps(fd, &mut area, &mut old) {
-        print::words(b"bad script\n");
-    }
+    steps(&mut area, &mut old);
 }

@@ -1,5 +1,6 @@
 // One request, its answer, and what came to its output or became of the area.
-ghost use Prim.Native.Nat.{_<_};
+ghost use Prim.Native.Nat.{_<_, _≤_};
+ghost use lib.ListN.{length};
 use crate::print;
 use crate::script::Ask;
 use fields::Order;
@@ -13,9 +14,7 @@ fn value(n: usize) {
 
 // The request's word, the answer's number and its values.
 fn told(word: &[u8], answer: Answer) {
-    print::words(b"  ");
     print::words(word);
-    print::words(b":");
     value(requests::number(answer));
     match answer {
         Answer::Done(written) => value(written.count),
@@ -62,10 +61,9 @@ fn unit_of(size: usize) -> usize
     size
 }
 
-fn altered(area: &[u8], old: &[u8], size: usize) {
-    if old.len() < area.len() {
-        return;
-    }
+fn altered(area: &[u8], old: &[u8], size: usize)
+    requires { ⌜ length (now area) ≤ length (now old) ⌝ }
+{
     let unit = unit_of(size);
     let mut place = 0;
     let mut at = 0;
@@ -77,24 +75,25 @@ fn altered(area: &[u8], old: &[u8], size: usize) {
     }
 }
 
-// A change, and what it altered: for that the area is kept as it was before.
 fn change(area: &mut [u8], letter: u8, n: Numbers, given: &[u8]) {
     match letter {
         b'I' => told(
-            b"insert",
+            b"  insert:",
             register::insert(area, n.size, n.offset, n.key, n.most, given),
         ),
         b'U' => told(
-            b"update",
+            b"  update:",
             register::update(area, n.size, n.offset, n.key, n.most, given),
         ),
         _ => told(
-            b"erase",
+            b"  erase:",
             register::erase(area, n.size, n.offset, n.key, n.most, given),
         ),
     }
 }
 
+// A change, and what it altered: for that the area is kept as it was before. The buffer for it is never too short, as long as both are
+// made with one length.
 fn changed(area: &mut [u8], old: &mut [u8], ask: Ask, given: &[u8]) {
     if old.len() < area.len() {
         return;
@@ -118,19 +117,19 @@ fn read(area: &[u8], ask: Ask, given: &[u8], out: &mut [u8]) {
     let letter = ask.letter;
     match letter {
         b'C' => told(
-            b"check",
+            b"  check:",
             register::check(area, n.size, n.offset, n.key, n.most),
         ),
         b'G' => {
             told(
-                b"get",
+                b"  get:",
                 register::get(area, n.size, n.offset, n.key, n.most, given, out),
             );
             output(out);
         }
         _ => {
             told(
-                b"get at",
+                b"  get at:",
                 register::get_at(area, n.size, n.offset, n.key, n.most, ask.address, out),
             );
             output(out);
@@ -141,11 +140,12 @@ fn read(area: &[u8], ask: Ask, given: &[u8], out: &mut [u8]) {
 // Serves a request of the area that it is lent, and gives whether there is one of its letter and output's length. An output has
 // bytes that are no zeros, so that it shows which of them the request left alone.
 pub(crate) fn serve(area: &mut [u8], old: &mut [u8], ask: Ask, given: &[u8]) -> bool {
-    let mut space = [238u8; 65536];
+    let mut space = io::large_buffer();
     let out = ask.out;
     if 65536 < out {
         return false;
     }
+    fields::fill(&mut space, 0, out, 238);
     let letter = ask.letter;
     match letter {
         b'C' | b'G' | b'R' => read(area, ask, given, &mut space[..out]),

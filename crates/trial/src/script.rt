@@ -1,4 +1,8 @@
-// The script's numbers and bytes. Every number has its highest byte first.
+// The script's steps, each a letter and what belongs to it; every number has its highest byte first.
+//   T  a text: 2 bytes of length, the text
+//   A  an area: 4 bytes of length, the bytes
+//   C, G, R, I, U, E  check, get, get at an address, insert, update, erase: size, offset, key and most, 8 bytes each; the lengths of
+//      the area that is lent and of the output, 4 each; the address, 8; 2 bytes of length, the key or record
 ghost use Rattle.io.specs.Counts.{Counts};
 use measures::Numbers;
 
@@ -15,6 +19,11 @@ pub(crate) struct Ask {
     pub lent: usize,
     pub out: usize,
     pub address: u64,
+}
+
+pub(crate) enum Head {
+    Whole(Ask),
+    Cut,
 }
 
 const NONE: Got = Got {
@@ -39,7 +48,7 @@ pub(crate) fn counted(fd: i32, width: usize, buf: &mut [u8]) -> Got
 }
 
 // The numbers between a request's letter and the length of its bytes.
-pub(crate) fn parse(letter: u8, head: &[u8; 48]) -> Ask {
+fn parse(letter: u8, head: &[u8; 48]) -> Ask {
     let numbers = Numbers {
         size: fields::read_eight(head, 0),
         offset: fields::read_eight(head, 8),
@@ -53,4 +62,12 @@ pub(crate) fn parse(letter: u8, head: &[u8; 48]) -> Ask {
         out: fields::read_four(head, 36),
         address: fields::read_eight(head, 40) as u64,
     }
+}
+
+pub(crate) fn read_ask(fd: i32, letter: u8) -> Head {
+    let mut head = [0u8; 48];
+    if io::read_full(fd, &mut head) < 48 {
+        return Head::Cut;
+    }
+    Head::Whole(parse(letter, &head))
 }

@@ -5,17 +5,20 @@ use borrow.Author.Needs.{needs}
 use Rattle.trial.proofs.asked.Statement.{statement}
 use Rattle.trial.proofs.asked.Tie as tie
 
-slice-aggregate-read-full : tie.Need-slice-aggregate-read-full
-slice-aggregate-read-full c = search needs
+read-ask-requires : tie.Need-read-ask-requires
+read-ask-requires c κs = search needs
 
-read-full-requires : tie.Need-read-full-requires
-read-full-requires c κs = search needs
+enum-known-ask : tie.Need-enum-known-ask
+enum-known-ask c = search needs
+
+enum-told : tie.Need-enum-told
+enum-told c = search needs
 
 returns : tie.Need-returns
 returns c = search needs
 
-parse-requires : tie.Need-parse-requires
-parse-requires c κs = search needs
+large-buffer-requires : tie.Need-large-buffer-requires
+large-buffer-requires c κs = search needs
 
 slice-aggregate-counted : tie.Need-slice-aggregate-counted
 slice-aggregate-counted c = search needs
@@ -50,14 +53,24 @@ same-length-2 c = search needs
 returns-3 : tie.Need-returns-3
 returns-3 c = search needs
 
+same-length-3 : tie.Need-same-length-3
+same-length-3 c = search needs
+
+same-length-4 : tie.Need-same-length-4
+same-length-4 c = search needs
+
+returns-4 : tie.Need-returns-4
+returns-4 c = search needs
+
 pub asked-spec : {M : Type 1} → statement M
 asked-spec =
     tie.close
     (tie.spec
-    slice-aggregate-read-full
-    read-full-requires
+    read-ask-requires
+    enum-known-ask
+    enum-told
     returns
-    parse-requires
+    large-buffer-requires
     slice-aggregate-counted
     counted-requires
     returns-2
@@ -68,4 +81,7 @@ asked-spec =
     serve-requires
     same-length
     same-length-2
-    returns-3)
+    returns-3
+    same-length-3
+    same-length-4
+    returns-4)

@@ -8,10 +8,22 @@ use Rattle.trial.proofs.steps.Statement.{statement}
 use Rattle.trial.proofs.steps.Tie as tie
 
 abbrev Inv-loop : tie.InvT-loop
-Inv-loop fd area₀ old₀ held₀ n₀ area old held n = (length area ≡ length area₀) × (length old ≡ length old₀)
+Inv-loop area₀ old₀ fd held₀ n₀ area old held n = (length area ≡ length area₀) × (length old ≡ length old₀)
 
 abbrev μ-loop : tie.MeasureT-loop
-μ-loop fd area₀ old₀ held₀ n₀ area old held n = 18446744073709551615 - n
+μ-loop area₀ old₀ fd held₀ n₀ area old held n = 18446744073709551615 - n
+
+slice-aggregate-open-read : tie.Need-slice-aggregate-open-read Inv-loop μ-loop
+slice-aggregate-open-read c = search needs
+
+open-read-requires : tie.Need-open-read-requires Inv-loop μ-loop
+open-read-requires c κs = search needs
+
+bad-requires : tie.Need-bad-requires Inv-loop μ-loop
+bad-requires c κs = search needs
+
+returns : tie.Need-returns Inv-loop μ-loop
+returns c = search needs
 
 loop-holds : tie.Need-loop-holds Inv-loop μ-loop
 loop-holds c = search needs
@@ -31,11 +43,14 @@ same-length c = search needs
 same-length-2 : tie.Need-same-length-2 Inv-loop μ-loop
 same-length-2 c = search needs
 
-returns : tie.Need-returns Inv-loop μ-loop
-returns c = search needs
+returns-2 : tie.Need-returns-2 Inv-loop μ-loop
+returns-2 c = search needs
 
 enum-told-2 : tie.Need-enum-told-2 Inv-loop μ-loop
 enum-told-2 c = search needs
+
+bad-requires-2 : tie.Need-bad-requires-2 Inv-loop μ-loop
+bad-requires-2 c κs = search needs
 
 same-length-3 : tie.Need-same-length-3 Inv-loop μ-loop
 same-length-3 c = search needs
@@ -43,8 +58,8 @@ same-length-3 c = search needs
 same-length-4 : tie.Need-same-length-4 Inv-loop μ-loop
 same-length-4 c = search needs
 
-returns-2 : tie.Need-returns-2 Inv-loop μ-loop
-returns-2 c = search needs
+returns-3 : tie.Need-returns-3 Inv-loop μ-loop
+returns-3 c = search needs
 
 add-n : tie.Need-add-n Inv-loop μ-loop
 add-n c = search needs
@@ -61,8 +76,8 @@ same-length-5 c = search needs
 same-length-6 : tie.Need-same-length-6 Inv-loop μ-loop
 same-length-6 c = search needs
 
-returns-3 : tie.Need-returns-3 Inv-loop μ-loop
-returns-3 c = search needs
+returns-4 : tie.Need-returns-4 Inv-loop μ-loop
+returns-4 c = search needs
 
 pub steps-spec : {M : Type 1} → statement M
 steps-spec =
@@ -70,20 +85,25 @@ steps-spec =
     (tie.spec
     Inv-loop
     μ-loop
+    slice-aggregate-open-read
+    open-read-requires
+    bad-requires
+    returns
     loop-holds
     step-requires
     enum-known-length
     enum-told
     same-length
     same-length-2
-    returns
+    returns-2
     enum-told-2
+    bad-requires-2
     same-length-3
     same-length-4
-    returns-2
+    returns-3
     add-n
     loop-less
     loop-again
     same-length-5
     same-length-6
-    returns-3)
+    returns-4)

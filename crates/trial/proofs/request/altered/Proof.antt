@@ -12,9 +12,6 @@ Inv-loop area old size unit place₀ at₀ place at = (place ≤ at) × (at ≤ 
 abbrev μ-loop : tie.MeasureT-loop
 μ-loop area old size unit place₀ at₀ place at = length area - at
 
-returns : tie.Need-returns Inv-loop μ-loop
-returns c = search needs
-
 unit-of-requires : tie.Need-unit-of-requires Inv-loop μ-loop
 unit-of-requires c κs = search needs
 
@@ -57,8 +54,8 @@ loop-less c = search needs
 loop-again : tie.Need-loop-again Inv-loop μ-loop
 loop-again c = search needs
 
-returns-2 : tie.Need-returns-2 Inv-loop μ-loop
-returns-2 c = search needs
+returns : tie.Need-returns Inv-loop μ-loop
+returns c = search needs
 
 pub altered-spec : {M : Type 1} → statement M
 altered-spec =
@@ -66,7 +63,6 @@ altered-spec =
     (tie.spec
     Inv-loop
     μ-loop
-    returns
     unit-of-requires
     loop-holds
     sub-loop
@@ -81,4 +77,4 @@ altered-spec =
     add-place
     loop-less
     loop-again
-    returns-2)
+    returns)

@@ -1,23 +1,27 @@
--- No loop. Nothing is promised of what is printed. The front of the output that is lent lies within it: `front` says it of any length.
-use Prim.Native.Nat.{ℕ, _≤_}
-use mathlib.Core.Path.{_≡_, sym}
-use lib.ListN.{length, take, replicate, length-replicate}
+-- No loop. Nothing is promised of what is printed; each part that is lent lies within its list.
+use mathlib.Core.Path.{sym}
 use lib.Seq.{length-take-le}
 use borrow.Author.Needs.{needs}
 use Rattle.trial.proofs.request.serve.Statement.{statement}
 use Rattle.trial.proofs.request.serve.Tie as tie
 
-front : (n k x : ℕ) → n ≤ k → n ≡ length (take n (replicate k x))
-front n k x h = sym (length-take-le n (replicate k x) (rw (length-replicate {A = ℕ} k x) h))
+large-buffer-requires : tie.Need-large-buffer-requires
+large-buffer-requires c κs = search needs
 
 returns : tie.Need-returns
 returns c = search needs
+
+slice-aggregate-fill : tie.Need-slice-aggregate-fill
+slice-aggregate-fill c = search needs
+
+fill-requires : tie.Need-fill-requires
+fill-requires c κs = search needs
 
 array-borrow-prefix-space : tie.Need-array-borrow-prefix-space
 array-borrow-prefix-space c = search needs
 
 slice-aggregate-read : tie.Need-slice-aggregate-read
-slice-aggregate-read c = front _ 65536 238 (search needs)
+slice-aggregate-read c = sym (length-take-le _ _ (search needs))
 
 read-requires : tie.Need-read-requires
 read-requires c κs = search needs
@@ -47,7 +51,10 @@ pub serve-spec : {M : Type 1} → statement M
 serve-spec =
     tie.close
     (tie.spec
+    large-buffer-requires
     returns
+    slice-aggregate-fill
+    fill-requires
     array-borrow-prefix-space
     slice-aggregate-read
     read-requires

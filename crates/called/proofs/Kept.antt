@@ -1,0 +1,93 @@
+-- The promises of one request, said of what a caller of the register's function learns: each is the promise of that name, through `allowed`.
+use Prim.Native.Nat.{ℕ}
+use mathlib.Core.Path.{_≡_, refl}
+use mathlib.Core.List.{List}
+use mathlib.Core.Logic.{_↔_}
+use lib.ListN.{length}
+use Rattle.fields.specs.Bytes.{Octets}
+use Rattle.measures.specs.Judgement.{measures, countOf}
+use Rattle.measures.specs.declared.Measures.{Measures}
+use Rattle.area.specs.Content.{Content, recordsOf}
+use Rattle.area.specs.Reading.{whole, readArea}
+use Rattle.requests.specs.Answers.{numberOf}
+use Rattle.requests.specs.Model.{Change, insert, update, erase, Legal}
+use Rattle.requests.specs.Allowed.{Request, check, get, getAt, changes, Allowed}
+use Rattle.requests.specs.declared.Answer.{Answer}
+use Rattle.requests.specs.declared.Answer.the-variants.{Intact}
+use Rattle.promises.specs.Harmless.{Refusal}
+use Rattle.promises.specs.Alike.{handedBack}
+use Rattle.promises.specs.Wrong.{lentBy}
+use Rattle.promises.specs.Home.{LengthFine}
+use Rattle.promises.specs.Trace.{Sound}
+use Rattle.promises.specs.Changes.{SpreadsFewest, OnlyNamedWritten, CountsTrue, CutPrescribed}
+use Rattle.promises.specs.Tables.{First, WantOfInterval, WantOfRoom, tableFor}
+use Rattle.promises.specs.Values.{ValuesExact}
+use Rattle.promises.proofs.Refused.{refused-harmless}
+use Rattle.promises.proofs.Exact.{refusals-exact}
+use Rattle.promises.proofs.Values.{values-exact}
+use Rattle.promises.proofs.Wants.{want-of-interval, want-of-room}
+use Rattle.promises.proofs.Changes.{spreads-fewest, only-named-written, counts-true, cut-prescribed, check-true}
+use Rattle.promises.proofs.Unique.{one-result}
+use Rattle.called.proofs.Called.{Called, allowed}
+
+module _ (size offset key most : ℕ) (area : List ℕ) where
+  module _ (q : Request) (a : Answer) (after out : List ℕ) (k : Called size offset key most area q a after out) where
+    abbrev may : Allowed size offset key most area q a after out
+    may = allowed size offset key most area q a after out k
+
+    pub refusals-exact-called : Octets area → First (tableFor size offset key most area q) (numberOf a)
+    refusals-exact-called o = refusals-exact size offset key most area o q a after out may
+
+    pub values-exact-called : ValuesExact size offset key most area q a
+    values-exact-called = values-exact size offset key most area q a after out may
+
+    pub one-result-called : (b : Answer) (y put : List ℕ) → Called size offset key most area q b y put → (a ≡ b) × (after ≡ y) × (handedBack q out ≡ handedBack q put)
+    one-result-called b y put l = one-result size offset key most area q a b after y out put may (allowed size offset key most area q b y put l)
+
+  -- a refused request, of whatever kind, leaves area and output
+  spared : (q : Request) (a : Answer) (after out : List ℕ) → Allowed size offset key most area q a after out → Refusal a
+      → (after ≡ area) × (handedBack q out ≡ lentBy q)
+  spared check a after out k n = (k .0, refl)
+  spared (get wanted lent) a after out k n = (k .0, refused-harmless size offset key most area .get wanted lent a out (k .1) n)
+  spared (getAt address lent) a after out k n = (k .0, refused-harmless size offset key most area .get-at address lent a out (k .1) n)
+  spared (changes (insert r)) a after out k n = (refused-harmless size offset key most area .insert r a after (k .1) n, refl)
+  spared (changes (update r)) a after out k n = (refused-harmless size offset key most area .update r a after (k .1) n, refl)
+  spared (changes (erase wanted)) a after out k n = (refused-harmless size offset key most area .erase wanted a after (k .1) n, refl)
+
+  pub refused-harmless-called : (q : Request) (a : Answer) (after out : List ℕ) → Called size offset key most area q a after out → Refusal a
+      → (after ≡ area) × (handedBack q out ≡ lentBy q)
+  refused-harmless-called q a after out k n = spared q a after out (allowed size offset key most area q a after out k) n
+
+  pub check-true-called : (m : Measures) (n : ℕ) (c : Content) → Sound size offset key most m n area c → (a : Answer) (after out : List ℕ)
+      → Called size offset key most area check a after out → a ≡ Intact (length (recordsOf (c .filled))) (length (c .free))
+  check-true-called m n c s a after out k = check-true size offset key most m n area c s a (allowed size offset key most area check a after out k .1)
+
+-- ---- changes
+
+module _ (size offset key most : ℕ) (area : List ℕ) (ch : Change) (a : Answer) (after out : List ℕ) (k : Called size offset key most area (changes ch) a after out) where
+  abbrev did : Allowed size offset key most area (changes ch) a after out
+  did = allowed size offset key most area (changes ch) a after out k
+
+  module _ (m : Measures) (n : ℕ) (c : Content) (s : Sound size offset key most m n area c) (z : numberOf a ≡ 0) (d : Content) (w : readArea m n after ≡ whole d) where
+    pub spreads-fewest-called : SpreadsFewest m c d ch
+    spreads-fewest-called = spreads-fewest size offset key most m n area c s ch a after did z d w
+
+    pub only-named-written-called : OnlyNamedWritten m area after c d (spreads-fewest-called .home .old) (spreads-fewest-called .new)
+    unfolding spreads-fewest-called
+    only-named-written-called = only-named-written size offset key most m n area c s ch a after did z d w
+
+    pub counts-true-called : CountsTrue c d a (length (spreads-fewest-called .new))
+    unfolding spreads-fewest-called
+    counts-true-called = counts-true size offset key most m n area c s ch a after did z d w
+
+    pub cut-prescribed-called : CutPrescribed m ch (spreads-fewest-called .home .old) (spreads-fewest-called .new)
+    unfolding spreads-fewest-called
+    cut-prescribed-called = cut-prescribed size offset key most m n area c s ch a after did z d w
+
+  module _ (c : Content) (s : Sound size offset key most (measures size offset key most) (countOf size (length area)) area c)
+      (f : LengthFine (measures size offset key most) ch) (l : Legal (measures size offset key most) ch (recordsOf (c .filled))) where
+    pub want-of-interval-called : (numberOf a ≡ 6) ↔ WantOfInterval size offset key most area ch
+    want-of-interval-called = want-of-interval size offset key most area c s ch a after did f l
+
+    pub want-of-room-called : (WantOfInterval size offset key most area ch → ⊥) → (numberOf a ≡ 7) ↔ WantOfRoom size offset key most area ch
+    want-of-room-called = want-of-room size offset key most area c s ch a after did f l
