@@ -1,17 +1,13 @@
 -- A sound area, computed: two data intervals of 512 bytes, two records in interval 0, interval 1 free.
-use Prim.Native.Nat.{ℕ, zero, suc}
 use mathlib.Core.Path.{_≡_, refl}
-use mathlib.Core.Bool.{Bool, true}
+use mathlib.Core.Bool.{true}
 use mathlib.Core.List.{List, [], _∷_}
 use lib.ListN.{length, replicate}
-use lib.Dec.{ltb}
 use native.Mathlib.Omega.{arith}
-use borrow.Author.Tests.{ltb-true}
-use Rattle.fields.specs.Choice.{both}
-use Rattle.fields.specs.Bytes.{Octets, splice, number, digits}
+use Rattle.fields.specs.Bytes.{splice, number, digits}
 use Rattle.fields.specs.Order.{orderOf, common}
 use Rattle.fields.specs.Lists.{sum, concat, every}
-use Rattle.fields.proofs.Choices.{both-split}
+use Rattle.fields.proofs.Octets.{allOctets, all-octets}
 use Rattle.measures.specs.Judgement.{Fits, widthFor}
 use Rattle.measures.specs.Sizes.{anyBelow, permittedSize}
 use Rattle.room.specs.Room.{rdfCount, push, groups, need}
@@ -53,15 +49,6 @@ unfolding bytes exchanged splice number digits orderOf common sum rdfCount push 
 some-damaged = (refl, refl, refl, refl)
 
 -- ---- the example keeps what the laws ask
-
-abbrev allOctets : List ℕ → Bool
-allOctets [] = true
-allOctets (x ∷ xs) = both (ltb x 256) (allOctets xs)
-
-all-octets : (xs : List ℕ) → allOctets xs ≡ true → Octets xs
-all-octets [] h i = omega arith
-all-octets (x ∷ xs) h zero = ltb-true x 256 (both-split (ltb x 256) (allOctets xs) h .0)
-all-octets (x ∷ xs) h (suc i) = all-octets xs (both-split (ltb x 256) (allOctets xs) h .1) i
 
 some-octets : allOctets bytes ≡ true
 unfolding bytes digits common sum rdfCount push groups need concat groupBytes groupsBytes layout form

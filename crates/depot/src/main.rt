@@ -5,6 +5,7 @@ mod print;
 mod serve;
 
 use requests::Answer;
+ghost use Rattle.lines_history.specs.Day.{Leads};
 
 // How the depot's areas are measured: intervals of 512 bytes, keys of 8 bytes at the front of records of at most 60.
 fn check(area: &[u8]) -> Answer {
@@ -33,7 +34,9 @@ fn close(area: &[u8]) {
 }
 
 // An area that is refused is told in one line, and then nothing else is read or written.
-fn open(area: &mut [u8]) {
+fn open(area: &mut [u8])
+    ensures { λ r. ⌜ Leads (now (area .entry)) (now (area .exit)) ⌝ }
+{
     match check(area) {
         Answer::Intact {
             records: _,

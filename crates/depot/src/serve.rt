@@ -1,6 +1,8 @@
 // The requests, 64 bytes each, read and served one after another.
 use crate::files;
 use crate::print;
+use lines::Line;
+ghost use Rattle.lines_history.specs.Day.{Leads};
 
 // What became of one turn: a request was served, the file was at its end, or it could not be read or its line not be
 // printed.
@@ -10,8 +12,17 @@ enum Turn {
     Failed,
 }
 
+// Which lines a file holds cannot be said here; that the area went from each to the next by lines served is all that is.
+fn served(area: &mut [u8], request: &[u8], out: &mut [u8]) -> Line
+    ensures { λ r. ⌜ Leads (now (area .entry)) (now (area .exit)) ⌝ }
+{
+    lines::step(area, request, out)
+}
+
 // Reads one request, serves it and prints its line. What is left of a file that ends inside a request goes to `step` too.
-fn one(fd: i32, area: &mut [u8], place: u64) -> Turn {
+fn one(fd: i32, area: &mut [u8], place: u64) -> Turn
+    ensures { λ r. ⌜ Leads (now (area .entry)) (now (area .exit)) ⌝ }
+{
     let mut request = [0u8; 64];
     let got = files::fill(fd, &mut request);
     let n = got.bytes;
@@ -23,7 +34,7 @@ fn one(fd: i32, area: &mut [u8], place: u64) -> Turn {
         return Turn::Ended;
     }
     let mut out = [0u8; 64];
-    let told = lines::step(area, &request[..n], &mut out);
+    let told = served(area, &request[..n], &mut out);
     if !print::line(place, told, &out) {
         os::fail(b"standard output");
         return Turn::Failed;
@@ -33,7 +44,9 @@ fn one(fd: i32, area: &mut [u8], place: u64) -> Turn {
 
 // Nothing says that a file ends, and a proved loop does. So places are counted up to a number that no file of requests
 // reaches.
-fn all(fd: i32, area: &mut [u8]) -> bool {
+fn all(fd: i32, area: &mut [u8]) -> bool
+    ensures { λ r. ⌜ Leads (now (area .entry)) (now (area .exit)) ⌝ }
+{
     let mut place = 1;
     while place < u64::MAX {
         match one(fd, area, place) {
@@ -48,7 +61,9 @@ fn all(fd: i32, area: &mut [u8]) -> bool {
 
 // Serves the requests of the file, none where there is no such file, and gives whether it was read to its end and every
 // line printed.
-pub(crate) fn file(area: &mut [u8]) -> bool {
+pub(crate) fn file(area: &mut [u8]) -> bool
+    ensures { λ r. ⌜ Leads (now (area .entry)) (now (area .exit)) ⌝ }
+{
     let fd = os::open_read(b"requests.rec");
     if fd < 0 {
         if os::errno() == libc::ENOENT {

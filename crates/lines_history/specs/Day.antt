@@ -1,6 +1,7 @@
 -- Request lines served one after another on one area, each with a result that its contract allows, and the requests of the register that they stand
 -- for: document 01, 'The depot program'.
 use Prim.Native.Nat.{ℕ}
+use mathlib.Core.Path.{_≡_}
 use mathlib.Core.List.{List, [], _∷_, _++_}
 use Rattle.fields.specs.Bytes.{Octets}
 use Rattle.requests.specs.Model.{Change}
@@ -29,6 +30,12 @@ Day area (t ∷ ts) = Octets (t .bytes) × Serves (servedOf area (t .bytes) (t .
 abbrev pub evening : List ℕ → List Turn → List ℕ
 evening area [] = area
 evening area (t ∷ ts) = evening (t .area) ts
+
+-- some lines lead from an area to another: what a program says that serves lines it does not know beforehand
+pub record Leads (before after : List ℕ) : Type 0 where
+  pub turns : List Turn
+  pub day : Day before turns
+  pub leaves : after ≡ evening before turns
 
 abbrev pub changing : Change → Answer → Turn → Step
 changing ch a t = record { request = asked.changes ch; answer = a; area = t .area; output = t .output }

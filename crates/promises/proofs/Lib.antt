@@ -14,4 +14,6 @@ pub mod ExactPlans
 pub mod Exact
 pub mod Wants
 pub mod Values
+pub mod Computed
+pub mod Instances
 pub mod Wrong

@@ -1,49 +1,51 @@
--- The promises are not empty: each register of the list breaks one of them on a small sound area.
-use Prim.Native.Nat.{ℕ, _≤_}
+-- The promises are not empty: each wrong register breaks one of them on an area written out, and so breaks its contracts.
+use Prim.Native.Nat.{ℕ, _+_, _≤_}
 use mathlib.Core.Path.{_≡_, refl, _∙_, sym, ap}
 use mathlib.Core.List.{List, [], _∷_, _++_, map, List·Memᴰ, List·Memᴰ·head, List·Memᴰ·tail, List·Memᴰ·not-nil, List·Memᴰ·cases-cons}
-use mathlib.Core.Logic.{inl, inr, ⊎-elim}
+use mathlib.Core.Logic.{inl, inr, ⊎-elim, _↔_}
 use lib.ListN.{length, replicate}
 use native.Mathlib.Omega.{arith}
-use Rattle.fields.specs.Bytes.{number, digits}
-use Rattle.fields.specs.Order.{orderOf, common}
-use Rattle.fields.specs.Lists.{sum, concat, every}
-use Rattle.measures.specs.Judgement.{countOf, widthFor}
+use Rattle.fields.specs.Bytes.{Octets}
+use Rattle.fields.specs.Order.{orderOf}
+use Rattle.fields.specs.Lists.{sum, every}
+use Rattle.measures.specs.Judgement.{countOf}
 use Rattle.measures.proofs.Fine.{accepted, fits-count}
-use Rattle.room.specs.Room.{rdfCount, push, groups, need}
-use Rattle.interval.specs.Records.{keyOf, ascendFrom, ascending}
-use Rattle.interval.specs.Layout.{groupBytes, groupsBytes, layout, form}
-use Rattle.interval.specs.Reading.{rdfs, rdfsIn, wellFormed, lengths, cut, recordsIn, formSound, sound}
-use Rattle.interval.specs.Role.{soundFree, soundUsed}
-use Rattle.index.specs.Bounds.{bound, separator}
-use Rattle.index.specs.Meaning.{count, once, namedOnce}
-use Rattle.index.specs.Rules.{rises, closed, keepsRules}
-use Rattle.index.specs.Pieces.{spell, frontsFit, piecesSize, lastChars}
-use Rattle.index.specs.Layout.{pieceBytes, piecesBytes, freeBytes, header, trailer, layout as indexLayout}
-use Rattle.index.specs.Form.{packed, entriesSize, entrySize, indexSize, indexBytes}
-use Rattle.index.specs.Reading.{numbersAt, piecesAt, piecesIn, readIndex, frame, places, soundIndex}
+use Rattle.room.specs.Room.{rdfCount, push, groups, need, fits}
+use Rattle.interval.specs.Records.{keyOf}
+use Rattle.interval.specs.Layout.{form}
+use Rattle.interval.specs.Reading.{recordsIn, sound}
+use Rattle.index.specs.Meaning.{count}
 use Rattle.division.specs.Fewest.{Fewest}
 use Rattle.division.proofs.Intervals.{fewest-one, fewest-unique}
 use Rattle.area.specs.Content.{Filled, Content, recordsOf}
-use Rattle.area.specs.Soundness.{unsoundFree, unsoundUsed, unsoundData, lowest}
 use Rattle.area.specs.Reading.{damaged, whole, readArea}
 use Rattle.area.specs.Example.{depot, first, second, held, bytes}
 use Rattle.area.proofs.Example.{some-sound, some-fits, some-lent}
 use Rattle.requests.specs.Answers.{numberOf, valuesOf}
-use Rattle.requests.specs.Model.{Change, insert, erase, add, remove, makeChange, makeAll}
+use Rattle.requests.specs.Model.{Change, insert, erase, add, remove, makeChange, makeAll, update, replace, total, gained, gainedAll, lost, lostAll}
 use Rattle.requests.specs.Reading.{Given}
 use Rattle.requests.specs.Finding.{Keyed, Finds}
-use Rattle.requests.specs.declared.Answer.the-variants.{Intact, Absent}
+use Rattle.requests.specs.declared.Answer.the-variants.{Intact, Absent, Done, NoInterval, NoRoom, Found}
 use Rattle.requests.proofs.Making.{count-add}
-use Rattle.requests.specs.Allowed.{Request, check, get, changes, Allowed}
+use Rattle.requests.specs.Allowed.{Request, check, get, getAt, changes, Allowed}
 use Rattle.promises.specs.Trace.{Step, Trace, acceptedIn, Sound, Stands}
 use Rattle.promises.specs.Changes.{CountsTrue}
-use Rattle.promises.specs.Tables.{First, Holding, Crowded, changed, tableFor}
-use Rattle.promises.specs.Wrong.{run, Breaks, refusesAll, callsDamaged, alwaysFull, inventsCounts, untouchedDone, sameRecord}
-use Rattle.promises.specs.Wrong.{constantBytes, third, together, inventsWritten, without, losesLast, keepsRevoked}
-use Rattle.promises.proofs.History.{history, get-finds}
+use Rattle.promises.specs.Tables.{First, Holding, Crowded, changed, tableFor, WantOfInterval, WantOfRoom}
+use Rattle.promises.proofs.History.{history, get-finds, total-bytes}
 use Rattle.promises.proofs.Changes.{check-true, counts-true}
+use Rattle.promises.proofs.Computed.{nine, answers, left}
 use Rattle.promises.proofs.Exact.{refusals-exact}
+use Rattle.interval.specs.Search.{holds}
+use Rattle.division.specs.Division.{counts}
+use Rattle.change.specs.Parts.{divided}
+use Rattle.requests.specs.Records.{withKey}
+use Rattle.promises.specs.Instances.{alone, ninth, roomy, ten, shorter, even, high, brimful, certificate, certificates}
+use Rattle.promises.proofs.Wants.{want-of-interval, want-of-room}
+use Rattle.interval.proofs.Form.{interval-reads-back}
+use Rattle.promises.specs.Wrong.{run, Breaks, handedBy, rightly, refusesAll, callsDamaged, alwaysFull, fullTooSoon, crampedAtHome}
+use Rattle.promises.specs.Wrong.{crampedAtBrim, inventsCounts, inventsWritten, sameRecord, third, together, untouchedDone, keepsRevoked, constantBytes}
+use Rattle.promises.specs.Wrong.{losesLast, ReadsBack}
+use Rattle.promises.proofs.Instances.{six-just-not, home-not-seven, seven-just-not, roomy-six, home-seven, brimful-seven, even-sound}
 
 -- ---- the area
 
@@ -113,16 +115,26 @@ always-full (inr (a, inr (b, inr (d, inr (e, inl x))))) =
 always-full (inr (a, inr (b, inr (d, inr (e, inr (f, inl x)))))) = omega (arith, x .1)
 always-full (inr (a, inr (b, inr (d, inr (e, inr (f, inr x)))))) = omega (arith, x .1)
 
--- the small area's content with these records in its interval
-abbrev holding : List (List ℕ) → Content
-holding rs = record { kept = replicate 12 0; spare = 0; free = 1 ∷ []; filled = record { sep = []; num = 0; records = rs } ∷ [] }
+-- Version three breaks `want-of-interval`: an interval must be divided, one is free, which is enough, and it says 6.
+full-answer : fullTooSoon roomy (changes (insert ninth)) .answer ≡ NoInterval
+full-answer = rw (answers .roomy) refl
 
-together-read : readArea depot 2 together ≡ whole (holding (first ∷ second ∷ third ∷ []))
-unfolding number digits orderOf common sum rdfCount push groups need concat ascendFrom ascending every groupBytes groupsBytes layout form rdfs rdfsIn wellFormed
-    lengths cut recordsIn formSound sound bound separator count once namedOnce rises closed keepsRules spell frontsFit piecesSize lastChars pieceBytes piecesBytes
-    freeBytes header trailer indexLayout packed entriesSize entrySize indexSize indexBytes numbersAt piecesAt piecesIn readIndex frame places soundIndex soundFree
-    soundUsed unsoundFree unsoundUsed unsoundData lowest readArea widthFor
-together-read = refl
+pub full-too-soon : ((numberOf (fullTooSoon roomy (changes (insert ninth)) .answer) ≡ 6) ↔ WantOfInterval 512 0 8 60 roomy (insert ninth)) → ⊥
+full-too-soon w = six-just-not (w .0 (ap numberOf full-answer))
+
+-- A register that looks for room in the index record where the change stays in its interval breaks `want-of-room`.
+home-answer : crampedAtHome bytes (changes (insert third)) .answer ≡ NoRoom
+home-answer = rw (answers .inserted) refl
+
+pub cramped-at-home : ((numberOf (crampedAtHome bytes (changes (insert third)) .answer) ≡ 7) ↔ WantOfRoom 512 0 8 60 bytes (insert third)) → ⊥
+cramped-at-home w = home-not-seven (w .0 (ap numberOf home-answer))
+
+-- And so does one that finds no room where the renewed record just fits.
+brim-answer : crampedAtBrim brimful (changes (insert (high 0x32))) .answer ≡ NoRoom
+brim-answer = rw (left .brimful, answers .brimful) refl
+
+pub cramped-at-brim : ((numberOf (crampedAtBrim brimful (changes (insert (high 0x32))) .answer) ≡ 7) ↔ WantOfRoom 512 0 240 240 brimful (insert (high 0x32))) → ⊥
+cramped-at-brim w = seven-just-not (w .0 (ap numberOf brim-answer))
 
 -- ---- counts
 
@@ -132,25 +144,41 @@ unfolding recordsOf
 invents-counts e = let z : _≡_ {A = ℕ} 7 2 = cc in omega arith
 
 -- A register that invents how many intervals it wrote breaks `counts-true`: as many are free as before, so it was one.
-pub invents-written : (new : ℕ) → CountsTrue held (holding (first ∷ second ∷ third ∷ [])) (inventsWritten bytes (changes (insert third)) .answer) new → ⊥
+pub invents-written : (new : ℕ)
+    → CountsTrue held (alone (1 ∷ []) (first ∷ second ∷ third ∷ [])) (inventsWritten bytes (changes (insert third)) .answer) new → ⊥
 invents-written new t =
-    let e : 7 ∷ [] ≡ t .written ∷ [] = ap valuesOf (t .told) in
-    let z : _≡_ {A = ℕ} 7 (t .written) = cc in
-    omega (arith, t .same refl)
+    let u : CountsTrue held (alone (1 ∷ []) (first ∷ second ∷ third ∷ [])) (Done (record { count = 7 })) new = rw (answers .inserted) at t in
+    let e : 7 ∷ [] ≡ u .written ∷ [] = ap valuesOf (u .told) in
+    let z : _≡_ {A = ℕ} 7 (u .written) = cc in
+    omega (arith, u .same refl)
+
+-- it did write what it says, but for the count
+written-done : numberOf (inventsWritten bytes (changes (insert third)) .answer) ≡ 0
+written-done = rw (answers .inserted) refl
+
+written-read : readArea depot 2 (inventsWritten bytes (changes (insert third)) .area) ≡ whole (alone (1 ∷ []) (first ∷ second ∷ third ∷ []))
+written-read = rw (answers .inserted) (left .together)
 
 -- ---- gets
 
 -- A register that hands out the same certificate each time breaks `get-finds`: the second one was asked for.
+same-answer : sameRecord bytes (get (keyOf depot second) (replicate 60 0)) .answer ≡ Found 10
+same-answer = rw (answers .got-second) refl
+
 pub same-record : Finds (Keyed depot (keyOf depot second) (makeAll depot (acceptedIn []) (recordsOf (held .filled)))) Absent (replicate 60 0)
     (record { answer = sameRecord bytes (get (keyOf depot second) (replicate 60 0)) .answer; output = sameRecord bytes (get (keyOf depot second) (replicate 60 0)) .output })
     → ⊥
 unfolding recordsOf makeAll
 same-record f =
     let g = ap (λ (x : Given). valuesOf (x .answer)) (f .found second (record { among = List·Memᴰ·tail (List·Memᴰ·head refl); has = refl }) (omega arith)) in
+    let h : valuesOf (Found 10) ≡ valuesOf (Found 14) = sym (ap valuesOf same-answer) ∙ g in
     let z : _≡_ {A = ℕ} 10 14 = cc in
     omega arith
 
 -- A register that still hands out what was revoked breaks `get-finds` at the step after.
+revoked-taken : acceptedIn (keepsRevoked bytes (changes (erase (keyOf depot first))) ∷ []) ≡ erase (keyOf depot first) ∷ []
+revoked-taken = rw (answers .erased) refl
+
 pub keeps-revoked : Finds
     (Keyed depot (keyOf depot first) (makeAll depot (acceptedIn (keepsRevoked bytes (changes (erase (keyOf depot first))) ∷ [])) (recordsOf (held .filled)))) Absent
     (replicate 60 0)
@@ -158,101 +186,172 @@ pub keeps-revoked : Finds
     → ⊥
 unfolding recordsOf makeAll makeChange remove
 keeps-revoked f =
-    let x = f .found-only 10 refl in
-    let k : Keyed depot (keyOf depot first) (second ∷ []) (x .0) = x .1 in
+    let x = f .found-only 10 (answers .got-first) in
+    let k : Keyed depot (keyOf depot first) (second ∷ []) (x .0) = rw revoked-taken at (x .1) in
     ⊎-elim (λ (e : x .0 ≡ second). let z : keyOf depot second ≡ keyOf depot first = rw e at (k .has) in let y : _≡_ {A = ℕ} 0x32 0x31 = cc in omega arith)
     (λ (i : List·Memᴰ (x .0) []). List·Memᴰ·not-nil i) (List·Memᴰ·cases-cons (k .among))
 
 -- ---- histories
 
 -- what an area holds of which something stands
-standing : (after : List ℕ) (c : Content) (chs : List Change) → readArea depot 2 after ≡ whole c
-    → Stands 512 0 8 60 depot 2 bytes after (recordsOf (held .filled)) chs → recordsOf (c .filled) ≡ makeAll depot chs (recordsOf (held .filled))
-standing after c chs w s =
+standing : (n : ℕ) (before after : List ℕ) (opening : List (List ℕ)) (c : Content) (chs : List Change) → readArea depot n after ≡ whole c
+    → Stands 512 0 8 60 depot n before after opening chs → recordsOf (c .filled) ≡ makeAll depot chs opening
+standing n before after opening c chs w s =
     let v : whole (s .content) ≡ whole c = sym (s .sound .reads) ∙ w in
     let e : s .content ≡ c = cc in
     rw e at (s .records)
+
+-- the changes that were accepted, one each
+insert-taken : acceptedIn (untouchedDone bytes (changes (insert third)) ∷ []) ≡ insert third ∷ []
+insert-taken = rw (answers .inserted) refl
+
+shorter-taken : acceptedIn (losesLast even (changes (update shorter)) ∷ []) ≡ update shorter ∷ []
+shorter-taken = rw (answers .even) refl
 
 -- A register that says it is done and has done nothing breaks `history`: the third certificate is not there.
 pub untouched-done : Stands 512 0 8 60 depot 2 bytes (untouchedDone bytes (changes (insert third)) .area) (recordsOf (held .filled))
     (acceptedIn (untouchedDone bytes (changes (insert third)) ∷ [])) → ⊥
 unfolding makeAll makeChange
 untouched-done s =
-    let e : recordsOf (held .filled) ≡ add depot third (recordsOf (held .filled)) = standing bytes held (insert third ∷ []) some-sound s in
+    let e : recordsOf (held .filled) ≡ add depot third (recordsOf (held .filled)) =
+    standing 2 bytes bytes (recordsOf (held .filled)) held (insert third ∷ []) some-sound (rw insert-taken at s) in
     omega (arith, ap length e, count-add depot third (recordsOf (held .filled)))
 
--- the area without the second certificate, read
-without-read : readArea depot 2 without ≡ whole (holding (first ∷ third ∷ []))
-unfolding number digits orderOf common sum rdfCount push groups need concat ascendFrom ascending every groupBytes groupsBytes layout form rdfs rdfsIn wellFormed
-    lengths cut recordsIn formSound sound bound separator count once namedOnce rises closed keepsRules spell frontsFit piecesSize lastChars pieceBytes piecesBytes
-    freeBytes header trailer indexLayout packed entriesSize entrySize indexSize indexBytes numbersAt piecesAt piecesIn readIndex frame places soundIndex soundFree
-    soundUsed unsoundFree unsoundUsed unsoundData lowest readArea widthFor
-without-read = refl
+-- A register that keeps what was revoked breaks it: the first certificate is still there.
+pub keeps-revoked-history : Stands 512 0 8 60 depot 2 bytes (keepsRevoked bytes (changes (erase (keyOf depot first))) .area) (recordsOf (held .filled))
+    (acceptedIn (keepsRevoked bytes (changes (erase (keyOf depot first))) ∷ [])) → ⊥
+unfolding recordsOf makeAll makeChange remove
+keeps-revoked-history s =
+    let e : first ∷ second ∷ [] ≡ second ∷ [] =
+    standing 2 bytes bytes (first ∷ second ∷ []) held (erase (keyOf depot first) ∷ []) some-sound (rw revoked-taken at s) in
+    let z : _≡_ {A = ℕ} 2 1 = ap length e in
+    omega arith
 
--- A register that loses the last certificate that it had breaks `history`.
-pub loses-last : Stands 512 0 8 60 depot 2 bytes (losesLast bytes (changes (insert third)) .area) (recordsOf (held .filled))
-    (acceptedIn (losesLast bytes (changes (insert third)) ∷ [])) → ⊥
-unfolding recordsOf makeAll makeChange
+-- And it breaks `total-bytes`: ten bytes too many.
+pub keeps-revoked-bytes : total (recordsOf (held .filled)) + lostAll depot (acceptedIn (keepsRevoked bytes (changes (erase (keyOf depot first))) ∷ [])) (recordsOf (held .filled))
+    ≡ total (recordsOf (held .filled)) + gainedAll (acceptedIn (keepsRevoked bytes (changes (erase (keyOf depot first))) ∷ []))
+    → ⊥
+unfolding recordsOf total sum lostAll lost gainedAll gained withKey
+keeps-revoked-bytes e =
+    let z : _≡_ {A = ℕ} 34 24 = rw revoked-taken at e in
+    omega arith
+
+-- Version two breaks `history`: nine certificates are left of ten.
+pub loses-last : Stands 512 0 8 60 depot (countOf 512 (length even)) even (losesLast even (changes (update shorter)) .area) (recordsOf (alone (1 ∷ []) ten .filled))
+    (acceptedIn (losesLast even (changes (update shorter)) ∷ [])) → ⊥
+unfolding recordsOf makeAll makeChange replace
 loses-last s =
-    let e : first ∷ third ∷ [] ≡ add depot third (first ∷ second ∷ []) = standing without (holding (first ∷ third ∷ [])) (insert third ∷ []) without-read s in
-    omega (arith, ap length e, count-add depot third (first ∷ second ∷ []))
+    let u = rw (answers .even) at s in
+    let e = standing (countOf 512 (length even)) even _ (recordsOf (alone (1 ∷ []) ten .filled)) (alone (1 ∷ []) nine) (update shorter ∷ []) (left .lost) u in
+    let z : _≡_ {A = ℕ} 9 10 = ap length e in
+    omega arith
 
-constant-read : readArea depot 2 (replicate 1536 0) ≡ damaged 0
-unfolding number digits orderOf common sum rdfCount push groups need concat ascendFrom ascending every groupBytes groupsBytes layout form rdfs rdfsIn wellFormed
-    lengths cut recordsIn formSound sound bound separator count once namedOnce rises closed keepsRules spell frontsFit piecesSize lastChars pieceBytes piecesBytes
-    freeBytes header trailer indexLayout packed entriesSize entrySize indexSize indexBytes numbersAt piecesAt piecesIn readIndex frame places soundIndex soundFree
-    soundUsed unsoundFree unsoundUsed unsoundData lowest readArea
-constant-read = refl
+-- And `total-bytes`: fifty bytes too few.
+pub loses-last-bytes : total (recordsOf (alone (1 ∷ []) nine .filled)) + lostAll depot (acceptedIn (losesLast even (changes (update shorter)) ∷ [])) (recordsOf (alone (1 ∷ []) ten .filled))
+    ≡ total (recordsOf (alone (1 ∷ []) ten .filled)) + gainedAll (acceptedIn (losesLast even (changes (update shorter)) ∷ []))
+    → ⊥
+unfolding recordsOf total sum lostAll lost gainedAll gained withKey
+loses-last-bytes e =
+    let z : _≡_ {A = ℕ} 499 549 = rw shorter-taken at e in
+    omega arith
 
--- A register that leaves the same bytes whatever is asked breaks `history`: the area is sound no longer.
-pub constant-bytes : Stands 512 0 8 60 depot 2 bytes (constantBytes bytes (changes (insert third)) .area) (recordsOf (held .filled))
-    (acceptedIn (constantBytes bytes (changes (insert third)) ∷ [])) → ⊥
-constant-bytes s =
-    let v : damaged 0 ≡ whole (s .content) = sym constant-read ∙ s .sound .reads in
-    let z : _≡_ {A = ℕ} 0 1 = cc in
+-- ---- constant bytes
+
+-- Whatever bytes a register always leaves, be they sound, it breaks `history`: they cannot be read both as the records with one come and with one gone.
+pub constant-bytes : (b : List ℕ)
+    → Stands 512 0 8 60 depot 2 bytes (constantBytes b bytes (changes (insert third)) .area) (recordsOf (held .filled)) (acceptedIn (constantBytes b bytes (changes (insert third)) ∷ []))
+    → Stands 512 0 8 60 depot 2 bytes (constantBytes b bytes (changes (erase (keyOf depot first))) .area) (recordsOf (held .filled))
+    (acceptedIn (constantBytes b bytes (changes (erase (keyOf depot first))) ∷ []))
+    → ⊥
+unfolding recordsOf makeAll makeChange remove
+constant-bytes b s t =
+    let s1 : Stands 512 0 8 60 depot 2 bytes b (first ∷ second ∷ []) (insert third ∷ []) = rw (answers .inserted) at s in
+    let t1 : Stands 512 0 8 60 depot 2 bytes b (first ∷ second ∷ []) (erase (keyOf depot first) ∷ []) = rw (answers .erased) at t in
+    let e = standing 2 bytes b (first ∷ second ∷ []) (t1 .content) (insert third ∷ []) (t1 .sound .reads) s1 in
+    let f : second ∷ [] ≡ add depot third (first ∷ second ∷ []) = sym (t1 .records) ∙ e in
+    omega (arith, ap length f, count-add depot third (first ∷ second ∷ []))
+
+-- The writer keeps `interval-reads-back`, which is what `ReadsBack` says.
+pub form-reads-back : ReadsBack (form 512)
+form-reads-back rs f h = interval-reads-back 512 rs h depot (omega arith) (omega arith) f
+
+-- A writer that gives the same bytes for all records breaks it.
+pub constant-writer : (writer : List (List ℕ) → List ℕ) (b : List ℕ) → ((rs : List (List ℕ)) → writer rs ≡ b) → ReadsBack writer → ⊥
+unfolding need sum rdfCount push groups every
+constant-writer writer b same back =
+    let e : recordsIn b ≡ first ∷ [] = rw (same (first ∷ [])) at (back (first ∷ []) refl (omega arith)) in
+    let f : recordsIn b ≡ [] = rw (same []) at (back [] refl (omega arith)) in
+    let z : _≡_ {A = ℕ} 1 0 = ap length (sym e ∙ f) in
     omega arith
 
 -- ---- so none of them keeps its contracts
 
--- Each of these registers breaks a contract when it is asked a request or two of the small area, for a promise that the contracts make would be broken.
-pub none-keeps : Breaks refusesAll (get (keyOf depot first) [] ∷ [])
-    × Breaks callsDamaged (check ∷ [])
-    × Breaks alwaysFull (changes (insert third) ∷ [])
-    × Breaks inventsCounts (check ∷ [])
-    × Breaks inventsWritten (changes (insert third) ∷ [])
-    × Breaks sameRecord (get (keyOf depot second) (replicate 60 0) ∷ [])
-    × Breaks keepsRevoked (changes (erase (keyOf depot first)) ∷ get (keyOf depot first) (replicate 60 0) ∷ [])
-    × Breaks untouchedDone (changes (insert third) ∷ [])
-    × Breaks losesLast (changes (insert third) ∷ [])
-    × Breaks constantBytes (changes (insert third) ∷ [])
-none-keeps = (
-  λ (t : Trace 512 0 8 60 bytes (run refusesAll bytes (get (keyOf depot first) [] ∷ []))).
-      refuses-all (exact (get (keyOf depot first) []) (refusesAll bytes (get (keyOf depot first) [])) (t .0)),
-  λ (t : Trace 512 0 8 60 bytes (run callsDamaged bytes (check ∷ []))). calls-damaged (exact check (callsDamaged bytes check) (t .0)),
-  λ (t : Trace 512 0 8 60 bytes (run alwaysFull bytes (changes (insert third) ∷ []))).
-      always-full (exact (changes (insert third)) (alwaysFull bytes (changes (insert third))) (t .0)),
-  λ (t : Trace 512 0 8 60 bytes (run inventsCounts bytes (check ∷ []))).
-      invents-counts (check-true 512 0 8 60 depot 2 bytes held example-sound (inventsCounts bytes check .answer) (t .0 .1)),
-  λ (t : Trace 512 0 8 60 bytes (run inventsWritten bytes (changes (insert third) ∷ []))).
-      invents-written _
-      (counts-true 512 0 8 60 depot 2 bytes held example-sound (insert third) (inventsWritten bytes (changes (insert third)) .answer) together (t .0) refl
-      (holding (first ∷ second ∷ third ∷ [])) together-read),
-  λ (t : Trace 512 0 8 60 bytes (run sameRecord bytes (get (keyOf depot second) (replicate 60 0) ∷ []))).
-      same-record
+-- what a register must come to where it keeps its contracts
+exact : (q : Request) (x : Step) → Allowed 512 0 8 60 bytes q (x .answer) (x .area) (x .output) → First (tableFor 512 0 8 60 bytes q) (numberOf (x .answer))
+exact q x k = refusals-exact 512 0 8 60 bytes (some-lent .octets) q (x .answer) (x .area) (x .output) k
+
+stands : (x : Step) → Trace 512 0 8 60 bytes (x ∷ []) → Stands 512 0 8 60 depot 2 bytes (x .area) (recordsOf (held .filled)) (acceptedIn (x ∷ []))
+stands x t = history 512 0 8 60 depot 2 (x ∷ []) bytes held example-sound t
+
+-- The register that does what the contracts say keeps them, whatever bytes it is handed.
+pub rightly-keeps : (key most : ℕ) (area : List ℕ) (q : Request) → Octets (handedBy q)
+    → Allowed 512 0 key most area q (rightly key most area q .answer) (rightly key most area q .area) (rightly key most area q .output)
+rightly-keeps key most area check o = (refl, refl)
+rightly-keeps key most area (get wanted out) o = (refl, record { answers = refl; outputs = refl })
+rightly-keeps key most area (getAt address out) o = (refl, record { answers = refl; outputs = refl })
+rightly-keeps key most area (changes (insert r)) o = (o, record { answers = refl; leaves = refl })
+rightly-keeps key most area (changes (update r)) o = (o, record { answers = refl; leaves = refl })
+rightly-keeps key most area (changes (erase wanted)) o = (o, record { answers = refl; leaves = refl })
+
+-- Refusals.
+pub refusals-broken : Breaks 8 60 bytes refusesAll (get (keyOf depot first) [] ∷ [])
+    × Breaks 8 60 bytes callsDamaged (check ∷ [])
+    × Breaks 8 60 bytes alwaysFull (changes (insert third) ∷ [])
+    × Breaks 8 60 roomy fullTooSoon (changes (insert ninth) ∷ [])
+    × Breaks 8 60 bytes crampedAtHome (changes (insert third) ∷ [])
+    × Breaks 240 240 brimful crampedAtBrim (changes (insert (high 0x32)) ∷ [])
+refusals-broken = (
+  λ t. refuses-all (exact (get (keyOf depot first) []) (refusesAll bytes (get (keyOf depot first) [])) (t .0)),
+  λ t. calls-damaged (exact check (callsDamaged bytes check) (t .0)),
+  λ t. always-full (exact (changes (insert third)) (alwaysFull bytes (changes (insert third))) (t .0)),
+  λ t. full-too-soon (roomy-six (fullTooSoon roomy (changes (insert ninth)) .answer) (fullTooSoon roomy (changes (insert ninth)) .area) (t .0)),
+  λ t. cramped-at-home (home-seven (crampedAtHome bytes (changes (insert third)) .answer) (crampedAtHome bytes (changes (insert third)) .area) (t .0)),
+  λ t. cramped-at-brim
+      (brimful-seven (crampedAtBrim brimful (changes (insert (high 0x32))) .answer) (crampedAtBrim brimful (changes (insert (high 0x32))) .area) (t .0)),
+)
+
+-- Counts and gets.
+pub tellings-broken : Breaks 8 60 bytes inventsCounts (check ∷ [])
+    × Breaks 8 60 bytes inventsWritten (changes (insert third) ∷ [])
+    × Breaks 8 60 bytes sameRecord (get (keyOf depot second) (replicate 60 0) ∷ [])
+    × Breaks 8 60 bytes keepsRevoked (changes (erase (keyOf depot first)) ∷ get (keyOf depot first) (replicate 60 0) ∷ [])
+tellings-broken = (
+  λ t. invents-counts (check-true 512 0 8 60 depot 2 bytes held example-sound (inventsCounts bytes check .answer) (t .0 .1)),
+  λ t. invents-written _
+      (counts-true 512 0 8 60 depot 2 bytes held example-sound (insert third) (inventsWritten bytes (changes (insert third)) .answer)
+      (inventsWritten bytes (changes (insert third)) .area) (t .0) written-done (alone (1 ∷ []) (first ∷ second ∷ third ∷ [])) written-read),
+  λ t. same-record
       (get-finds 512 0 8 60 depot 2 bytes held example-sound [] [] (sameRecord bytes (get (keyOf depot second) (replicate 60 0)) .answer) bytes
       (sameRecord bytes (get (keyOf depot second) (replicate 60 0)) .output) (replicate 60 0) (keyOf depot second) refl t),
-  λ (t : Trace 512 0 8 60 bytes (run keepsRevoked bytes (changes (erase (keyOf depot first)) ∷ get (keyOf depot first) (replicate 60 0) ∷ []))).
-      keeps-revoked
+  λ t. keeps-revoked
       (get-finds 512 0 8 60 depot 2 bytes held example-sound (keepsRevoked bytes (changes (erase (keyOf depot first))) ∷ []) []
       (keepsRevoked bytes (get (keyOf depot first) (replicate 60 0)) .answer) bytes
       (keepsRevoked bytes (get (keyOf depot first) (replicate 60 0)) .output) (replicate 60 0) (keyOf depot first) refl t),
-  λ (t : Trace 512 0 8 60 bytes (run untouchedDone bytes (changes (insert third) ∷ []))).
-      untouched-done (history 512 0 8 60 depot 2 (untouchedDone bytes (changes (insert third)) ∷ []) bytes held example-sound t),
-  λ (t : Trace 512 0 8 60 bytes (run losesLast bytes (changes (insert third) ∷ []))).
-      loses-last (history 512 0 8 60 depot 2 (losesLast bytes (changes (insert third)) ∷ []) bytes held example-sound t),
-  λ (t : Trace 512 0 8 60 bytes (run constantBytes bytes (changes (insert third) ∷ []))).
-      constant-bytes (history 512 0 8 60 depot 2 (constantBytes bytes (changes (insert third)) ∷ []) bytes held example-sound t),
 )
-  where
-    exact : (q : Request) (x : Step) → Allowed 512 0 8 60 bytes q (x .answer) (x .area) (x .output) → First (tableFor 512 0 8 60 bytes q) (numberOf (x .answer))
-    exact q x k = refusals-exact 512 0 8 60 bytes (some-lent .octets) q (x .answer) (x .area) (x .output) k
+
+-- Changes.
+pub changes-broken : Breaks 8 60 bytes untouchedDone (changes (insert third) ∷ [])
+    × Breaks 8 60 bytes keepsRevoked (changes (erase (keyOf depot first)) ∷ [])
+    × Breaks 8 60 even losesLast (changes (update shorter) ∷ [])
+changes-broken = (
+  λ t. untouched-done (stands (untouchedDone bytes (changes (insert third))) t),
+  λ t. keeps-revoked-history (stands (keepsRevoked bytes (changes (erase (keyOf depot first)))) t),
+  λ t. loses-last
+      (history 512 0 8 60 depot (countOf 512 (length even)) (losesLast even (changes (update shorter)) ∷ []) even (alone (1 ∷ []) ten) even-sound t),
+)
+
+-- Whatever bytes are always left, one of two changes breaks the contracts.
+pub constant-broken : (b : List ℕ) → Trace 512 0 8 60 bytes (run (constantBytes b) bytes (changes (insert third) ∷ []))
+    → Breaks 8 60 bytes (constantBytes b) (changes (erase (keyOf depot first)) ∷ [])
+constant-broken b s t =
+    constant-bytes b (stands (constantBytes b bytes (changes (insert third))) s) (stands (constantBytes b bytes (changes (erase (keyOf depot first)))) t)

@@ -7,4 +7,5 @@ pub mod Prescribed
 pub mod Changes
 pub mod Tables
 pub mod Values
+pub mod Instances
 pub mod Wrong

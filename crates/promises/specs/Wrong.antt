@@ -1,17 +1,37 @@
--- Registers that must not pass, each as a function from an area and a request to a step: document 01, 'How far each statement must reach'. Each breaks
--- one of the promises on a small sound area.
-use Prim.Native.Nat.{ℕ}
-use mathlib.Core.List.{List, [], _∷_, _++_}
-use lib.ListN.{length, drop, replicate}
-use Rattle.measures.specs.Judgement.{widthFor}
+-- Registers that must not pass, each as a function from an area and a request to a step: document 01, 'How far each statement must reach'. Each looks at
+-- what it is asked and does what the contracts say, but for its one fault.
+use Prim.Native.Nat.{ℕ, _+_, _-_, _*_, _≤_}
+use mathlib.Core.Path.{_≡_}
+use mathlib.Core.Bool.{Bool, true, false}
+use mathlib.Core.List.{List, [], _∷_, _++_, map}
+use lib.ListN.{length, take, drop}
+use lib.Dec.{eqb, ltb}
+use Rattle.fields.specs.Choice.{pick}
+use Rattle.fields.specs.Bytes.{splice}
+use Rattle.measures.specs.Judgement.{countOf, measures}
+use Rattle.room.specs.Room.{need}
+use Rattle.interval.specs.Records.{lengthsFine}
 use Rattle.interval.specs.Layout.{form}
-use Rattle.index.specs.Form.{indexBytes}
-use Rattle.area.specs.Content.{meaningOf}
-use Rattle.area.specs.Example.{first, second, held, bytes}
+use Rattle.interval.specs.Reading.{recordsIn}
+use Rattle.index.specs.Form.{indexSize}
+use Rattle.index.specs.Search.{leadsTo}
+use Rattle.area.specs.Content.{Filled, entriesOf, meaningOf, widthIn}
+use Rattle.area.specs.Reading.{Reading, damaged, whole, readArea}
+use Rattle.area.specs.Example.{first, second}
+use Rattle.change.specs.Parts.{entryAt}
+use Rattle.requests.specs.Model.{Change, insert, update, erase, makeChange}
+use Rattle.requests.specs.Answers.{numberOf}
+use Rattle.requests.specs.Opening.{Opening, shut, holding, openingOf}
+use Rattle.requests.specs.Reading.{Given, checkOf, getOf, getAtOf}
+use Rattle.requests.specs.Changing.{Outcome, kept, bytesOf, keyIn, changeOf}
 use Rattle.requests.specs.declared.Answer.{Answer}
-use Rattle.requests.specs.declared.Answer.the-variants.{Done, Found, Intact, Damaged, Absent, NoInterval}
+use Rattle.requests.specs.declared.Answer.the-variants.{Done, Found, Intact, Damaged, Short, Outside, WrongLength, Present, Absent, NoInterval, NoRoom}
+use Rattle.requests.specs.declared.Answer.the-variants.{NoRecord}
 use Rattle.requests.specs.Allowed.{Request, check, get, getAt, changes}
 use Rattle.promises.specs.Trace.{Step, Trace}
+use Rattle.promises.specs.Instances.{alone, laid}
+
+-- ---- registers
 
 -- A register, as a depot meets it: what comes back for an area and a request.
 abbrev pub Register : Type 0
@@ -22,9 +42,60 @@ abbrev pub run : Register → List ℕ → List Request → List Step
 run reg area [] = []
 run reg area (q ∷ qs) = reg area q ∷ run reg (reg area q .area) qs
 
--- asked these one after another of the small sound area, it does not keep its contracts at every step
-abbrev pub Breaks : Register → List Request → Type 0
-Breaks reg qs = Trace 512 0 8 60 bytes (run reg bytes qs) → ⊥
+-- asked these one after another of an area, it does not keep its contracts at every step; keys are at the front of the records
+abbrev pub Breaks : ℕ → ℕ → List ℕ → Register → List Request → Type 0
+Breaks key most area reg qs = Trace 512 0 key most area (run reg area qs) → ⊥
+
+-- a change that came to something; it is lent no output
+abbrev pub changedTo : Change → Outcome → Step
+changedTo ch o = record { request = changes ch; answer = o .answer; area = o .area; output = [] }
+
+-- the register that does what the contracts say
+abbrev pub rightly : ℕ → ℕ → Register
+rightly key most area check = record { request = check; answer = checkOf 512 0 key most area; area = area; output = [] }
+rightly key most area (get wanted out) =
+    record { request = get wanted out; answer = getOf 512 0 key most area wanted out .answer; area = area; output = getOf 512 0 key most area wanted out .output }
+rightly key most area (getAt address out) =
+    record { request = getAt address out; answer = getAtOf 512 0 key most area address out .answer; area = area; output = getAtOf 512 0 key most area address out .output }
+rightly key most area (changes ch) = changedTo ch (changeOf 512 0 key most area ch)
+
+-- a fault in changing: what becomes of the right outcome
+abbrev pub Fault : Type 0
+Fault = List ℕ → Change → Outcome → Outcome
+
+-- the register that has it, and reads rightly
+abbrev pub changingBy : Fault → ℕ → ℕ → Register
+changingBy f key most area check = rightly key most area check
+changingBy f key most area (get wanted out) = rightly key most area (get wanted out)
+changingBy f key most area (getAt address out) = rightly key most area (getAt address out)
+changingBy f key most area (changes ch) = changedTo ch (f area ch (changeOf 512 0 key most area ch))
+
+-- how many intervals an answer says were written: none where it is a refusal, one where the change stays in its interval, more where it divides
+abbrev pub writtenBy : Answer → ℕ
+writtenBy (Done w) = w .count
+writtenBy (Found l) = 0
+writtenBy (Intact records free) = 0
+writtenBy Outside = 0
+writtenBy (Damaged place) = 0
+writtenBy WrongLength = 0
+writtenBy Present = 0
+writtenBy Absent = 0
+writtenBy NoInterval = 0
+writtenBy NoRoom = 0
+writtenBy (Short needed) = 0
+writtenBy NoRecord = 0
+
+-- the fault shows where a change is made, where it stays in its interval, where it divides; elsewhere the outcome is right
+abbrev ifMade : Outcome → Outcome → Outcome
+ifMade o wrong = pick (ltb 0 (writtenBy (o .answer))) wrong o
+
+abbrev ifStays : Outcome → Outcome → Outcome
+ifStays o wrong = pick (eqb (writtenBy (o .answer)) 1) wrong o
+
+abbrev ifDivides : Outcome → Outcome → Outcome
+ifDivides o wrong = pick (ltb 1 (writtenBy (o .answer))) wrong o
+
+-- ---- refusals
 
 -- the output that a request lends
 abbrev pub lentBy : Request → List ℕ
@@ -32,6 +103,13 @@ lentBy check = []
 lentBy (get wanted out) = out
 lentBy (getAt address out) = out
 lentBy (changes ch) = []
+
+-- the bytes that a change hands over
+abbrev pub handedBy : Request → List ℕ
+handedBy check = []
+handedBy (get wanted out) = []
+handedBy (getAt address out) = []
+handedBy (changes ch) = bytesOf ch
 
 -- one answer to everything, and no byte touched
 abbrev pub saying : Answer → Register
@@ -47,47 +125,101 @@ callsDamaged = saying (Damaged 0)
 
 -- says that the register is full, whatever is free
 abbrev pub alwaysFull : Register
-alwaysFull = saying NoInterval
+alwaysFull = changingBy (λ (area : List ℕ) (ch : Change) (o : Outcome). kept NoInterval area) 8 60
+
+-- version three: an interval must be divided, enough are free, and it says that none is
+abbrev pub fullTooSoon : Register
+fullTooSoon = changingBy (λ (area : List ℕ) (ch : Change) (o : Outcome). ifDivides o (kept NoInterval area)) 8 60
+
+-- looks for room in the index record where nothing of it is renewed
+abbrev pub crampedAtHome : Register
+crampedAtHome = changingBy (λ (area : List ℕ) (ch : Change) (o : Outcome). ifStays o (kept NoRoom area)) 8 60
+
+-- whether an area's index record fills its interval to the last byte before the control fields; keys of 240 bytes, which are the whole record
+abbrev filled : Reading → Bool
+filled (damaged place) = false
+filled (whole c) = eqb (indexSize (widthIn c) (meaningOf c)) (512 - 7)
+
+abbrev pub fillsIndex : List ℕ → Bool
+fillsIndex area = filled (readArea (measures 512 0 240 240) (countOf 512 (length area)) area)
+
+-- finds no room where the renewed index record just fits
+abbrev pub crampedAtBrim : Register
+crampedAtBrim =
+    changingBy (λ (area : List ℕ) (ch : Change) (o : Outcome). pick (fillsIndex (o .area)) (ifDivides o (kept NoRoom area)) o) 240 240
+
+-- ---- counts and gets
 
 -- invents how many records and free intervals there are
 abbrev pub inventsCounts : Register
-inventsCounts = saying (Intact 7 7)
+inventsCounts area check = record { request = check; answer = Intact 7 7; area = area; output = [] }
+inventsCounts area (get wanted out) = rightly 8 60 area (get wanted out)
+inventsCounts area (getAt address out) = rightly 8 60 area (getAt address out)
+inventsCounts area (changes ch) = rightly 8 60 area (changes ch)
 
--- says that it is done, and has done nothing: what was granted is not there, what was revoked still is
-abbrev pub untouchedDone : Register
-untouchedDone = saying (Done (record { count = 1 }))
+-- invents how many intervals a change wrote
+abbrev pub inventsWritten : Register
+inventsWritten = changingBy (λ (area : List ℕ) (ch : Change) (o : Outcome). ifMade o (record { answer = Done (record { count = 7 }); area = o .area })) 8 60
 
--- hands out the same certificate to whoever asks
+-- hands out the same certificate to whoever asks for one that is there
 abbrev pub sameRecord : Register
-sameRecord area q = record { request = q; answer = Found (length first); area = area; output = first ++ drop (length first) (lentBy q) }
+sameRecord area check = rightly 8 60 area check
+sameRecord area (get wanted out) =
+    let right : Given = getOf 512 0 8 60 area wanted out in
+    let there : Bool = eqb (numberOf (right .answer)) 0 in
+    record {
+      request = get wanted out;
+      answer = pick there (Found (length first)) (right .answer);
+      area = area;
+      output = pick there (first ++ drop (length first) out) (right .output);
+    }
+sameRecord area (getAt address out) = rightly 8 60 area (getAt address out)
+sameRecord area (changes ch) = rightly 8 60 area (changes ch)
 
--- says that it is done, and leaves the same bytes whatever was asked
-abbrev pub constantBytes : Register
-constantBytes area q = record { request = q; answer = Done (record { count = 1 }); area = replicate 1536 0; output = lentBy q }
+-- ---- changes
 
 -- A0000003OU
 abbrev pub third : List ℕ
 third = 0x41 ∷ 0x30 ∷ 0x30 ∷ 0x30 ∷ 0x30 ∷ 0x30 ∷ 0x30 ∷ 0x33 ∷ 0x4F ∷ 0x55 ∷ []
 
--- the sound area with the first certificate and the new one in its interval, and without the second
-abbrev pub without : List ℕ
-without = indexBytes (widthFor 2) 512 (meaningOf held) ++ (form 512 (first ∷ third ∷ []) ++ form 512 [])
-
--- with all three in it
+-- the small area with the third certificate in its interval
 abbrev pub together : List ℕ
-together = indexBytes (widthFor 2) 512 (meaningOf held) ++ (form 512 (first ∷ second ∷ third ∷ []) ++ form 512 [])
+together = laid (alone (1 ∷ []) (first ∷ second ∷ third ∷ [])) ((first ∷ second ∷ third ∷ []) ∷ [] ∷ [])
 
--- takes in the new certificate as it should, and invents how many intervals it wrote
-abbrev pub inventsWritten : Register
-inventsWritten area q = record { request = q; answer = Done (record { count = 7 }); area = together; output = lentBy q }
+-- says that it is done, and has done nothing
+abbrev pub untouchedDone : Register
+untouchedDone = changingBy (λ (area : List ℕ) (ch : Change) (o : Outcome). kept (o .answer) area) 8 60
 
--- takes in the new certificate and loses the last one that it had
-abbrev pub losesLast : Register
-losesLast area q = record { request = q; answer = Done (record { count = 1 }); area = without; output = lentBy q }
-
--- says that a certificate is revoked, and still hands it out
+-- takes certificates in as it should, but a revoked one it keeps, and says that it is done
 abbrev pub keepsRevoked : Register
-keepsRevoked area (changes ch) = untouchedDone area (changes ch)
-keepsRevoked area (get wanted out) = sameRecord area (get wanted out)
-keepsRevoked area (getAt address out) = sameRecord area (getAt address out)
-keepsRevoked area check = saying (Intact 2 1) area check
+keepsRevoked = changingBy keeping 8 60
+  where
+    keeping : Fault
+    keeping area (insert r) o = o
+    keeping area (update r) o = o
+    keeping area (erase wanted) o = kept (o .answer) area
+
+-- says that it is done, and leaves the same bytes whatever was asked, be they damaged or sound
+abbrev pub constantBytes : List ℕ → Register
+constantBytes b = changingBy (λ (area : List ℕ) (ch : Change) (o : Outcome). ifMade o (record { answer = o .answer; area = b })) 8 60
+
+-- the key's interval with its changed records written over it, but the last
+abbrev pub lastLost : Opening → Change → List ℕ → List ℕ
+lastLost (shut a) ch area = area
+lastLost (holding m c) ch area =
+    let old : Filled = entryAt (c .filled) (leadsTo (keyIn m ch) (entriesOf (c .filled))) in
+    let rs : List (List ℕ) = makeChange m ch (old .records) in
+    splice area ((old .num + 1) * m .size) (form (m .size) (take (length rs - 1) rs))
+
+-- version two: where a changed record leaves its interval's records too long for it, the last of them is lost
+abbrev pub losesLast : Register
+losesLast =
+    changingBy
+    (λ (area : List ℕ) (ch : Change) (o : Outcome). ifDivides o (record { answer = Done (record { count = 1 }); area = lastLost (openingOf 512 0 8 60 area) ch area }))
+    8 60
+
+-- ---- writers
+
+-- a writer of intervals whose bytes are read as the records that it was given, wherever these fit
+abbrev pub ReadsBack : (List (List ℕ) → List ℕ) → Type 0
+ReadsBack writer = (rs : List (List ℕ)) → lengthsFine (measures 512 0 8 60) rs ≡ true → need (map length rs) ≤ 512 → recordsIn (writer rs) ≡ rs

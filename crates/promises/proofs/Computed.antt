@@ -1,0 +1,134 @@
+-- What areas written out are read as, what each change of them is answered, and what it leaves: computed from the definitions, and nothing more.
+use Prim.Native.Nat.{ℕ, _+_}
+use mathlib.Core.Path.{_≡_, refl}
+use mathlib.Core.Bool.{true}
+use mathlib.Core.List.{List, [], _∷_, _++_}
+use lib.ListN.{length, replicate}
+use Rattle.fields.specs.Bytes.{splice, number, digits}
+use Rattle.fields.specs.Lists.{sum, concat, swap, every}
+use Rattle.fields.specs.Order.{orderOf, common}
+use Rattle.measures.specs.Sizes.{anyBelow, permittedSize}
+use Rattle.room.specs.Room.{described, rdfCount, push, groups, need, fits}
+use Rattle.interval.specs.Layout.{groupBytes, groupsBytes, layout, form}
+use Rattle.interval.specs.Reading.{rdfs, rdfsIn, wellFormed, lengths, cut, recordsIn, formSound, sound}
+use Rattle.interval.specs.Records.{ascendFrom, ascending, keyOf}
+use Rattle.interval.specs.Role.{soundFree, soundUsed}
+use Rattle.interval.specs.Search.{lower, holds, placeOf, startingAt}
+use Rattle.index.specs.Bounds.{bound, separator, cutSeparator}
+use Rattle.index.specs.Cuts.{separators}
+use Rattle.index.specs.Divided.{partsOf, dividedAt}
+use Rattle.index.specs.Form.{packed, entryBytes, entriesBytes, entrySize, entriesSize, indexSize, indexBytes}
+use Rattle.index.specs.Layout.{pieceBytes, piecesBytes, freeBytes, header, trailer, layout as indexLayout}
+use Rattle.index.specs.Meaning.{count, once, namedOnce, separatorBefore}
+use Rattle.index.specs.Pieces.{spell, frontsFit, piecesSize, lastChars}
+use Rattle.index.specs.Reading.{numbersAt, piecesAt, piecesIn, readIndex, frame, places, soundIndex}
+use Rattle.index.specs.Rules.{rises, closed, keepsRules, boundBefore}
+use Rattle.index.specs.Search.{leadsTo}
+use Rattle.division.specs.Division.{difference, fitting, better, bestTo, bestCut, byCut, divisionOf, counts, parts, pieces}
+use Rattle.area.specs.Example.{bytes, depot, held, first, second}
+use Rattle.area.specs.Soundness.{unsoundFree, unsoundUsed, unsoundData, lowest}
+use Rattle.change.specs.Content.{filledWith, partedAt}
+use Rattle.change.specs.Parts.{divided, taken}
+use Rattle.change.specs.Plan.{takenStores, planOf}
+use Rattle.change.specs.Stores.{stored}
+use Rattle.requests.specs.Records.{withKey}
+use Rattle.fields.proofs.Octets.{allOctets}
+use Rattle.measures.specs.Judgement.{measures, countOf, widthFor, fine, judgedOf}
+use Rattle.measures.specs.declared.Judged.the-variants.{Fine}
+use Rattle.area.specs.Content.{Content, recordsOf}
+use Rattle.area.specs.Reading.{whole, readArea}
+use Rattle.requests.specs.Model.{Change, insert, update, erase, makeChange, replace, lost}
+use Rattle.requests.specs.Changing.{bytesOf, changeOf}
+use Rattle.requests.specs.Allowed.{changes}
+use Rattle.requests.specs.declared.Answer.the-variants.{Done, NoInterval, NoRoom, Found}
+use Rattle.promises.specs.Home.{LengthFine}
+use Rattle.promises.specs.Instances.{alone, between, eight, ninth, ten, shorter, high, certificates}
+use Rattle.promises.specs.Wrong.{third, together, rightly, lastLost, fillsIndex}
+use Rattle.requests.specs.Reading.{getOf}
+use Rattle.requests.specs.Opening.{openingOf}
+use Rattle.promises.specs.Instances as at
+
+-- an area that is read as a content, and a change of a lawful length
+pub record Shown (key most : ℕ) (area : List ℕ) (c : Content) (ch : Change) : Type 0 where
+  pub octets : allOctets area ≡ true
+  pub judges : judgedOf 512 0 key most (length area) ≡ Fine (measures 512 0 key most) (countOf 512 (length area))
+  pub reads : readArea (measures 512 0 key most) (countOf 512 (length area)) area ≡ whole c
+  pub handed : allOctets (bytesOf ch) ≡ true
+  pub long : LengthFine (measures 512 0 key most) ch
+
+-- each area, with the change that is asked of it
+pub record Areas : Type 0 where
+  pub crowded : Shown 8 60 at.crowded (alone [] eight) (insert ninth)
+  pub roomy : Shown 8 60 at.roomy (alone (1 ∷ []) eight) (insert ninth)
+  pub even : Shown 8 60 at.even (alone (1 ∷ []) ten) (update shorter)
+  pub small : Shown 8 60 bytes held (insert third)
+  pub brimful : Shown 240 240 at.brimful (between 236) (insert (high 0x32))
+  pub overfull : Shown 240 240 at.overfull (between 237) (insert (high 0x32))
+
+pub areas : Areas
+unfolding bytes splice number digits sum concat swap every orderOf common widthFor fine judgedOf anyBelow permittedSize described rdfCount push groups need
+    fits groupBytes groupsBytes layout form rdfs rdfsIn wellFormed lengths cut recordsIn formSound sound ascendFrom ascending soundFree soundUsed lower holds
+    placeOf startingAt bound separator cutSeparator separators partsOf dividedAt packed entryBytes entriesBytes entrySize entriesSize indexSize indexBytes
+    pieceBytes piecesBytes freeBytes header trailer indexLayout count once namedOnce separatorBefore spell frontsFit piecesSize lastChars numbersAt piecesAt
+    piecesIn readIndex frame places soundIndex rises closed keepsRules boundBefore leadsTo difference fitting better bestTo bestCut byCut divisionOf counts
+    parts pieces recordsOf readArea unsoundFree unsoundUsed unsoundData lowest filledWith partedAt divided taken takenStores planOf stored changeOf withKey
+areas = record {
+  crowded = record { octets = refl; judges = refl; reads = refl; handed = refl; long = refl };
+  roomy = record { octets = refl; judges = refl; reads = refl; handed = refl; long = refl };
+  even = record { octets = refl; judges = refl; reads = refl; handed = refl; long = refl };
+  small = record { octets = refl; judges = refl; reads = refl; handed = refl; long = refl };
+  brimful = record { octets = refl; judges = refl; reads = refl; handed = refl; long = refl };
+  overfull = record { octets = refl; judges = refl; reads = refl; handed = refl; long = refl };
+}
+
+-- what each change is answered
+pub record Answers : Type 0 where
+  pub crowded : changeOf 512 0 8 60 at.crowded (insert ninth) .answer ≡ NoInterval
+  pub roomy : changeOf 512 0 8 60 at.roomy (insert ninth) .answer ≡ Done (record { count = 3 })
+  pub even : changeOf 512 0 8 60 at.even (update shorter) .answer ≡ Done (record { count = 3 })
+  pub inserted : changeOf 512 0 8 60 bytes (insert third) ≡ record { answer = Done (record { count = 1 }); area = together }
+  pub erased : changeOf 512 0 8 60 bytes (erase (keyOf depot first)) .answer ≡ Done (record { count = 1 })
+  pub brimful : changeOf 512 0 240 240 at.brimful (insert (high 0x32)) .answer ≡ Done (record { count = 3 })
+  pub overfull : changeOf 512 0 240 240 at.overfull (insert (high 0x32)) .answer ≡ NoRoom
+  pub got-first : getOf 512 0 8 60 bytes (keyOf depot first) (replicate 60 0) .answer ≡ Found 10
+  pub got-second : getOf 512 0 8 60 bytes (keyOf depot second) (replicate 60 0) .answer ≡ Found 14
+
+pub answers : Answers
+unfolding bytes splice number digits sum concat swap every orderOf common widthFor fine judgedOf anyBelow permittedSize described rdfCount push groups need
+    fits groupBytes groupsBytes layout form rdfs rdfsIn wellFormed lengths cut recordsIn formSound sound ascendFrom ascending soundFree soundUsed lower holds
+    placeOf startingAt bound separator cutSeparator separators partsOf dividedAt packed entryBytes entriesBytes entrySize entriesSize indexSize indexBytes
+    pieceBytes piecesBytes freeBytes header trailer indexLayout count once namedOnce separatorBefore spell frontsFit piecesSize lastChars numbersAt piecesAt
+    piecesIn readIndex frame places soundIndex rises closed keepsRules boundBefore leadsTo difference fitting better bestTo bestCut byCut divisionOf counts
+    parts pieces recordsOf readArea unsoundFree unsoundUsed unsoundData lowest filledWith partedAt divided taken takenStores planOf stored changeOf withKey
+    getOf
+answers = record {
+  crowded = refl;
+  roomy = refl;
+  even = refl;
+  inserted = refl;
+  erased = refl;
+  brimful = refl;
+  overfull = refl;
+  got-first = refl;
+  got-second = refl;
+}
+
+-- the ten certificates, the third shortened, and the last of them lost
+abbrev pub nine : List (List ℕ)
+nine = certificates 2 0x31 50 ++ (shorter ∷ certificates 6 0x34 50)
+
+-- what areas hold that a register leaves, right or wrong, and that the renewed index record fills its interval
+pub record Left : Type 0 where
+  pub together : readArea depot 2 together ≡ whole (alone (1 ∷ []) (first ∷ second ∷ third ∷ []))
+  pub lost : readArea depot (countOf 512 (length at.even)) (lastLost (openingOf 512 0 8 60 at.even) (update shorter) at.even) ≡ whole (alone (1 ∷ []) nine)
+  pub brimful : fillsIndex (rightly 240 240 at.brimful (changes (insert (high 0x32))) .area) ≡ true
+
+pub left : Left
+unfolding bytes splice number digits sum concat swap every orderOf common widthFor fine judgedOf anyBelow permittedSize described rdfCount push groups need
+    fits groupBytes groupsBytes layout form rdfs rdfsIn wellFormed lengths cut recordsIn formSound sound ascendFrom ascending soundFree soundUsed lower holds
+    placeOf startingAt bound separator cutSeparator separators partsOf dividedAt packed entryBytes entriesBytes entrySize entriesSize indexSize indexBytes
+    pieceBytes piecesBytes freeBytes header trailer indexLayout count once namedOnce separatorBefore spell frontsFit piecesSize lastChars numbersAt piecesAt
+    piecesIn readIndex frame places soundIndex rises closed keepsRules boundBefore leadsTo difference fitting better bestTo bestCut byCut divisionOf counts
+    parts pieces recordsOf readArea unsoundFree unsoundUsed unsoundData lowest filledWith partedAt divided taken takenStores planOf stored changeOf withKey
+    makeChange replace
+left = record { together = refl; lost = refl; brimful = refl }
