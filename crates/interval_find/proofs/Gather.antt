@@ -51,5 +51,6 @@ module _ (m : Measures) (ci lens₀ : List ℕ) (r : Readable m ci) where
           record {
             passed = passed-more m ci r p left (g .passed) some l n u e s;
             count = more-count m ci r p left (g .passed) some l n u e s ∙ rw (g .count);
-            stored = t ∙ rw (d, g .stored, more-done m ci r p left (g .passed) some l n u e s) (splice-after lens₀ 0 i (g .passed .done) (replicate n l) (omega (arith, g .count)) (omega (arith, gather-room, gathered-length)));
+            stored = t ∙ rw (d, g .stored, more-done m ci r p left (g .passed) some l n u e s) (splice-after lens₀ 0 i (g .passed .done) (replicate n l) (omega (arith, g .count))
+                (omega (arith, gather-room, gathered-length)));
           }

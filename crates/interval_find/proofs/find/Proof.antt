@@ -77,8 +77,10 @@ module _ (k : tie.After-known-told Inv-loop μ-loop) where
   ends =
       let s = start (around k) in
       let i = around k .loop .inv in
-      let f = run-fits (s .args .m) (s .args .ci .now) (s .pre .0) (around k .before .rdfs-of .result .at) (around k .loop .left) (i .0) some (len-of k) (count-of k) (used-of k) told (small k) in
-      let e = run-end (s .args .m) (s .args .ci .now) (s .pre .0) (around k .before .rdfs-of .result .at) (around k .loop .left) (i .0) some (len-of k) (count-of k) (used-of k) told (small k) in
+      let f = run-fits (s .args .m) (s .args .ci .now) (s .pre .0) (around k .before .rdfs-of .result .at) (around k .loop .left) (i .0) some (len-of k) (count-of k) (used-of k) told
+      (small k) in
+      let e = run-end (s .args .m) (s .args .ci .now) (s .pre .0) (around k .before .rdfs-of .result .at) (around k .loop .left) (i .0) some (len-of k) (count-of k) (used-of k) told
+      (small k) in
       (omega (arith, f, i .1), omega (arith, e, i .2))
 
   many-small : length (recordsIn (start (around k) .args .ci .now)) < 2 ^ 63
@@ -112,7 +114,8 @@ returns : tie.Need-returns Inv-loop μ-loop
 returns c =
     let a = c .before .before .before .before in
     let s = start a in
-    absurd (no-damage (s .args .m .least) (s .args .m .most) (s .args .ci .now) (a .before .rdfs-of .result .at) (a .loop .left) (a .loop .inv .0 .formed) (c .before .before .before .loop-test .taken)
+    absurd (no-damage (s .args .m .least) (s .args .m .most) (s .args .ci .now) (a .before .rdfs-of .result .at) (a .loop .left) (a .loop .inv .0 .formed)
+    (c .before .before .before .loop-test .taken)
     (sym (c .enum-told .given .1) ∙ c .before .before .group-at .ensures .0))
 
 sub-order-at : tie.Need-sub-order-at Inv-loop μ-loop
@@ -161,7 +164,8 @@ find-in-requires c κs =
       lies k,
       record {
         before = around k .loop .inv .3;
-        above = run-above (s .args .m) (s .args .ci .now) (s .args .key .now) (s .pre .0) (run-of k) (lies k) (count-of k - 1) (omega arith) _ (sym (q .order-at .ensures)) (c .enum-told4 .given .1);
+        above = run-above (s .args .m) (s .args .ci .now) (s .args .key .now) (s .pre .0) (run-of k) (lies k) (count-of k - 1) (omega arith) _ (sym (q .order-at .ensures))
+            (c .enum-told4 .given .1);
       },
     )
 
@@ -191,7 +195,8 @@ loop-again c =
     let k = given q in
     let s = start (around k) in
     let i = around k .loop .inv in
-    let b = run-below (s .args .m) (s .args .ci .now) (s .args .key .now) (s .pre .0) (run-of k) (lies k) (count-of k - 1) (omega arith) _ (sym (q .order-at .ensures)) (c .enum-told2 .given .1) in
+    let b = run-below (s .args .m) (s .args .ci .now) (s .args .key .now) (s .pre .0) (run-of k) (lies k) (count-of k - 1) (omega arith) _ (sym (q .order-at .ensures))
+    (c .enum-told2 .given .1) in
     let p : ℕ = around k .before .rdfs-of .result .at in
     let l : ℕ = around k .loop .left in (
       passed-more (s .args .m) (s .args .ci .now) (s .pre .0) p l (i .0) (some k) (len-of k) (count-of k) (used-of k) (told k) (small k),

@@ -115,7 +115,8 @@ returns-2 : tie.Need-returns-2 Inv-loop μ-loop
 returns-2 c =
     let s = c .before .before .before .before .before in
     let a = c .before in
-    gather-end (s .args .m) (s .args .ci .now) (s .args .lens .now) (s .pre .0) (a .before .rdfs-of .result .at) (a .loop .left) (a .loop .lens) (a .loop .i) (s .pre .1) (a .loop .inv) (omega arith)
+    gather-end (s .args .m) (s .args .ci .now) (s .args .lens .now) (s .pre .0) (a .before .rdfs-of .result .at) (a .loop .left) (a .loop .lens) (a .loop .i) (s .pre .1)
+    (a .loop .inv) (omega arith)
 
 pub lengths-out-spec : {M : Type 1} → statement M
 lengths-out-spec =

@@ -47,7 +47,8 @@ small k = rw (k .before .len .given .1) at (k .before .before .before .group-at 
 
 module _ (k : tie.After-known-told Inv-loop μ-loop) where
   told : front.Run (len-of k) (count-of k) (used-of k)
-      ≡ frontOf (start-of (around k) .args .m .least) (start-of (around k) .args .m .most) (rdfs (start-of (around k) .args .ci .now) (around k .before .rdfs-of .result .at) (around k .loop .left))
+      ≡ frontOf (start-of (around k) .args .m .least) (start-of (around k) .args .m .most) (rdfs (start-of (around k) .args .ci .now) (around k .before .rdfs-of .result .at)
+      (around k .loop .left))
   told = sym (k .before .len .given .1) ∙ k .before .before .before .group-at .ensures .0
 
   some : 0 < around k .loop .left
@@ -56,13 +57,24 @@ module _ (k : tie.After-known-told Inv-loop μ-loop) where
   long : 0 < len-of k
   long =
       let s = start-of (around k) in
-      omega (arith, front-within (s .args .m .least) (s .args .m .most) (rdfs (s .args .ci .now) (around k .before .rdfs-of .result .at) (around k .loop .left)) (len-of k) (count-of k) (used-of k) told, s .pre .inside, s .pre .keyed)
+      omega (
+        arith,
+        front-within (s .args .m .least) (s .args .m .most) (rdfs (s .args .ci .now) (around k .before .rdfs-of .result .at) (around k .loop .left)) (len-of k)
+            (count-of k) (used-of k) told,
+        s .pre .inside,
+        s .pre .keyed,
+      )
 
   ends : around k .loop .start + count-of k * len-of k + 4 ≤ length (start-of (around k) .args .ci .now)
   ends =
       let s = start-of (around k) in
       let i = around k .loop .inv in
-      omega (arith, run-end (s .args .m) (s .args .ci .now) (s .pre) (around k .before .rdfs-of .result .at) (around k .loop .left) (i .0) some (len-of k) (count-of k) (used-of k) told (small k), i .1)
+      omega (
+        arith,
+        run-end (s .args .m) (s .args .ci .now) (s .pre) (around k .before .rdfs-of .result .at) (around k .loop .left) (i .0) some (len-of k) (count-of k)
+            (used-of k) told (small k),
+        i .1,
+      )
 
 rdfs-of-requires : tie.Need-rdfs-of-requires Inv-loop μ-loop
 rdfs-of-requires c κs =
@@ -89,7 +101,8 @@ returns : tie.Need-returns Inv-loop μ-loop
 returns c =
     let a = c .before .before .before .before in
     let s = start-of a in
-    absurd (no-damage (s .args .m .least) (s .args .m .most) (s .args .ci .now) (a .before .rdfs-of .result .at) (a .loop .left) (a .loop .inv .0 .formed) (c .before .before .before .loop-test .taken)
+    absurd (no-damage (s .args .m .least) (s .args .m .most) (s .args .ci .now) (a .before .rdfs-of .result .at) (a .loop .left) (a .loop .inv .0 .formed)
+    (c .before .before .before .loop-test .taken)
     (sym (c .enum-told .given .1) ∙ c .before .before .group-at .ensures .0))
 
 mul-end : tie.Need-mul-end Inv-loop μ-loop
@@ -115,23 +128,27 @@ module _ (k : tie.Then1 Inv-loop μ-loop) where
   starts : (i : ℕ) → i ≤ count-of (k .before)
       → startOf (length (g .done) + i) (recordsIn (a .args .ci .now)) ≡ around (k .before) .loop .start + i * len-of (k .before)
   starts i h =
-      run-starts (a .args .m) (a .args .ci .now) (a .pre) (around (k .before) .before .rdfs-of .result .at) (around (k .before) .loop .left) g (some (k .before)) (len-of (k .before)) (count-of (k .before))
+      run-starts (a .args .m) (a .args .ci .now) (a .pre) (around (k .before) .before .rdfs-of .result .at) (around (k .before) .loop .left) g (some (k .before)) (len-of (k .before))
+      (count-of (k .before))
       (used-of (k .before)) (told (k .before)) (small (k .before)) i h ∙ ap (λ (x : ℕ). x + i * len-of (k .before)) (around (k .before) .loop .inv .1)
 
   longs : (i : ℕ) → i < count-of (k .before) → length (getD (recordsIn (a .args .ci .now)) (length (g .done) + i) []) ≡ len-of (k .before)
   longs =
-      each-long (a .args .m) (a .args .ci .now) (a .pre) (around (k .before) .before .rdfs-of .result .at) (around (k .before) .loop .left) g (some (k .before)) (len-of (k .before)) (count-of (k .before))
+      each-long (a .args .m) (a .args .ci .now) (a .pre) (around (k .before) .before .rdfs-of .result .at) (around (k .before) .loop .left) g (some (k .before)) (len-of (k .before))
+      (count-of (k .before))
       (used-of (k .before)) (told (k .before)) (small (k .before))
 
   fits : length (g .done) + count-of (k .before) ≤ length (recordsIn (a .args .ci .now))
   fits =
-      run-fits (a .args .m) (a .args .ci .now) (a .pre) (around (k .before) .before .rdfs-of .result .at) (around (k .before) .loop .left) g (some (k .before)) (len-of (k .before)) (count-of (k .before))
+      run-fits (a .args .m) (a .args .ci .now) (a .pre) (around (k .before) .before .rdfs-of .result .at) (around (k .before) .loop .left) g (some (k .before)) (len-of (k .before))
+      (count-of (k .before))
       (used-of (k .before)) (told (k .before)) (small (k .before))
 
 returns-2 : tie.Need-returns-2 Inv-loop μ-loop
 returns-2 c =
     let k = c .before in (
-      run-between (a k .args .m) (a k .args .ci .now) (a k .pre) (a k .args .place) (length (g k .done)) (around (k .before) .loop .start) (len-of (k .before)) (count-of (k .before)) (fits k) (starts k) (longs k)
+      run-between (a k .args .m) (a k .args .ci .now) (a k .pre) (a k .args .place) (length (g k .done)) (around (k .before) .loop .start) (len-of (k .before)) (count-of (k .before))
+          (fits k) (starts k) (longs k)
           (long (k .before)) (around (k .before) .loop .inv .2) (k .if1 .taken) (c .if2 .taken),
       tt,
     )
@@ -139,7 +156,8 @@ returns-2 c =
 returns-3 : tie.Need-returns-3 Inv-loop μ-loop
 returns-3 c =
     let k = c .before in
-    run-begins (a k .args .m) (a k .args .ci .now) (a k .pre) (a k .args .place) (length (g k .done)) (around (k .before) .loop .start) (len-of (k .before)) (count-of (k .before)) (fits k) (starts k) (longs k)
+    run-begins (a k .args .m) (a k .args .ci .now) (a k .pre) (a k .args .place) (length (g k .done)) (around (k .before) .loop .start) (len-of (k .before)) (count-of (k .before))
+    (fits k) (starts k) (longs k)
     (long (k .before)) (around (k .before) .loop .inv .2) (k .if1 .taken) (c .if2 .left)
 
 sub-left : tie.Need-sub-left Inv-loop μ-loop
