@@ -107,6 +107,53 @@ def addresses(t):
         t.ask("R", M4, address=address, out=60)
 
 
+# ---- searches in runs
+
+def keyed(i, length):
+    """The record whose key is i in four decimal digits: odd ones are there, even ones are the gaps between them."""
+    return filled(b"%04d" % i, length)
+
+
+def sought(t, m, lens):
+    """Records of these lengths, each sought by key, and each gap; the addresses of their first bytes and of the ones beside."""
+    t.lay(area_of(m.size, [(b"", 0)], [], {0: [keyed(2 * i + 1, length) for i, length in enumerate(lens)]}))
+    for i, length in enumerate(lens):
+        t.answers(t.ask("G", m, b"%04d" % (2 * i)), 5)
+        t.answers(t.ask("G", m, b"%04d" % (2 * i + 1), out=length), 0, length)
+    t.answers(t.ask("G", m, b"%04d" % (2 * len(lens))), 5)
+
+
+def begun(t, m, lens, step=1):
+    at = 0
+    for i, length in enumerate(lens):
+        if i % step == 0 or i == len(lens) - 1:
+            t.answers(t.ask("R", m, address=at, out=4), 8, length)
+            t.answers(t.ask("R", m, address=at + 1), 9)
+            t.answers(t.ask("R", m, address=at + length - 1), 9)
+        at += length
+    t.answers(t.ask("R", m, address=at), 9)
+
+
+def runs(t):
+    """Runs alone, and before, between and behind single records; into each gap of a run alone a record comes and goes again."""
+    for count in (1, 2, 3, 7, 8, 9):
+        run = [20] * count
+        t.text("== a run of %d" % count)
+        sought(t, M4, run)
+        begun(t, M4, run)
+        for i in range(count + 1):
+            t.ask("I", M4, keyed(2 * i, 20))
+            t.ask("E", M4, b"%04d" % (2 * i))
+        for title, lens in (("behind one", [21] + run), ("before one", run + [22]), ("between two", [21] + run + [22]), ("and another", run + [22] + run + [23])):
+            t.text(title)
+            sought(t, M4, lens)
+            begun(t, M4, lens)
+    t.text("== a run of 545")
+    m = Measures(32768, 0, 4, 60)
+    sought(t, m, [60] * 545)
+    begun(t, m, [60] * 545, 32)
+
+
 # ---- document 01's intervals and index records
 
 def endings(t):
@@ -418,7 +465,7 @@ def larger(t, size):
 
 def main():
     t = Script()
-    for part in (measures, sound_varieties, several_rules, rules_alone, gets, addresses, endings, largest_empty, index_cut,
+    for part in (measures, sound_varieties, several_rules, rules_alone, gets, addresses, runs, endings, largest_empty, index_cut,
                  shorter_after_longer, figure_38, fitting, three_parts, updates, shortenings, shortened_pairs, refusals, far_cut, record_bytes,
                  joined, emptied, behind, short_fronts):
         part(t)

@@ -1,5 +1,6 @@
-pub mod Steps
-pub mod Follow
+pub mod Placing
+pub mod Runs
+pub mod Halving
+pub mod Starting
 pub mod Gather
 pub mod Unique
-pub mod Starting

@@ -1,1 +1,1 @@
-pub mod AidSteps
+pub mod AidRuns

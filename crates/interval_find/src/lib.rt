@@ -1,12 +1,14 @@
-// The records of a sound data interval: stepped through, searched for a key, and told by their lengths.
-ghost use Prim.Native.Nat.{_+_, _-_, _≤_, _<_};
+// The records of a sound data interval: searched for a key or a place, and told by their lengths, run by run.
+ghost use Prim.Native.Nat.{_+_, _-_, _*_, _^_, _≤_, _<_};
 ghost use mathlib.Core.Path.{_≡_};
 ghost use mathlib.Core.List.{map};
 ghost use lib.ListN.{length, replicate};
-ghost use Rattle.fields.specs.Bytes.{splice};
+ghost use Rattle.fields.specs.Bytes.{splice, part};
+ghost use Rattle.fields.specs.Order.{orderOf};
 ghost use Rattle.interval.specs.Reading.{displacement, rdfsAt, rdfsMany, recordsIn, Readable};
 ghost use Rattle.interval.specs.Search.{placeOf, Within, startingAt, startedOf, Ends};
-ghost use Rattle.interval_find.specs.AidSteps.{Ready, Stepped};
+ghost use Rattle.interval.specs.declared.Found.the-variants.{At};
+ghost use Rattle.interval_find.specs.AidRuns.{Lies, Holding};
 use fields::Order;
 use interval::Found;
 use interval::Started;
@@ -34,60 +36,59 @@ pub(crate) fn rdfs_of(ci: &[u8]) -> Rdfs
     }
 }
 
-// A place among the records: the next one's displacement, how many RDFs are not yet read, and the rest of a run.
-pub(crate) struct Place {
-    at: usize,
-    left: usize,
+// Records of one length that lie one after another: the ordinal of the first, where it begins, how long each is, and how many follow it.
+pub(crate) struct Run {
+    ordinal: usize,
+    start: usize,
     len: usize,
-    more: usize,
+    last: usize,
 }
 
-// The record that stands at a place, with the place after it; or that none is left.
-pub(crate) enum Step {
-    Record { at: usize, len: usize, next: Place },
-    End,
-}
-
-// The next record of the interval ci whose RDFs lie from place p on.
-pub(crate) fn step_on(ci: &[u8], p: usize, least: usize, most: usize, c: Place) -> Step
-    requires { ⌜ Ready least most (now ci) p c ⌝ }
-    ensures { λ r. ⌜ Stepped least most (now (ci .entry)) p c r ⌝ }
+// The i-th record of a run, counted from 0, as the one that was sought.
+pub(crate) fn found(run: Run, i: usize) -> Found
+    requires { ⌜ (run .ordinal + i < 2 ^ 63) × (run .start + i * run .len < 2 ^ 63) ⌝ }
+    ensures { λ r. ⌜ r ≡ At (run .ordinal + i) (run .start + i * run .len) (run .len) ⌝ }
 {
-    let at = c.at;
-    let left = c.left;
-    let more = c.more;
-    if 0 < more {
-        let len = c.len;
-        return Step::Record {
-            at,
-            len,
-            next: Place {
-                at: at + len,
-                left,
-                len,
-                more: more - 1,
-            },
-        };
-    }
-    if left == 0 {
-        return Step::End;
-    }
-    let Front::Run { len, count, used } = rdf::group_at(ci, p, left, least, most) else {
-        return Step::End;
-    };
-    Step::Record {
-        at,
-        len,
-        next: Place {
-            at: at + len,
-            left: left - used,
-            len,
-            more: count - 1,
-        },
+    Found::At {
+        ordinal: run.ordinal + i,
+        start: run.start + i * run.len,
+        length: run.len,
     }
 }
 
-// The place of a key. Keys ascend, so the first record whose key is not below it decides.
+// How the key of the record that begins at a place stands to a key.
+pub(crate) fn order_at(ci: &[u8], m: Measures, at: usize, key: &[u8]) -> Order
+    requires { ⌜ (at + m .offset + m .key ≤ length (now ci)) × (length (now key) ≡ m .key) ⌝ }
+    ensures { λ r. ⌜ r ≡ orderOf (part (now (ci .entry)) (at + m .offset) (m .key)) (now (key .entry)) ⌝ }
+{
+    let a = at + m.offset;
+    let e = a + m.key;
+    fields::compare(&ci[a..e], key)
+}
+
+// The place of a key that is above the records before a run and below its last. The run is halved until one gap is left: keys ascend, so what
+// is left of a record whose key is below is below, and what is right of one whose key is above is above.
+pub(crate) fn find_in(ci: &[u8], m: Measures, key: &[u8], run: Run) -> Found
+    requires { ⌜ Readable m (now ci) × (length (now key) ≡ m .key) × Lies (now ci) run × Holding m (now ci) (now key) run ⌝ }
+    ensures { λ r. ⌜ r ≡ placeOf m (now (key .entry)) (recordsIn (now (ci .entry))) ⌝ }
+{
+    let mut low: usize = 0;
+    let mut high = run.last;
+    while low < high {
+        let middle = low + (high - low) / 2;
+        match order_at(ci, m, run.start + middle * run.len, key) {
+            Order::Less => low = middle + 1,
+            Order::Same => return found(run, middle),
+            Order::Greater => high = middle,
+        }
+    }
+    Found::Gap {
+        ordinal: run.ordinal + low,
+        start: run.start + low * run.len,
+    }
+}
+
+// The place of a key: run by run, until the last key of one is not below it.
 pub fn find(ci: &[u8], m: Measures, key: &[u8]) -> Found
     requires { ⌜ Readable m (now ci) × (length (now key) ≡ m .key) ⌝ }
     ensures is { λ r. ⌜ r ≡ placeOf m (now (key .entry)) (recordsIn (now (ci .entry))) ⌝ }
@@ -95,37 +96,32 @@ pub fn find(ci: &[u8], m: Measures, key: &[u8]) -> Found
 {
     let rdfs = rdfs_of(ci);
     let p = rdfs.at;
+    let mut left = rdfs.many;
     let mut ordinal: usize = 0;
-    let mut c = Place {
-        at: 0,
-        left: rdfs.many,
-        len: 0,
-        more: 0,
-    };
-    loop {
-        let Step::Record { at, len, next } = step_on(ci, p, m.least, m.most, c) else {
-            return Found::Gap {
-                ordinal,
-                start: c.at,
-            };
+    let mut start: usize = 0;
+    while 0 < left {
+        let Front::Run { len, count, used } = rdf::group_at(ci, p, left, m.least, m.most) else {
+            return Found::Gap { ordinal, start };
         };
-        let a = at + m.offset;
-        let e = a + m.key;
-        match fields::compare(&ci[a..e], key) {
+        let run = Run {
+            ordinal,
+            start,
+            len,
+            last: count - 1,
+        };
+        match order_at(ci, m, start + run.last * len, key) {
             Order::Less => {}
-            Order::Same => return Found::At {
-                ordinal,
-                start: at,
-                length: len,
-            },
-            Order::Greater => return Found::Gap { ordinal, start: at },
+            Order::Same => return found(run, run.last),
+            Order::Greater => return find_in(ci, m, key, run),
         }
-        ordinal += 1;
-        c = next;
+        ordinal += count;
+        start += count * len;
+        left -= used;
     }
+    Found::Gap { ordinal, start }
 }
 
-// Whether a record begins at a place of the interval, and how long it is.
+// Whether a record begins at a place of the interval, and how long it is. In a run a division tells.
 pub fn record_at(ci: &[u8], m: Measures, place: usize) -> Started
     requires { ⌜ Readable m (now ci) ⌝ }
     ensures is { λ r. ⌜ r ≡ startedOf (startingAt place 0 (recordsIn (now (ci .entry)))) ⌝ }
@@ -133,21 +129,23 @@ pub fn record_at(ci: &[u8], m: Measures, place: usize) -> Started
 {
     let rdfs = rdfs_of(ci);
     let p = rdfs.at;
-    let mut c = Place {
-        at: 0,
-        left: rdfs.many,
-        len: 0,
-        more: 0,
-    };
-    loop {
-        let Step::Record { at, len, next } = step_on(ci, p, m.least, m.most, c) else {
+    let mut left = rdfs.many;
+    let mut start: usize = 0;
+    while 0 < left {
+        let Front::Run { len, count, used } = rdf::group_at(ci, p, left, m.least, m.most) else {
             return Started::Nothing;
         };
-        if at == place {
+        let end = start + count * len;
+        if place < end {
+            if (place - start) % len != 0 {
+                return Started::Nothing;
+            }
             return Started::Here { length: len };
         }
-        c = next;
+        start = end;
+        left -= used;
     }
+    Started::Nothing
 }
 
 // Stores one length in every place from one to another.

@@ -11,7 +11,7 @@ use borrow.Author.Needs.{needs}
 use Rattle.interval.proofs.Readable.{readable-rdfs}
 use Rattle.rdf.specs.AidFront.{Small}
 use Rattle.rdf.specs.declared.Front.the-variants.{Run}
-use Rattle.interval_find.proofs.Steps.{no-damage}
+use Rattle.interval_find.proofs.Runs.{no-damage}
 use Rattle.interval_find.proofs.Gather.{Gathered, gather-start, gather-room, gather-turn, gather-end, gathered-length}
 use Rattle.interval_find.proofs.lengths_out.Statement.{statement}
 use Rattle.interval_find.proofs.lengths_out.Tie as tie
@@ -74,7 +74,7 @@ returns : tie.Need-returns Inv-loop μ-loop
 returns c =
     let s = start-from-group-at (c .before .before) in
     let a = c .before .before .before .before in
-    absurd (no-damage (s .args .m .least) (s .args .m .most) (s .args .ci .now) (a .before .rdfs-of .result .at) (a .loop .left) (a .loop .inv .formed) (omega arith)
+    absurd (no-damage (s .args .m .least) (s .args .m .most) (s .args .ci .now) (a .before .rdfs-of .result .at) (a .loop .left) (a .loop .inv .passed .formed) (omega arith)
     (sym (c .enum-told .given .1) ∙ c .before .before .group-at .ensures .0))
 
 add-fill-lengths : tie.Need-add-fill-lengths Inv-loop μ-loop
@@ -115,7 +115,8 @@ returns-2 : tie.Need-returns-2 Inv-loop μ-loop
 returns-2 c =
     let s = c .before .before .before .before .before in
     let a = c .before in
-    gather-end (s .args .m) (s .args .ci .now) (s .args .lens .now) (s .pre .0) (a .before .rdfs-of .result .at) (a .loop .left) (a .loop .lens) (a .loop .i) (s .pre .1) (a .loop .inv) (omega arith)
+    gather-end (s .args .m) (s .args .ci .now) (s .args .lens .now) (s .pre .0) (a .before .rdfs-of .result .at) (a .loop .left) (a .loop .lens) (a .loop .i) (s .pre .1)
+    (a .loop .inv) (omega arith)
 
 pub lengths-out-spec : {M : Type 1} → statement M
 lengths-out-spec =

@@ -1,6 +1,6 @@
 -- rdfs-told: the two fields of the CIDF, read and put together, are rdfsAt and rdfsMany by their definitions.
 use borrow.Author.Needs.{needs}
-use Rattle.interval_find.proofs.Steps.{rdfs-told}
+use Rattle.interval_find.proofs.Runs.{rdfs-told}
 use Rattle.interval_find.proofs.rdfs_of.Statement.{statement}
 use Rattle.interval_find.proofs.rdfs_of.Tie as tie
 
