@@ -386,15 +386,10 @@ pub(crate) fn check_with(ib: &[u8], key: usize, n: usize, w: usize) -> Index
     }
 }
 
-// The same with the width that n intervals have. One byte is what nearly all areas have, and told apart here it costs no more than if there were
-// no other.
+// The same with the width that n intervals have.
 pub fn check(ib: &[u8], key: usize, n: usize) -> Index
     requires { ⌜ (31 ≤ length (now ib)) × (length (now ib) ≤ 32768) × (1 ≤ key) × (key ≤ 255) × (n ≤ limit) ⌝ }
     ensures { λ r. ⌜ r ≡ indexOf key n (now (ib .entry)) ⌝ }
 {
-    let w = measures::width_for(n);
-    if w == 1 {
-        return check_with(ib, key, n, 1);
-    }
-    check_with(ib, key, n, w)
+    check_with(ib, key, n, measures::width_for(n))
 }
