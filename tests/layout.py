@@ -64,36 +64,43 @@ def cut_at(left, right):
     return left[:same_front(left, right) + 1]
 
 
-def entry(characters, front, number):
-    return characters + bytes([front, len(characters), number])
+def width_for(n):
+    """The bytes of a pointer and of a free number among n data intervals (document 02, L6)."""
+    return 1 if n <= 256 else 2
 
 
-def entry_bytes(entries, fronts=None):
+def entry(characters, front, number, width=1):
+    return characters + bytes([front, len(characters)]) + number.to_bytes(width, "big")
+
+
+def entry_bytes(entries, fronts=None, width=1):
     """Entries (separator, number) as they stand in the record, the first one rightmost. Each F is the longest that matches, unless
     other ones are given."""
     out, before = b"", b""
     for place, (separator, number) in enumerate(entries):
         front = same_front(before, separator) if fronts is None else fronts[place]
-        out = entry(separator[front:], front, number) + out
+        out = entry(separator[front:], front, number, width) + out
         before = separator
     return out
 
 
 def index_interval(entries, free, size, kept=NONE_KEPT, fronts=None, filling=0):
     """kept: base RBA, horizontal pointer and reserved bytes, 12 in all, and the reserved byte after the level. The last
-    entry has no characters, so it begins with its control information."""
-    return index_frame(entry_bytes(entries, fronts), free, size, kept, filling)
+    entry has no characters, so it begins with its control information. The width is that of as many intervals as are named."""
+    width = width_for(len(entries) + len(free))
+    return index_frame(entry_bytes(entries, fronts, width), free, size, kept, filling, width)
 
 
-def index_frame(entries, free, size, kept=NONE_KEPT, filling=0):
-    """An index record around bytes of entries."""
+def index_frame(entries, free, size, kept=NONE_KEPT, filling=0, width=1):
+    """An index record around bytes of entries. The control length is F, L and the pointer; the indicator has a bit for each byte of a pointer."""
     record = size - 7
     last = record - len(entries)
-    head = struct.pack(">HBB", record, 3, 1) + kept[:12] + bytes([1]) + kept[12:]
-    head += struct.pack(">HHH", HEADER + len(free), last, last)
-    unused = last - HEADER - len(free)
+    numbers = b"".join(number.to_bytes(width, "big") for number in free)
+    head = struct.pack(">HBB", record, width + 2, 2 ** width - 1) + kept[:12] + bytes([1]) + kept[12:]
+    head += struct.pack(">HHH", HEADER + len(numbers), last, last)
+    unused = last - HEADER - len(numbers)
     assert len(head) == HEADER and unused >= 0, "the index record has no room"
-    return head + bytes(free) + bytes([filling]) * unused + entries + rdf(0x00, record) + struct.pack(">HH", record, 0)
+    return head + numbers + bytes([filling]) * unused + entries + rdf(0x00, record) + struct.pack(">HH", record, 0)
 
 
 def kept_bytes(base, horizontal=0, reserved=0, after_level=0):

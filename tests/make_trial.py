@@ -442,9 +442,47 @@ def greatest(t):
                                 ("E", b"EEEE", 4)):
         t.ask(letter, M4, filled(key, length), lent=whole)
     t.answers(t.ask("C", M4, lent=whole), 0, 3, 252)
-    t.text("== 257 intervals")
+    t.text("== 257 intervals, more than an index record of 512 bytes can name: no 1, but never sound")
     for letter, content in (("C", b""), ("G", b"AAAA"), ("R", b""), ("I", filled(b"ZZZZ", 200)), ("U", filled(b"AAAA", 200)), ("E", b"AAAA")):
-        t.answers(t.ask(letter, M4, content, out=5 if letter in "GR" else 0), 1)
+        t.answers(t.ask(letter, M4, content, out=5 if letter in "GR" else 0), 2, 0)
+
+
+def widths(t):
+    """256 and 257 intervals side by side: the same requests, one byte for a number and two. Then each with the other's record."""
+    m, records = Measures(1024, 0, 4, 300), {}
+    for n in (256, 257):
+        t.text("== %d intervals of 1,024 bytes" % n)
+        records[n] = area_of(1024, [(b"M", n - 2), (b"", 0)], list(range(1, n - 2)) + [n - 1], {n - 2: [filled(b"AA%02d" % i, 250) for i in range(4)]})
+        t.lay(records[n])
+        t.answers(t.ask("C", m), 0, 4, n - 2)
+        t.answers(t.ask("G", m, b"AA03", out=6), 8, 250)
+        t.answers(t.ask("R", m, address=(n - 2) * 1024 + 500, out=6), 8, 250)
+        t.answers(t.ask("I", m, filled(b"AA10", 250)), 0, 3)
+        t.says(2, "0301" if n == 256 else "0403")
+        t.answers(t.ask("U", m, filled(b"AA10", 300)), 0, 1)
+        t.answers(t.ask("E", m, b"AA00"), 0, 1)
+        t.answers(t.ask("C", m), 0, 4, n - 3)
+    t.text("== the record of 256 before 257 intervals, and the other way round")
+    t.lay(records[256] + data_interval([], 1024))
+    t.answers(t.ask("C", m), 2, 0)
+    t.lay(records[257])
+    t.answers(t.ask("C", m, lent=257 * 1024), 2, 0)
+    for pair in (b"\3\1", b"\4\1", b"\3\3"):
+        t.text("257 intervals, header bytes %s" % pair.hex())
+        t.lay(bent(records[257], 2, pair))
+        t.answers(t.ask("G", m, b"AA03", out=6), 2, 0)
+
+
+def full_at_two(t, length, last):
+    """Two bytes a number: 24, 252 free numbers, five entries of 4 and separators of 3 x 117 and this length."""
+    t.text("== 257 intervals, divided at a separator of %d bytes" % length)
+    m = Measures(1024, 0, 120, 300)
+    fronts = [bytes([65 + i]) * 117 for i in range(3)]
+    entries = [(front, i) for i, front in enumerate(fronts)] + [(b"", 3)]
+    keys = [b"Z" * (length - 1) + bytes([c]) + b"z" * (120 - length) for c in b"ACEGB"]
+    t.lay(area_of(1024, entries, list(range(4, 257)), {3: [filled(key, 250) for key in keys[:4]]}))
+    t.answers(t.ask("I", m, filled(keys[4], 250)), *last)
+    t.ask("C", m)
 
 
 def larger(t, size):
@@ -477,6 +515,9 @@ def main():
     wasteful(t)
     kept(t)
     greatest(t)
+    widths(t)
+    for length, last in ((118, (0, 3)), (119, (7,))):
+        full_at_two(t, length, last)
     for size in (1024, 2048, 32768):
         larger(t, size)
     crate = os.path.join(os.path.dirname(os.path.dirname(os.path.abspath(__file__))), "crates", "trial")

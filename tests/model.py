@@ -1,4 +1,4 @@
-"""A model of document 01: what each request comes to on any bytes, under any measures.
+"""A model of document 01, as document 02 amends it (L6): what each request comes to on any bytes, under any measures.
 
 It follows the papers (document 01; where that is open, docs/DECISIONS.md, whose points are cited as C2, D1 and so on) and knows nothing
 of the program. An area is bytes. Each request gives an answer, which is a number and its values, and the bytes of area and output
@@ -10,14 +10,15 @@ a script can show which rule an area breaks.
 import functools
 from typing import NamedTuple
 
-from layout import HEADER, cut_at, data_interval, entry_bytes, index_interval, needs
+from layout import HEADER, cut_at, data_interval, entry_bytes, index_interval, needs, width_for
 
 SIZES = tuple(range(512, 8193, 512)) + tuple(range(10240, 32769, 2048))
+LIMIT = 4096
 
 INDEX_RULES = {
     "record length": "the header's record length is S - 7",
-    "control length": "the control length is 3",
-    "pointer indicator": "the pointer indicator is 1",
+    "control length": "the control length is 3, or 4 above 256 intervals",
+    "pointer indicator": "the pointer indicator is 1, or 3 above 256 intervals",
     "base": "base + n x S is at most 2^32",
     "level": "the level is 1",
     "index RDF": "the index record's RDF is X'00'",
@@ -33,6 +34,7 @@ INDEX_RULES = {
     "last entry": "the displacement to the last entry's control information agrees with what lies there",
     "last section": "the last-section field equals the last-entry field",
     "unused field": "the displacement to the unused space is not below the header's end",
+    "whole numbers": "the free numbers fill the bytes up to the unused space",
     "overlap": "free numbers and entries don't overlap",
     "number below n": "no other number occurs",
     "named once": "no interval number is named twice",
@@ -91,7 +93,7 @@ class Measures(NamedTuple):
         if not self.least <= self.most <= self.size - 7:
             return None
         n = length // self.size - 1
-        return n if length % self.size == 0 and 1 <= n <= 256 else None
+        return n if length % self.size == 0 and 1 <= n <= LIMIT else None
 
     def key_of(self, record):
         return record[self.offset:self.least]
@@ -166,11 +168,11 @@ class Index(NamedTuple):
 def read_index(interval, m, n, without=None):
     """The index record of an area of n data intervals; Unsound where a rule is broken."""
     ask = asking(without)
-    record = m.size - 7
+    record, width = m.size - 7, width_for(n)
     base = number(interval, 4, 4)
     ask("record length", number(interval, 0) == record)
-    ask("control length", interval[2] == 3)
-    ask("pointer indicator", interval[3] == 1)
+    ask("control length", interval[2] == width + 2)
+    ask("pointer indicator", interval[3] == 2 ** width - 1)
     ask("base", base + n * m.size <= 2 ** 32)
     ask("level", interval[16] == 1)
     ask("index RDF", interval[record] == 0x00)
@@ -179,10 +181,11 @@ def read_index(interval, m, n, without=None):
     ask("index CIDF's unused", number(interval, record + 5) == 0)
     unused, last, section = number(interval, 18), number(interval, 20), number(interval, 22)
     ask("last section", section == last)
-    entries, start = read_entries(interval, m, last, ask)
+    entries, start = read_entries(interval, m, last, width, ask)
     ask("unused field", HEADER <= unused)
     ask("overlap", unused <= start)
-    free = list(interval[HEADER:unused])
+    ask("whole numbers", (unused - HEADER) % width == 0)
+    free = [number(interval, at, width) for at in range(HEADER, unused - width + 1, width)]
     named = free + [each for _, each in entries]
     ask("number below n", all(each < n for each in named))
     ask("named once", len(set(named)) == len(named))
@@ -190,14 +193,15 @@ def read_index(interval, m, n, without=None):
     return Index(interval[4:16] + interval[17:18], base, free, entries)
 
 
-def read_entries(interval, m, last, ask):
+def read_entries(interval, m, last, width, ask):
     """The entries from the right, and where they begin. The walk ends at the first empty separator, or where the header has the last entry;
     it must be both (D1: walking to either alone judges the same). Left of it all is unused space, whatever it looks like (D2)."""
     entries, before, bound = [], b"", None
     control = start = m.size - 7
-    while control != last and HEADER <= start - 3:
-        control = start - 3
-        front, count, named = interval[control:control + 3]
+    while control != last and HEADER <= start - (width + 2):
+        control = start - (width + 2)
+        front, count = interval[control:control + 2]
+        named = number(interval, control + 2, width)
         start = control - count
         ask("F", front <= len(before))
         ask("separator's length", front + count <= m.key)
@@ -394,7 +398,8 @@ def stored(area, m, index, place, parts):
     entries = index.entries[:place] + list(zip(separators, numbers)) + index.entries[place + 1:]
     stores = {named + 1: data_interval(part, m.size) for named, part in zip(numbers, parts)}
     if taken:
-        if HEADER + len(free) + len(entry_bytes(entries)) > m.size - 7:
+        width = width_for(len(free) + len(entries))
+        if HEADER + width * len(free) + len(entry_bytes(entries, width=width)) > m.size - 7:
             return Answer(7), area
         stores[0] = index_interval(entries, free, m.size, index.kept)
     return Answer(0, (len(stores),)), with_stores(area, m.size, stores)

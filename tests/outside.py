@@ -1,7 +1,7 @@
 #!/usr/bin/env python3
 """tests/outside.py [SHARED_OBJECT]: the program, through C, against the model, on areas that the crates' own programs do not reach.
 
-The script of the program `trial`; all 28 interval sizes; 200 intervals of 2,048 and 256 of 32,768; on each a sequence of requests, damaged
+The script of the program `trial`; all 28 interval sizes; 200 intervals of 2,048, 256 of 32,768 and 1,000 of 4,096; 4,096 of 10,240 and of 32,768; on each a sequence of requests, damaged
 copies, hostile measures; at each size one field after another with other values; areas filled until 6 or 7. Answers, values, outputs and every byte
 of what is lent are compared. They are the same cases each time: the chance in them has fixed seeds. Without a shared object it is made first. The
 last line is `N compared, M different`; the status is 0 only where M is 0.
@@ -107,6 +107,26 @@ def large(comparing, size, n, used, each, count):
     strange_measures(comparing, made, area, 4)
 
 
+def most(comparing, size):
+    """4,096 intervals, more than any program here can hold: one of them full, so that an insert divides it and takes the number 4,095."""
+    m = model.Measures(size, 0, 8, 60)
+    records = [b"1%07d" % (2 * i + 1) + b"." * 52 for i in range((size - 10) // 60)]
+    area = area_of(size, [(b"2", 4000), (b"", 0)], [k for k in range(1, 4096) if k != 4000], {4000: records})
+    for letter, content, address, out in (("C", b"", 0, b""), ("G", records[-1][:8], 0, bytes(60)), ("G", b"10000000", 0, bytes(60)), ("R", b"", 4000 * size + 60, bytes(60)),
+                                          ("I", b"10000002" + b"." * 52, 0, b""), ("U", records[0][:59], 0, b""), ("E", records[1][:8], 0, b""),
+                                          ("G", b"10000002", 0, bytes(60)), ("C", b"", 0, b"")):
+        area = comparing.ask(letter, area, m, content, address, out).area
+    for at, new in ((2, b"\3\1"), (2, b"\4\1"), (24, b"\x10\x00"), (24, b"\x0f\xa0"), (18, b"\x20\x00")):
+        comparing.ask("C", bent(area, at, new), m)
+
+
+def beyond(comparing):
+    """4,096 intervals are the most: one more is 1. At S 512 no record can name them, so that the area is never sound."""
+    m = model.Measures(512, 0, 8, 60)
+    for n in (256, 257, 4095, 4096, 4097):
+        comparing.ask("C", bytes(512 * (n + 1)), m)
+
+
 def filled_up(comparing, size, n, long):
     """Inserts under scattered keys until three in a row found no room."""
     m = model.Measures(size, 0, 8, size - 7)
@@ -148,6 +168,10 @@ def main(words):
     far_cuts(comparing)
     large(comparing, 2048, 200, 190, 33, 200)
     large(comparing, 32768, 256, 250, 545, 60)
+    large(comparing, 4096, 1000, 190, 66, 60)
+    beyond(comparing)
+    most(comparing, 10240)
+    most(comparing, 32768)
     for told in comparing.differences[:20]:
         print(told)
     print("%d compared, %d different" % (comparing.compared, len(comparing.differences)))

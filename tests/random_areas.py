@@ -1,7 +1,7 @@
 """Areas and requests by chance, for outside.py and fuzz: sound areas as some lawful writer might leave them, damage in every field, requests
 that meet every number. `r` is always a random.Random, so that a seed tells all."""
 import model
-from layout import area_of, cut_at, data_interval, entry_bytes, groups_of, index_interval, kept_bytes, needs, rdf, same_front
+from layout import area_of, cut_at, data_interval, entry_bytes, groups_of, index_interval, kept_bytes, needs, rdf, same_front, width_for
 
 ALPHABETS = [b"\x00\xff", b"ABC", b"0123456789", b"\x00\x01A\xfe\xff", bytes(range(256))]
 HOSTILE = [0, 1, 3, 4, 7, 255, 256, 505, 506, 511, 512, 513, 32761, 32768, 65535, 65536, 2 ** 31, 2 ** 32 - 1, 2 ** 32, 2 ** 63, 2 ** 64 - 8, 2 ** 64 - 1]
@@ -61,7 +61,7 @@ class Made:
             if separator:
                 found.add(separator)
         found = sorted(found, key=m.bound_of)
-        while self.n + 2 + sum(2 + len(separator) for separator in found) > m.size - 7 - 24:
+        while width_for(self.n) * self.n + 2 + sum(2 + len(separator) for separator in found) > m.size - 7 - 24:
             found.pop(r.randrange(len(found)))
         return found
 
@@ -126,7 +126,8 @@ class Made:
             longest = same_front(before, separator)
             fronts.append(r.choice([longest, longest, r.randint(0, longest)]))
             before = separator
-        if 24 + len(self.free) + len(entry_bytes(self.entries, fronts)) > self.m.size - 7:
+        width = width_for(self.n)
+        if 24 + width * len(self.free) + len(entry_bytes(self.entries, fronts, width)) > self.m.size - 7:
             fronts = None
         return index_interval(self.entries, self.free, self.m.size, self.kept, fronts, filling)
 

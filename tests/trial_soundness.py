@@ -4,7 +4,7 @@ Each function writes its cases to a Script. The area of most of them, SOUND, has
 name 0, 2 and 1, and 3 is free.
 """
 import model
-from layout import area_of, bent, data_interval, entry, entry_bytes, index_frame, index_interval, rdf
+from layout import HEADER, area_of, bent, data_interval, entry, entry_bytes, index_frame, index_interval, rdf
 from model import Measures
 
 SIZE, MOST = 512, 505
@@ -64,6 +64,10 @@ ENTRIES = [(b"AB", 0), (b"C", 2), (b"", 1)]
 DATA = {0: [b"AA01HHHH", b"AB01KKKK"], 1: [b"DD01EEEEE"], 2: [b"BB01HHHH", b"CC01KKKKKKK"]}
 SOUND = area_of(SIZE, ENTRIES, [3], DATA)
 FIRST, SECOND, THIRD, FREE = (SIZE * place for place in (1, 2, 3, 4))
+
+# 257 intervals, so that pointers and free numbers have two bytes
+WIDE = area_of(1024, [(b"M", 256), (b"", 0)], list(range(255, 0, -1)), {256: [b"AA01"], 0: [b"ZZ01"]})
+M_WIDE = Measures(1024, 0, 4, 60)
 
 
 def data_with(number, interval):
@@ -236,6 +240,10 @@ def index_alone():
         ("named once", "free twice", index_with(ENTRIES, [3, 3], DATA)),
         ("named once", "free and used, and empty", index_with([(b"@", 3)] + ENTRIES, [3], DATA)),
         ("all named", "3 is not", index_with(ENTRIES, [], DATA)),
+        ("control length", "3 for 257 intervals", bent(WIDE, 2, b"\3"), M_WIDE),
+        ("pointer indicator", "1 for 257 intervals", bent(WIDE, 3, b"\1"), M_WIDE),
+        ("whole numbers", "one byte more than 255 of them", bent(WIDE, 18, (HEADER + 511).to_bytes(2, "big")), M_WIDE),
+        ("number below n", "257 of 257, used", index_interval([(b"@", 257), (b"M", 256), (b"", 0)], list(range(255, 0, -1)), 1024) + WIDE[1024:], M_WIDE),
     ]
 
 

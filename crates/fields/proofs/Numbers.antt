@@ -101,6 +101,10 @@ pub number-more : (i : ℕ) (b : List ℕ) (a : ℕ) → number (i + 1) b a ≡ 
 unfolding number
 number-more i b a = rw add-one
 
+pub number-byte : (b : List ℕ) (a : ℕ) → number 1 b a ≡ getD b a 0
+unfolding number
+number-byte b a = let e : a + 0 ≡ a = omega arith in rw e (omega arith)
+
 -- up to three bytes leave room for one more
 pub number-small : (i : ℕ) (b : List ℕ) (a : ℕ) → Octets b → i ≤ 3 → number i b a < 16777216
 number-small zero b a o h = omega (arith, number-below 0 b a o)

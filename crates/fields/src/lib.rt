@@ -54,6 +54,9 @@ pub fn read_pointer(b: &[u8], at: usize, width: usize) -> usize
     requires { ⌜ (width ≤ 4) × (at + width ≤ length (now b)) ⌝ }
     ensures { λ r. ⌜ (r ≡ number width (now (b .entry)) at) × (r < 256 ^ width) ⌝ }
 {
+    if width == 1 {
+        return wide(b[at]);
+    }
     let mut x: usize = 0;
     let mut i: usize = 0;
     while i < width {

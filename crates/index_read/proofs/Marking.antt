@@ -20,7 +20,7 @@ use Rattle.index.specs.Meaning.{count, below, once, namedOnce}
 use Rattle.index.specs.Reading.{numbersAt}
 use Rattle.index.proofs.Counting.{count-same, count-other}
 use Rattle.index.proofs.Naming.{all-named}
-use Rattle.index_read.specs.AidWalk.{marking, seenAfter, freeAll}
+use Rattle.index_read.specs.AidWalk.{marking, seenAfter, settled, freeAll}
 use Rattle.index_read.specs.declared.Marks.{Marks}
 
 record Sane (m : List ℕ) : Type 0 where
@@ -159,7 +159,7 @@ module _ (w n : ℕ) (m : Marks) (ib : List ℕ) (at left x : ℕ) (more : 0 < l
   unfolding marking
   mark-on g z = rw (there, lt-ltb x n g, eq-eqb (getD (m .seen) x 0) 0 z)
 
-  pub free-on : freeAll m (numbersAt w ib at left) ≡ freeAll (record { seen = set (m .seen) x 1; used = m .used; free = m .free + 1 }) (numbersAt w ib (at + w) (left - 1))
+  pub free-on : freeAll m (numbersAt w ib at left) ≡ freeAll (record { seen = set (m .seen) x 1; used = m .used; free = m .free + 1; ok = m .ok }) (numbersAt w ib (at + w) (left - 1))
   unfolding seenAfter
   free-on =
       let a : m .free + suc (length (numbersAt w ib (at + w) (left - 1))) ≡ m .free + 1 + length (numbersAt w ib (at + w) (left - 1)) = omega arith in
@@ -169,6 +169,6 @@ pub mark-end : (w n : ℕ) (m : Marks) (ib : List ℕ) (at left : ℕ) → left 
 unfolding marking numbersAt
 mark-end w n m ib at left h = sym (rw h)
 
-pub free-end : (w : ℕ) (m : Marks) (ib : List ℕ) (at left : ℕ) → left ≡ 0 → m ≡ freeAll m (numbersAt w ib at left)
+pub free-end : (w : ℕ) (m : Marks) (ib : List ℕ) (at left : ℕ) → left ≡ 0 → settled true m ≡ freeAll m (numbersAt w ib at left)
 unfolding seenAfter numbersAt
 free-end w m ib at left h = let a : m .free + 0 ≡ m .free = omega arith in rw (h, a)

@@ -18,7 +18,7 @@ use Rattle.index.specs.Reading.{lengthAt, pieceAt, piecesAt}
 use Rattle.index_step.specs.AidStep.{frontAt, charsAt, reach}
 use Rattle.index_step.proofs.Stepping.{extended-chars, extended-length}
 use Rattle.index_read.specs.AidParsing.{parsedOf}
-use Rattle.index_read.specs.AidWalk.{boundRises, nextIn, entryOf, chain, pieceNumbers, marking, seenAfter, usedAll, fineFrom}
+use Rattle.index_read.specs.AidWalk.{boundRises, nextIn, entryOf, chain, pieceNumbers, marking, seenAfter, settled, usedAll, fineFrom}
 use Rattle.index_read.specs.declared.Marks.{Marks}
 use Rattle.index_read.specs.declared.Parsed.the-variants.{Of, Bad}
 use Rattle.index_read.proofs.Entry.{Good, good, parses-joined, size-is, place-is, chars-length, reaches}
@@ -209,7 +209,7 @@ module _ (w K n e : ℕ) (ib : List ℕ) (count : ℕ) (m₀ m : Marks) (buf : L
         omega (arith, length-append (take f (st .ref)) (part ib at l), a, b)
 
     abbrev m' : Marks
-    m' = record { seen = set (m .seen) num 1; used = m .used + 1; free = m .free }
+    m' = record { seen = set (m .seen) num 1; used = m .used + 1; free = m .free; ok = m .ok }
 
     marks-on : usedAll m (pieceNumbers (piecesAt w ib r left)) ≡ usedAll m' (pieceNumbers (piecesAt w ib at (left - 1)))
     unfolding seenAfter
@@ -262,7 +262,7 @@ module _ (w K n e : ℕ) (ib : List ℕ) (count : ℕ) (m₀ m : Marks) (buf : L
   pub there : r ≡ e → eqb len 0 ≡ fineFrom w K n e ib (m₀ .seen) [] [] (length ib - 7) count
   there h = sym (last ∙ rw (eq-eqb r e h))
 
-  pub marks-end : m ≡ usedAll m₀ (pieceNumbers (piecesAt w ib (length ib - 7) count))
+  pub marks-end : settled true m ≡ usedAll m₀ (pieceNumbers (piecesAt w ib (length ib - 7) count))
   unfolding piecesAt seenAfter
   marks-end =
       let z : m .used + 0 ≡ m .used = omega arith in

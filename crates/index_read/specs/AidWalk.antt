@@ -83,13 +83,17 @@ seenAfter seen [] = seen
 seenAfter seen (x ∷ xs) = seenAfter (set seen x 1) xs
 
 abbrev pub emptyMarks : Marks
-emptyMarks = record { seen = replicate limit 0; used = 0; free = 0 }
+emptyMarks = record { seen = replicate limit 0; used = 0; free = 0; ok = true }
+
+-- the same with a verdict
+abbrev pub settled : Bool → Marks → Marks
+settled ok m = record { seen = m .seen; used = m .used; free = m .free; ok = ok }
 
 abbrev pub freeAll : Marks → List ℕ → Marks
-freeAll m xs = record { seen = seenAfter (m .seen) xs; used = m .used; free = m .free + length xs }
+freeAll m xs = record { seen = seenAfter (m .seen) xs; used = m .used; free = m .free + length xs; ok = true }
 
 abbrev pub usedAll : Marks → List ℕ → Marks
-usedAll m xs = record { seen = seenAfter (m .seen) xs; used = m .used + length xs; free = m .free }
+usedAll m xs = record { seen = seenAfter (m .seen) xs; used = m .used + length xs; free = m .free; ok = true }
 
 -- the entries from place r on keep the rules, and their numbers are new
 unfoldable pub fineFrom : ℕ → ℕ → ℕ → ℕ → List ℕ → List ℕ → List ℕ → List ℕ → ℕ → ℕ → Bool

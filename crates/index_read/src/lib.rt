@@ -12,22 +12,18 @@ ghost use Rattle.index.specs.Reading.{numbersAt, piecesAt, frame};
 ghost use Rattle.index_read.specs.Check.{indexBy, indexOf};
 ghost use Rattle.index_read.specs.AidParsing.{parsedOf};
 ghost use Rattle.index_read.specs.AidWalk.{Ascends, placesOf, entryOf, Renewed, marking};
-ghost use Rattle.index_read.specs.AidWalk.{fineFrom, pieceNumbers, emptyMarks, freeAll, usedAll, Walkable};
+ghost use Rattle.index_read.specs.AidWalk.{fineFrom, pieceNumbers, emptyMarks, settled, freeAll, usedAll, Walkable};
 use fields::Order;
 use index_step::BUFFER;
 use measures::LIMIT;
 
-// Which interval numbers were met, and how many of them as free and by entries.
+// Which interval numbers were met, how many of them as free and by entries, and whether all that was met kept the rules. One struct goes through
+// both walks: one that held it besides the verdict would be copied once more for each.
 pub(crate) struct Marks {
     pub seen: [u8; LIMIT],
     pub used: usize,
     pub free: usize,
-}
-
-// The marks after a walk, and whether all that it met kept the rules.
-pub(crate) struct Marked {
     pub ok: bool,
-    pub marks: Marks,
 }
 
 // One entry taken apart: F, L, the place of its characters, its pointer.
@@ -196,24 +192,24 @@ pub(crate) fn fresh() -> Marks
         seen: [0u8; LIMIT],
         used: 0,
         free: 0,
+        ok: true,
     }
 }
 
 // A walk's way out.
-pub(crate) fn judged(ok: bool, marks: Marks) -> Marked
-    ensures { λ r. ⌜ r ≡ record { ok = ok; marks = marks } ⌝ }
+pub(crate) fn judged(ok: bool, marks: Marks) -> Marks
+    ensures { λ r. ⌜ r ≡ settled ok marks ⌝ }
 {
-    Marked {
-        ok: ok,
-        marks: marks,
-    }
+    let mut m = marks;
+    m.ok = ok;
+    m
 }
 
 // Marks each of the free numbers; refuses one that is not below n, or is marked already.
-pub(crate) fn walk_free(marks: Marks, ib: &[u8], w: usize, count: usize, n: usize) -> Marked
+pub(crate) fn walk_free(marks: Marks, ib: &[u8], w: usize, count: usize, n: usize) -> Marks
     requires { ⌜ (1 ≤ w) × (w ≤ 4) × (24 + w * count ≤ length (now ib)) × (n ≤ limit) × (marks .free + count < 2 ^ 64) ⌝ }
     ensures sound { λ r. ⌜ r .ok ≡ marking n (marks .seen) (numbersAt w (now (ib .entry)) 24 count) ⌝ }
-    ensures marks { λ r. ⌜ (r .ok ≡ true → r .marks ≡ freeAll marks (numbersAt w (now (ib .entry)) 24 count)) ⌝ }
+    ensures marks { λ r. ⌜ (r .ok ≡ true → r ≡ freeAll marks (numbersAt w (now (ib .entry)) 24 count)) ⌝ }
 {
     let mut m = marks;
     let mut at = 24;
@@ -236,10 +232,10 @@ pub(crate) fn walk_free(marks: Marks, ib: &[u8], w: usize, count: usize, n: usiz
 
 // Walks `count` entries from the RDF leftwards and marks their numbers. The last must begin at the edge and have an
 // empty separator.
-pub(crate) fn walk_entries(marks: Marks, ib: &[u8], count: usize, by: Limits) -> Marked
+pub(crate) fn walk_entries(marks: Marks, ib: &[u8], count: usize, by: Limits) -> Marks
     requires { ⌜ Walkable (now ib) by marks count ⌝ }
     ensures sound { λ r. ⌜ r .ok ≡ fineFrom (by .width) (by .key) (by .n) (by .edge) (now (ib .entry)) (marks .seen) [] [] (length (now (ib .entry)) - 7) count ⌝ }
-    ensures marks { λ r. ⌜ (r .ok ≡ true → r .marks ≡ usedAll marks (pieceNumbers (piecesAt (by .width) (now (ib .entry)) (length (now (ib .entry)) - 7) count))) ⌝ }
+    ensures marks { λ r. ⌜ (r .ok ≡ true → r ≡ usedAll marks (pieceNumbers (piecesAt (by .width) (now (ib .entry)) (length (now (ib .entry)) - 7) count))) ⌝ }
 {
     let mut m = marks;
     let mut buf = [0u8; BUFFER];
@@ -378,12 +374,12 @@ pub(crate) fn check_with(ib: &[u8], key: usize, n: usize, w: usize) -> Index
         n: n,
         key: key,
     };
-    let e = walk_entries(f.marks, ib, n - free, by);
+    let e = walk_entries(f, ib, n - free, by);
     if !e.ok {
         return Index::Unsound;
     }
-    let spare = e.marks.free;
-    let used = e.marks.used;
+    let spare = e.free;
+    let used = e.used;
     Index::Sound {
         free: spare,
         entries: used,

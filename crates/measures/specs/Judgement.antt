@@ -9,13 +9,13 @@ use Rattle.measures.specs.declared.Measures.{Measures}
 use Rattle.measures.specs.declared.Judged.{Judged}
 use Rattle.measures.specs.declared.Judged.the-variants.{Fine, Outside}
 
--- the most data intervals of one area
+-- the most data intervals of one area: document 02, L6
 abbrev pub limit : ℕ
-limit = 256
+limit = 4096
 
--- the bytes of a pointer and of a free number in the index record of n data intervals: document 01, 'Index record'
+-- the bytes of a pointer and of a free number in the index record of n data intervals: document 01, 'Index record', and document 02, L6
 unfoldable pub widthFor : ℕ → ℕ
-widthFor n = 1
+widthFor n = pick (leb n 256) 1 2
 
 -- the measures of a request: the shortest record ends with its key
 abbrev pub measures : ℕ → ℕ → ℕ → ℕ → Measures

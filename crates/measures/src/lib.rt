@@ -27,13 +27,16 @@ pub enum Judged {
 }
 
 // The most data intervals that one control area has.
-pub const LIMIT: usize = 256;
+pub const LIMIT: usize = 4096;
 
 // The bytes of a pointer and of a free number, by the number of data intervals.
 pub fn width_for(n: usize) -> usize
     ensures { λ r. ⌜ r ≡ widthFor n ⌝ }
 {
-    1
+    if n <= 256 {
+        return 1;
+    }
+    2
 }
 
 // Source document 001, chapter 6.

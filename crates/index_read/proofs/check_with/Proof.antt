@@ -118,7 +118,7 @@ walk-entries-requires c κs = let a = start-from-walk-free (c .before .before) .
         arith,
         p .4,
         counts (a .w) (a .key) (a .n) (now (a .ib)) (frames q) (bases q) (p .4) (h .0) (h .1 .0) (places q) (c .before .before .before .fresh .result)
-            (c .before .before .before .fresh .ensures) (sym ok ∙ w .ensures .0) (w .result .marks) (w .ensures .1 ok),
+            (c .before .before .before .fresh .ensures) (sym ok ∙ w .ensures .0) (w .result) (w .ensures .1 ok),
       ),
     )
 
@@ -131,7 +131,7 @@ returns-5 c = let a = start-from-walk-free (c .before .before .before .before .b
     let v = c .before .before .walk-entries in
     let ok : w .result .ok ≡ true = not-false _ (c .before .before .before .if3 .left) in
     no-chain (a .w) (a .key) (a .n) (now (a .ib)) (frames q) (bases q) (p .4) (h .0) (h .1 .0) (places q) (c .before .before .before .before .before .before .fresh .result)
-    (c .before .before .before .before .before .before .fresh .ensures) (sym ok ∙ w .ensures .0) (w .result .marks) (w .ensures .1 ok) (sym (not-true _ (c .if4 .taken)) ∙ v .ensures .0)
+    (c .before .before .before .before .before .before .fresh .ensures) (sym ok ∙ w .ensures .0) (w .result) (w .ensures .1 ok) (sym (not-true _ (c .if4 .taken)) ∙ v .ensures .0)
 
 returns-6 : tie.Need-returns-6
 returns-6 c = let a = start-from-walk-free (c .before .before .before .before .before) .args in
@@ -143,7 +143,7 @@ returns-6 c = let a = start-from-walk-free (c .before .before .before .before .b
     let ok : w .result .ok ≡ true = not-false _ (c .before .before .before .if3 .left) in
     let fine : v .result .ok ≡ true = not-false _ (c .if4 .left) in
     all-fine (a .w) (a .key) (a .n) (now (a .ib)) (frames q) (bases q) (p .4) (h .0) (h .1 .0) (places q) (c .before .before .before .before .before .before .fresh .result)
-    (c .before .before .before .before .before .before .fresh .ensures) (sym ok ∙ w .ensures .0) (w .result .marks) (w .ensures .1 ok) (sym fine ∙ v .ensures .0) (v .result .marks)
+    (c .before .before .before .before .before .before .fresh .ensures) (sym ok ∙ w .ensures .0) (w .result) (w .ensures .1 ok) (sym fine ∙ v .ensures .0) (v .result)
     (v .ensures .1 fine)
 
 pub check-with-spec : {M : Type 1} → statement M

@@ -3,14 +3,15 @@
 -- The whole record is fine exactly where the entries from r on are fine after that separator, with the marks made so far;
 -- and the marks at the end are those so far with the numbers of the entries from r on added.
 -- Measure: the entries left.
-use mathlib.Core.Path.{_≡_, sym, _∙_}
+use mathlib.Core.Path.{_≡_, sym, _∙_, ap}
 use lib.Dec.{eqb}
+use mathlib.Core.Bool.{Bool}
 use native.Mathlib.Omega.{arith}
 use denote.Ref.{now}
 use borrow.Author.Needs.{needs}
 use Rattle.fields.specs.Bytes.{part, splice}
 use Rattle.fields.proofs.Choices.{false-true}
-use Rattle.index_read.specs.AidWalk.{entryOf}
+use Rattle.index_read.specs.AidWalk.{entryOf, settled}
 use Rattle.index_read.specs.declared.Parsed.the-variants.{Of}
 use Rattle.index_step.specs.AidStep.{reach}
 use Rattle.index_read.proofs.Entry.{Good}
@@ -178,7 +179,7 @@ returns-5 c = let a = c .before .before .before .before .before .before .args in
     rw (c .judged5 .ensures) (
       there (a .by .width) (a .by .key) (a .by .n) (a .by .edge) (now (a .ib)) (a .count) (a .marks) (o .m) (o .buf) (o .len) (o .r) (o .left) (o .inv) (omega arith)
           (c .before .if3 .left),
-      λ z. marks-end (a .by .width) (a .by .key) (a .by .n) (a .by .edge) (now (a .ib)) (a .count) (a .marks) (o .m) (o .buf) (o .len) (o .r) (o .left) (o .inv) (omega arith),
+      λ z. ap (λ (t : Bool). settled t (o .m)) z ∙ marks-end (a .by .width) (a .by .key) (a .by .n) (a .by .edge) (now (a .ib)) (a .count) (a .marks) (o .m) (o .buf) (o .len) (o .r) (o .left) (o .inv) (omega arith),
     )
 
 pub walk-entries-spec : {M : Type 1} → statement M
