@@ -38,6 +38,11 @@ length-partsBytes w [] = refl
 length-partsBytes w (p ∷ ps) =
     length-append (partsBytes w ps) (partBytes w p ps) ∙ omega (arith, length-partsBytes w ps, length-partBytes w p ps)
 
+pub length-spellAll : (high ref : List ℕ) (ps : List Part) → length (spellAll high ref ps) ≡ length ps
+unfolding spellAll
+length-spellAll high ref [] = refl
+length-spellAll high ref (p ∷ ps) = ap suc (length-spellAll (highAfter high ref p) (sepOf high ref p) ps)
+
 -- ---- entries of which the last closes a section
 
 -- some section follows

@@ -1,2 +1,4 @@
 pub mod Vectors
 pub mod Laying
+pub mod Placing
+pub mod NeverDamaged
