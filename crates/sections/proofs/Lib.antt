@@ -1,1 +1,4 @@
 pub mod Vectors
+pub mod Sounding
+pub mod Apart
+pub mod OnlyLaidOut
