@@ -2,3 +2,6 @@ pub mod Vectors
 pub mod Laying
 pub mod Placing
 pub mod NeverDamaged
+pub mod Sounding
+pub mod Apart
+pub mod OnlyLaidOut
