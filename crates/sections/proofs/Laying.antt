@@ -89,7 +89,7 @@ part-is : (w : ℕ) (b : List ℕ) (r end : ℕ) (x : Part) → pieceAt w b r �
     → record { piece = pieceAt w b r; closes = eqb (r - (w + 2)) end } ≡ x
 part-is w b r end x p c = rw (p, c)
 
-parts-cons : (w : ℕ) (b : List ℕ) (r end e : ℕ) (x : Part) → pieceAt w b r ≡ x .piece → eqb (r - (w + 2)) end ≡ x .closes
+pub parts-cons : (w : ℕ) (b : List ℕ) (r end e : ℕ) (x : Part) → pieceAt w b r ≡ x .piece → eqb (r - (w + 2)) end ≡ x .closes
     → partsAt w b r end (suc e) ≡ x ∷ partsAt w b (r - partSize w x) (pick (x .closes) (end - number 2 b (r - partSize w x)) end) e
 unfolding partsAt
 parts-cons w b r end e x p c =

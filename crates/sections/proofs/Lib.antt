@@ -5,3 +5,4 @@ pub mod NeverDamaged
 pub mod Sounding
 pub mod Apart
 pub mod OnlyLaidOut
+pub mod Old

@@ -2,3 +2,4 @@ pub mod Parts
 pub mod Layout
 pub mod Form
 pub mod Reading
+pub mod Old
