@@ -3,27 +3,31 @@
 use Prim.Native.Nat.{ℕ, suc, _+_, _-_, _*_, _^_, _≤_, _<_}
 use mathlib.Core.Path.{_≡_, refl, _∙_, sym, ap, subst}
 use mathlib.Core.Bool.{Bool, true, false}
-use mathlib.Core.List.{List, [], _∷_, _++_, append-assoc}
-use lib.ListN.{length, length-append}
+use mathlib.Core.List.{List, [], _∷_, _++_}
+use mathlib.Core.Logic.{_↔_}
+use lib.ListN.{length, take, length-append}
+use lib.Seq.{length-take-le}
 use lib.Dec.{leb, eqb}
 use native.Mathlib.Omega.{arith}
-use borrow.Author.Tests.{eq-eqb, ne-eqb, lt-leb, le-leb}
+use borrow.Author.Tests.{eq-eqb, ne-eqb, eqb-true, lt-leb, le-leb, leb-true}
 use Rattle.fields.specs.Choice.{pick, both}
-use Rattle.fields.proofs.Choices.{false-true}
+use Rattle.fields.specs.Table.{sameList}
+use Rattle.fields.proofs.Choices.{false-true, both-true, both-split, both-join, same-means}
 use Rattle.fields.specs.Bytes.{number, digits}
-use Rattle.index.specs.Meaning.{Entry, Meaning}
-use Rattle.index.specs.Rules.{keepsRules}
-use Rattle.index.specs.Pieces.{Piece, pieceSize, piecesSize, lastChars}
+use Rattle.index.specs.Meaning.{Meaning, entry}
+use Rattle.index.specs.Rules.{closed, keepsRules}
+use Rattle.index.specs.Pieces.{Piece, spelt, spell, frontsFit, pieceSize, piecesSize, lastChars}
 use Rattle.index.specs.Layout as old
 use Rattle.index.specs.Reading as old-reading
 use Rattle.index.specs.Search.{leadsTo}
 use Rattle.index.proofs.NeverDamaged as old-law
 use Rattle.index.proofs.Sounding as old-sounding
 use Rattle.index.proofs.Apart.{length-piecesAt}
-use Rattle.sections.specs.Parts.{Part, partsSize, sectionsIn, endsClosed, spreadFine}
+use Rattle.index.proofs.Keeping.{rules-apart}
+use Rattle.sections.specs.Parts.{Part, spellAll, frontsIn, partsSize, sectionsIn, endsClosed, spreadFine}
 use Rattle.sections.specs.Layout.{ahead, lastLong, LaidOut}
 use Rattle.sections.specs.Old.{lastOnly}
-use Rattle.sections.specs.Reading.{partsAt, partsIn, readIndex, soundIndex}
+use Rattle.sections.specs.Reading.{partsAt, partsIn, readIndex, fieldsTrue, places, soundIndex}
 use Rattle.sections.proofs.Laying.{parts-cons}
 use Rattle.sections.proofs.Sounding.{sound-apart}
 use Rattle.sections.proofs.NeverDamaged.{index-reads}
@@ -126,6 +130,109 @@ module _ (w K n : ℕ) (low end : List ℕ) (ib : List ℕ) (sound : old-reading
           let r : spreadFine (lastOnly (p ∷ q ∷ x ∷ ps)) ≡ true = rw (one-section p (q ∷ x ∷ ps) e) at (sound-apart w K n low end ib h .spread) in
           absurd (false-true (sym refused ∙ r))
       go false h = refl
+
+-- ---- one entry or two
+
+-- the field is the one of the last
+only-fields : (w : ℕ) (ib : List ℕ) (p : Piece) (ps : List Piece) (r : ℕ) → fieldsTrue w ib r (lastOnly (p ∷ ps)) ≡ eqb (number 2 ib (r - (piecesSize w (p ∷ ps) + 2))) 0
+unfolding lastOnly fieldsTrue piecesSize sectionsIn
+only-fields w ib p [] r = let z : r - (pieceSize w p + 2) ≡ r - (pieceSize w p + 0 + 2) = omega arith in rw z (both-true _)
+only-fields w ib p (q ∷ ps) r =
+    let z : r - (pieceSize w p + 0) - (piecesSize w (q ∷ ps) + 2) ≡ r - (pieceSize w p + piecesSize w (q ∷ ps) + 2) = omega arith in
+    only-fields w ib q ps (r - (pieceSize w p + 0)) ∙ rw z
+
+-- an empty separator takes over nothing
+empty-front : (ref : List ℕ) (q : Piece) → q .front ≤ length ref → spelt ref q ≡ [] → (q .front ≡ 0) × (q .chars ≡ [])
+empty-front ref q h e =
+    let l : length (take (q .front) ref ++ q .chars) ≡ 0 = ap length e in
+    let a : length (take (q .front) ref) ≡ q .front = length-take-le (q .front) ref h in
+    (omega (arith, length-append (take (q .front) ref) (q .chars)), none-long (q .chars) (omega (arith, length-append (take (q .front) ref) (q .chars))))
+  where
+    none-long : (xs : List ℕ) → length xs ≡ 0 → xs ≡ []
+    none-long [] k = refl
+    none-long (x ∷ xs) k = absurd (omega arith)
+
+module _ (w K n : ℕ) (ib : List ℕ) (sound : old-reading.soundIndex w K n [] [] ib ≡ true) where
+  then : old-sounding.Sound w K n [] [] ib
+  then = old-sounding.sound-apart w K n [] [] ib sound
+
+  -- there are two bytes of unused space, and the last two are zero
+  abbrev FieldThere : List Piece → Type 0
+  FieldThere ps = (old-reading.unusedAt ib + (piecesSize w ps + 2) ≤ length ib - 7) × (number 2 ib (length ib - 7 - (piecesSize w ps + 2)) ≡ 0)
+
+  module _ (p : Piece) (ps : List Piece) (are : old-reading.piecesIn w n ib ≡ p ∷ ps) (few : length (p ∷ ps) ≤ 2) (fits : frontsIn [] [] (lastOnly (p ∷ ps)) ≡ true)
+      (same : spellAll [] [] (lastOnly (p ∷ ps)) ≡ spell [] (p ∷ ps)) where
+    read-same : readIndex w n ib ≡ old-reading.readIndex w n ib
+    unfolding readIndex old-reading.readIndex
+    read-same = rw (one-section w K n [] [] ib sound p ps are, are, same)
+
+    frame-true : old-reading.frame w ib ≡ true
+    unfolding old-reading.soundIndex
+    frame-true = both-split _ _ sound .0
+
+    spread-true : spreadFine (lastOnly (p ∷ ps)) ≡ true
+    spread-true =
+        let a : leb (sectionsIn (lastOnly (p ∷ ps))) 1 ≡ true = le-leb (sectionsIn (lastOnly (p ∷ ps))) 1 (omega (arith, only-sections p ps)) in
+        let b : leb (length (lastOnly (p ∷ ps))) 2 ≡ true = le-leb (length (lastOnly (p ∷ ps))) 2 (omega (arith, only-length (p ∷ ps), few)) in
+        rw (a, b)
+
+    places-true : FieldThere (p ∷ ps) → places w n ib ≡ true
+    unfolding places
+    places-true f =
+        let l : old-reading.lastAt ib + piecesSize w (p ∷ ps) ≡ length ib - 7 + length (lastChars (p ∷ ps)) = rw are at (then .placed .last) in
+        let a : old-reading.unusedAt ib + piecesSize w (p ∷ ps) ≤ length ib - 7 = rw are at (then .placed .apart) in
+        let b1 : old-reading.unusedAt ib + partsSize w (lastOnly (p ∷ ps)) ≤ length ib - 7 = omega (arith, f .0, only-size w p ps) in
+        let b2 : old-reading.lastAt ib + partsSize w (lastOnly (p ∷ ps)) ≡ length ib - 7 + 2 + lastLong (lastOnly (p ∷ ps)) =
+        omega (arith, l, only-size w p ps, only-last p ps) in
+        let b3 : old-reading.sectionAt ib + ahead w (lastOnly (p ∷ ps)) ≡ length ib - 7 = omega (arith, l, a, then .placed .section, only-ahead w p ps) in
+        rw (one-section w K n [] [] ib sound p ps are)
+        (both-join _ _ (eq-eqb _ _ (then .placed .unused))
+        (both-join _ _ (le-leb _ _ (then .placed .few))
+        (both-join _ _ (le-leb _ _ b1)
+        (both-join _ _ (only-closed p ps)
+        (both-join _ _ (only-fields w ib p ps (length ib - 7) ∙ eq-eqb _ _ (f .1)) (both-join _ _ (eq-eqb _ _ b2) (eq-eqb _ _ b3)))))))
+
+    short-sound : FieldThere (p ∷ ps) → soundIndex w K n [] [] ib ≡ true
+    unfolding soundIndex
+    short-sound f =
+        let o = one-section w K n [] [] ib sound p ps are in
+        let a : spreadFine (partsIn w n ib) ≡ true = rw o spread-true in
+        let b : frontsIn [] [] (partsIn w n ib) ≡ true = rw o fits in
+        let c : keepsRules (length ib) K n [] [] (readIndex w n ib) ≡ true = rw read-same (then .rules) in
+        both-join _ _ frame-true (both-join _ _ (places-true f) (both-join _ _ a (both-join _ _ b c)))
+
+    short-only : soundIndex w K n [] [] ib ≡ true → FieldThere (p ∷ ps)
+    short-only h =
+        let s = sound-apart w K n [] [] ib h in
+        let o = one-section w K n [] [] ib sound p ps are in
+        let a : old-reading.unusedAt ib + partsSize w (lastOnly (p ∷ ps)) ≤ length ib - 7 = rw o at (s .placed .apart) in
+        let t : fieldsTrue w ib (length ib - 7) (lastOnly (p ∷ ps)) ≡ true = rw o at (s .placed .fields) in
+        (omega (arith, a, only-size w p ps), eqb-true _ _ (sym (only-fields w ib p ps (length ib - 7)) ∙ t))
+
+  -- A record in the old form with one entry is sound exactly if the field is there, and it then means the same.
+  pub old-form-one : (p : Piece) → old-reading.piecesIn w n ib ≡ p ∷ []
+      → ((soundIndex w K n [] [] ib ≡ true) ↔ FieldThere (p ∷ [])) × (readIndex w n ib ≡ old-reading.readIndex w n ib)
+  unfolding frontsFit frontsIn spellAll spell lastOnly
+  old-form-one p are =
+      let f : frontsFit [] (p ∷ []) ≡ true = rw are at (then .fronts) in
+      ((short-only p [] are (omega arith) f refl, short-sound p [] are (omega arith) f refl), read-same p [] are (omega arith) f refl)
+
+  -- And so with two: the last separator is empty, so that it takes over nothing, whatever it is compressed against.
+  pub old-form-two : (p q : Piece) → old-reading.piecesIn w n ib ≡ p ∷ q ∷ []
+      → ((soundIndex w K n [] [] ib ≡ true) ↔ FieldThere (p ∷ q ∷ [])) × (readIndex w n ib ≡ old-reading.readIndex w n ib)
+  unfolding frontsFit frontsIn spellAll spell lastOnly closed old-reading.readIndex
+  old-form-two p q are =
+      let f : both (leb (p .front) 0) (both (leb (q .front) (length (spelt [] p))) true) ≡ true = rw are at (then .fronts) in
+      let f1 = both-split (leb (p .front) 0) (both (leb (q .front) (length (spelt [] p))) true) f in
+      let f2 = both-split (leb (q .front) (length (spelt [] p))) true (f1 .1) in
+      let k = rules-apart (length ib) K n [] [] (old-reading.readIndex w n ib) (then .rules) in
+      let c : sameList (spelt (spelt [] p) q) [] ≡ true = rw are at (k .closing) in
+      let z = empty-front (spelt [] p) q (leb-true _ _ (f2 .0)) (same-means _ [] c) in
+      let g : both (leb (p .front) 0) (both (leb (q .front) 0) true) ≡ true =
+      both-join (leb (p .front) 0) (both (leb (q .front) 0) true) (f1 .0) (both-join (leb (q .front) 0) true (le-leb (q .front) 0 (omega (arith, z .0))) refl) in
+      let e : spelt [] q ≡ spelt (spelt [] p) q = rw (z .0, z .1) in
+      let same = ap (λ (x : List ℕ). entry (spelt [] p) (p .num) ∷ entry x (q .num) ∷ []) e in
+      ((short-only p (q ∷ []) are (omega arith) g same, short-sound p (q ∷ []) are (omega arith) g same), read-same p (q ∷ []) are (omega arith) g same)
 
 -- ---- where keys lead
 
