@@ -13,35 +13,14 @@ use Rattle.fields.specs.Lists.{every}
 use Rattle.fields.proofs.Choices.{both-split, both-join, false-true}
 use Rattle.fields.proofs.Numbers.{length-digits, number-seam}
 use Rattle.index.specs.Meaning.{numbers, below}
-use Rattle.index.specs.Pieces.{Piece, pieceSize}
+use Rattle.index.specs.Pieces.{pieceSize}
 use Rattle.index.specs.Layout.{pieceBytes}
 use Rattle.index.specs.Reading.{pieceAt}
-use Rattle.index.proofs.Compressing.{length-pieceBytes}
 use Rattle.index.proofs.Laying.{piece-there}
 use Rattle.sections.specs.Parts.{Part, sepOf, highAfter, spellAll, partSize, partsSize, sectionsIn, endsClosed}
 use Rattle.sections.specs.Layout.{ahead, fieldOf, partBytes, partsBytes}
 use Rattle.sections.specs.Reading.{partsAt, fieldsTrue}
-
--- ---- sizes
-
-pub length-partBytes : (w : ℕ) (p : Part) (ps : List Part) → length (partBytes w p ps) ≡ partSize w p
-unfolding partBytes
-length-partBytes w p ps = go (p .closes)
-  where
-    go : (t : Bool) → length (pick t (digits 2 (fieldOf w p ps)) [] ++ pieceBytes w (p .piece)) ≡ pieceSize w (p .piece) + pick t 2 0
-    go true = length-append (digits 2 (fieldOf w p ps)) (pieceBytes w (p .piece)) ∙ omega (arith, length-digits 2 (fieldOf w p ps), length-pieceBytes w (p .piece))
-    go false = omega (arith, length-pieceBytes w (p .piece))
-
-pub length-partsBytes : (w : ℕ) (ps : List Part) → length (partsBytes w ps) ≡ partsSize w ps
-unfolding partsBytes partsSize
-length-partsBytes w [] = refl
-length-partsBytes w (p ∷ ps) =
-    length-append (partsBytes w ps) (partBytes w p ps) ∙ omega (arith, length-partsBytes w ps, length-partBytes w p ps)
-
-pub length-spellAll : (high ref : List ℕ) (ps : List Part) → length (spellAll high ref ps) ≡ length ps
-unfolding spellAll
-length-spellAll high ref [] = refl
-length-spellAll high ref (p ∷ ps) = ap suc (length-spellAll (highAfter high ref p) (sepOf high ref p) ps)
+use Rattle.sections.proofs.Sizes.{length-partsBytes}
 
 -- ---- entries of which the last closes a section
 

@@ -1,4 +1,5 @@
 pub mod Vectors
+pub mod Sizes
 pub mod Laying
 pub mod Placing
 pub mod NeverDamaged
@@ -6,3 +7,7 @@ pub mod Sounding
 pub mod Apart
 pub mod OnlyLaidOut
 pub mod Old
+pub mod Roots
+pub mod Forming
+pub mod Shortest
+pub mod ReadsBack

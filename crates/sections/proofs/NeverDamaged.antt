@@ -13,7 +13,7 @@ use Rattle.sections.specs.Layout.{recordLength, LaidOut}
 use Rattle.sections.specs.Reading.{readIndex, soundIndex}
 use Rattle.index.proofs.Naming.{free-and-used, both-below}
 use Rattle.index.proofs.Keeping.{Keeps, rules-apart}
-use Rattle.sections.proofs.Laying.{length-spellAll}
+use Rattle.sections.proofs.Sizes.{length-spellAll}
 use Rattle.sections.proofs.Placing.{length-layout, frame-there, all-there, read-there, places-there}
 
 module _ (w S K n : ℕ) (low end : List ℕ) (m : Meaning) (ib : List ℕ) (width : 1 ≤ w) (wide : n ≤ 256 ^ w) (size : S ≤ 32768)

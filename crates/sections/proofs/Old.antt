@@ -1,6 +1,6 @@
 -- Index records in the old form, without sections: read as ones with a single section. So those of three entries or more are refused, and those of one or two
 -- are sound exactly if two zero bytes stand where the section's field is; and a key leads to the same interval by the old form and by the new.
-use Prim.Native.Nat.{ℕ, suc, _+_, _-_, _*_, _^_, _≤_, _<_}
+use Prim.Native.Nat.{ℕ, suc, _+_, _-_, _^_, _≤_}
 use mathlib.Core.Path.{_≡_, refl, _∙_, sym, ap, subst}
 use mathlib.Core.Bool.{Bool, true, false}
 use mathlib.Core.List.{List, [], _∷_, _++_}
@@ -10,10 +10,10 @@ use lib.Seq.{length-take-le}
 use lib.Dec.{leb, eqb}
 use native.Mathlib.Omega.{arith}
 use borrow.Author.Tests.{eq-eqb, ne-eqb, eqb-true, lt-leb, le-leb, leb-true}
-use Rattle.fields.specs.Choice.{pick, both}
+use Rattle.fields.specs.Choice.{both}
 use Rattle.fields.specs.Table.{sameList}
 use Rattle.fields.proofs.Choices.{false-true, both-true, both-split, both-join, same-means}
-use Rattle.fields.specs.Bytes.{number, digits}
+use Rattle.fields.specs.Bytes.{number}
 use Rattle.index.specs.Meaning.{Meaning, entry}
 use Rattle.index.specs.Rules.{closed, keepsRules}
 use Rattle.index.specs.Pieces.{Piece, spelt, spell, frontsFit, pieceSize, piecesSize, lastChars}

@@ -17,8 +17,9 @@ use Rattle.index.proofs.Compressing.{length-freeBytes}
 use Rattle.index.proofs.Laying.{free-there}
 use Rattle.sections.specs.Parts.{Part, spellAll, partsSize, endsClosed}
 use Rattle.sections.specs.Layout.{ahead, partsBytes, lastLong, lastPlace, recordLength, sectionPlace, header, layout}
-use Rattle.sections.specs.Reading.{partsIn, readIndex, fieldsTrue, places}
-use Rattle.sections.proofs.Laying.{length-partsBytes, ahead-most, parts-there, fields-there}
+use Rattle.sections.specs.Reading.{partsIn, readIndex, places}
+use Rattle.sections.proofs.Sizes.{length-partsBytes}
+use Rattle.sections.proofs.Laying.{ahead-most, parts-there, fields-there}
 
 -- the last entry's characters and its section's field lie among the entries
 last-short : (ps : List Part) (w : ℕ) → endsClosed ps ≡ true → lastLong ps + 2 ≤ partsSize w ps

@@ -1,10 +1,10 @@
 -- The writer's form of an index record: document 02, L5. Sections of c entries from the low end, c the least whose square is no less than the number of
 -- entries, the last section with the rest; F as long as it can be; zeros in the unused space.
 use Prim.Native.Nat.{ℕ, zero, suc, _+_, _-_, _*_}
-use mathlib.Core.Bool.{Bool, true, false}
+use mathlib.Core.Bool.{true, false}
 use mathlib.Core.List.{List, [], _∷_}
 use lib.ListN.{length, replicate}
-use lib.Dec.{leb, eqb}
+use lib.Dec.{leb}
 use Rattle.fields.specs.Choice.{pick}
 use Rattle.index.specs.Meaning.{Entry, Meaning}
 use Rattle.index.specs.Form.{pack}

@@ -1,8 +1,8 @@
 -- The layout of an index record with sections, as a grammar: document 02, L5; source document 001, appendix D. Bytes are put together by concatenation
 -- only, fields from the lengths of what is laid; nothing here reads. w is the width of a pointer and of a free number.
-use Prim.Native.Nat.{ℕ, _+_, _-_, _*_, _^_}
+use Prim.Native.Nat.{ℕ, _+_, _-_, _^_}
 use mathlib.Core.Path.{_≡_}
-use mathlib.Core.Bool.{Bool, true, false}
+use mathlib.Core.Bool.{true}
 use mathlib.Core.List.{List, [], _∷_, _++_, map}
 use lib.ListN.{length}
 use lib.Dec.{eqb}

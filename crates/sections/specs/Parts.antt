@@ -6,7 +6,6 @@ use mathlib.Core.List.{List, [], _∷_}
 use lib.ListN.{length}
 use lib.Dec.{leb}
 use Rattle.fields.specs.Choice.{pick, both}
-use Rattle.fields.specs.Lists.{every}
 use Rattle.index.specs.Meaning.{Entry}
 use Rattle.index.specs.Pieces.{Piece, spelt, pieceSize}
 

@@ -1,6 +1,6 @@
 -- The reading of an index record with sections, and when it is sound: document 02, L5. S is the length of ib itself; w is the width of a pointer.
 use Prim.Native.Nat.{ℕ, zero, suc, _+_, _-_, _*_}
-use mathlib.Core.Bool.{Bool, true, false}
+use mathlib.Core.Bool.{Bool, true}
 use mathlib.Core.List.{List, [], _∷_}
 use lib.ListN.{length, getD}
 use lib.Dec.{eqb, leb}
