@@ -103,7 +103,8 @@ packed-closed c left high ref (e ∷ []) h = unfold endsClosed in refl
 packed-closed c left high ref (e ∷ f ∷ es) h =
     go (leb left 1) (packed-closed c c (e .sep) (e .sep) (f ∷ es) (omega arith)) (packed-closed c (left - 1) high (e .sep) (f ∷ es) (omega arith))
   where
-    go : (t : Bool) → endsClosed (past-top c e (f ∷ es)) ≡ true → endsClosed (past-inner c left high e (f ∷ es)) ≡ true → endsClosed (pick t (top high e ∷ (past-top c e (f ∷ es))) (inner ref e ∷ (past-inner c left high e (f ∷ es)))) ≡ true
+    go : (t : Bool) → endsClosed (past-top c e (f ∷ es)) ≡ true → endsClosed (past-inner c left high e (f ∷ es)) ≡ true
+        → endsClosed (pick t (top high e ∷ (past-top c e (f ∷ es))) (inner ref e ∷ (past-inner c left high e (f ∷ es)))) ≡ true
     go true i j = ends-more (top high e) (past-top c e (f ∷ es)) i
     go false i j = ends-more (inner ref e) (past-inner c left high e (f ∷ es)) j
 
@@ -130,7 +131,8 @@ packed-some c left high ref (e ∷ []) h = omega arith
 packed-some c left high ref (e ∷ f ∷ es) h =
     go (leb left 1) (packed-some c (left - 1) high (e .sep) (f ∷ es) (omega arith))
   where
-    go : (t : Bool) → 1 ≤ sectionsIn (past-inner c left high e (f ∷ es)) → 1 ≤ sectionsIn (pick t (top high e ∷ (past-top c e (f ∷ es))) (inner ref e ∷ (past-inner c left high e (f ∷ es))))
+    go : (t : Bool) → 1 ≤ sectionsIn (past-inner c left high e (f ∷ es))
+        → 1 ≤ sectionsIn (pick t (top high e ∷ (past-top c e (f ∷ es))) (inner ref e ∷ (past-inner c left high e (f ∷ es))))
     go true j = omega arith
     go false j = omega arith
 

@@ -13,8 +13,8 @@ use Rattle.sections.specs.Layout.{recordLength, LaidOut}
 use Rattle.sections.specs.Reading.{readIndex, soundIndex}
 use Rattle.index.proofs.Naming.{free-and-used, both-below}
 use Rattle.index.proofs.Keeping.{Keeps, rules-apart}
-use Rattle.sections.proofs.Sizes.{length-spellAll}
-use Rattle.sections.proofs.Placing.{length-layout, frame-there, all-there, read-there, places-there}
+use Rattle.sections.proofs.Sizes.{length-spellAll, length-layout}
+use Rattle.sections.proofs.Placing.{frame-there, all-there, read-there, places-there}
 
 module _ (w S K n : ℕ) (low end : List ℕ) (m : Meaning) (ib : List ℕ) (width : 1 ≤ w) (wide : n ≤ 256 ^ w) (size : S ≤ 32768)
     (laid : LaidOut w S m ib) (rules : keepsRules S K n low end m ≡ true) where
@@ -32,7 +32,7 @@ module _ (w S K n : ℕ) (low end : List ℕ) (m : Meaning) (ib : List ℕ) (wid
       omega (arith, free-and-used n m (kept .naming), ap (λ (es : List Entry). length es) (laid .spells), length-spellAll [] [] (laid .parts))
 
   whole : S ≡ recordLength w m (laid .unused) (laid .parts) + 7
-  whole = sym (laid .size) ∙ ap length (laid .bytes) ∙ length-layout w m (laid .unused) (laid .parts) (laid .twelve) (laid .closed)
+  whole = sym (laid .size) ∙ ap length (laid .bytes) ∙ length-layout w m (laid .unused) (laid .parts) (laid .twelve)
 
   small : recordLength w m (laid .unused) (laid .parts) < 65536
   small = omega (arith, whole)

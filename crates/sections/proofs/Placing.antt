@@ -1,6 +1,6 @@
 -- Where everything lies in a layout: each field, number and entry that is read there is what was laid.
 use Prim.Native.Nat.{ℕ, _+_, _-_, _*_, _^_, _≤_, _<_}
-use mathlib.Core.Path.{_≡_, refl, _∙_, ap}
+use mathlib.Core.Path.{_≡_, refl, _∙_}
 use mathlib.Core.Bool.{true}
 use mathlib.Core.List.{List, [], _∷_, _++_, append-assoc, append-nil}
 use lib.ListN.{length, getD, length-append}
@@ -18,7 +18,7 @@ use Rattle.index.proofs.Laying.{free-there}
 use Rattle.sections.specs.Parts.{Part, spellAll, partsSize, endsClosed}
 use Rattle.sections.specs.Layout.{ahead, partsBytes, lastLong, lastPlace, recordLength, sectionPlace, header, layout}
 use Rattle.sections.specs.Reading.{partsIn, readIndex, places}
-use Rattle.sections.proofs.Sizes.{length-partsBytes}
+use Rattle.sections.proofs.Sizes.{length-partsBytes, length-header, length-layout}
 use Rattle.sections.proofs.Laying.{ahead-most, parts-there, fields-there}
 
 -- the last entry's characters and its section's field lie among the entries
@@ -107,8 +107,7 @@ module _ (w : ℕ) (m : Meaning) (unused : List ℕ) (ps : List Part) (kept12 : 
   head24 = header w m R U E F
 
   length-24 : length head24 ≡ 24
-  unfolding header
-  length-24 = simp (length-append, length-digits) (omega (arith, kept12))
+  length-24 = length-header w m R U E F kept12
 
   parted : b ≡ head24 ++ body
   unfolding layout
@@ -132,12 +131,8 @@ module _ (w : ℕ) (m : Meaning) (unused : List ℕ) (ps : List Part) (kept12 : 
   unfolding trailer
   ended = parted ∙ simp append-assoc
 
-  -- The bytes laid are the record and the seven of RDF and CIDF.
-  pub length-layout : length b ≡ R + 7
-  length-layout =
-      let t : List ℕ = 0 ∷ (digits 2 R ++ (digits 2 R ++ digits 2 0)) in
-      let e : length t ≡ 7 = simp (length-append, length-digits) in
-      ap length ended ∙ length-append most t ∙ omega (arith, length-most, e)
+  long : length b ≡ R + 7
+  long = length-layout w m unused ps kept12
 
   at-rdf : getD b R 0 ≡ 0
   at-rdf = at-seam b most (digits 2 R ++ (digits 2 R ++ digits 2 0)) 0 R ended length-most
@@ -174,10 +169,10 @@ module _ (w : ℕ) (m : Meaning) (unused : List ℕ) (ps : List Part) (kept12 : 
     pub frame-there : frame w b ≡ true
     unfolding frame
     frame-there =
-        let r7 : length b - 7 ≡ R = omega (arith, length-layout) in
-        let r6 : length b - 6 ≡ R + 1 = omega (arith, length-layout) in
-        let r4 : length b - 4 ≡ R + 3 = omega (arith, length-layout) in
-        let r2 : length b - 2 ≡ R + 5 = omega (arith, length-layout) in
+        let r7 : length b - 7 ≡ R = omega (arith, long) in
+        let r6 : length b - 6 ≡ R + 1 = omega (arith, long) in
+        let r4 : length b - 4 ≡ R + 3 = omega (arith, long) in
+        let r2 : length b - 2 ≡ R + 5 = omega (arith, long) in
         rw
         (r7, r6, r4, r2, eq-eqb _ _ len-there, eq-eqb _ _ at-2, eq-eqb _ _ at-3, eq-eqb _ _ at-16, eq-eqb _ _ at-rdf, eq-eqb _ _ rdf-there, eq-eqb _ _ cidf-there, eq-eqb _ _ none-there)
 
@@ -195,7 +190,7 @@ module _ (w : ℕ) (m : Meaning) (unused : List ℕ) (ps : List Part) (kept12 : 
       pub all-there : partsIn w n b ≡ ps
       unfolding partsIn
       all-there =
-          let r7 : length b - 7 ≡ R = omega (arith, length-layout) in
+          let r7 : length b - 7 ≡ R = omega (arith, long) in
           let e : n - length (m .free) ≡ length ps = omega arith in
           rw (r7, counted, e, section-there)
           (parts-there w n b wide left (trailer R) [] [] ps R F used-below closed (omega arith) (parted ∙ simp append-assoc) (omega (arith, length-left)) refl)
@@ -209,7 +204,7 @@ module _ (w : ℕ) (m : Meaning) (unused : List ℕ) (ps : List Part) (kept12 : 
       pub places-there : places w n b ≡ true
       unfolding places
       places-there =
-          let r7 : length b - 7 ≡ R = omega (arith, length-layout) in
+          let r7 : length b - 7 ≡ R = omega (arith, long) in
           rw (
             all-there,
             counted,
