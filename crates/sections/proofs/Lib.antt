@@ -11,3 +11,4 @@ pub mod Roots
 pub mod Forming
 pub mod Shortest
 pub mod ReadsBack
+pub mod Needing
