@@ -12,3 +12,4 @@ pub mod Forming
 pub mod Shortest
 pub mod ReadsBack
 pub mod Needing
+pub mod Streaming
