@@ -13,3 +13,4 @@ pub mod Shortest
 pub mod ReadsBack
 pub mod Needing
 pub mod Streaming
+pub mod Chains
