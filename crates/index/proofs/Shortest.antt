@@ -17,7 +17,7 @@ use Rattle.index.specs.Form.{entrySize, entriesSize, indexSize}
 use Rattle.index.proofs.Placing.{length-layout}
 
 -- what begins with the first f bytes of ref has at least f bytes in common with it
-common-front : (f : ℕ) (ref xs : List ℕ) → f ≤ length ref → f ≤ common ref (take f ref ++ xs)
+pub common-front : (f : ℕ) (ref xs : List ℕ) → f ≤ length ref → f ≤ common ref (take f ref ++ xs)
 unfolding common
 common-front zero ref xs h = omega arith
 common-front (suc f) [] xs h = absurd (omega arith)

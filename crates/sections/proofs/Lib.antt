@@ -1,0 +1,16 @@
+pub mod Vectors
+pub mod Sizes
+pub mod Laying
+pub mod Placing
+pub mod NeverDamaged
+pub mod Sounding
+pub mod Apart
+pub mod OnlyLaidOut
+pub mod Old
+pub mod Roots
+pub mod Forming
+pub mod Shortest
+pub mod ReadsBack
+pub mod Needing
+pub mod Streaming
+pub mod Chains

@@ -1,0 +1,1 @@
+// The index record in sections. Only definitions and proofs.
