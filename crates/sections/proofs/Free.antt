@@ -5,14 +5,15 @@ use mathlib.Core.Bool.{true}
 use mathlib.Core.List.{List}
 use lib.ListN.{length, getD}
 use native.Mathlib.Omega.{arith}
 use Rattle.index.specs.Meaning.{below}
-use Rattle.index.specs.Reading.{freeCount, numbersAt, readIndex, soundIndex}
-use Rattle.index.proofs.Sounding.{sound-apart, sound-below}
-use Rattle.index.proofs.Apart.{length-numbersAt, free-are}
+use Rattle.index.specs.Reading.{freeCount, numbersAt}
+use Rattle.index.proofs.Apart.{length-numbersAt}
 use Rattle.index.proofs.Counting.{below-at}
+use Rattle.sections.specs.Reading.{readIndex, soundIndex}
+use Rattle.sections.proofs.Apart.{free-are}
+use Rattle.sections.proofs.Sounding.{sound-apart, sound-below}
 
--- ---- what a sound record gives the caller of `free_at`
-
+-- There are as many as the fields say.
 pub free-many : (w n : ℕ) (ib : List ℕ) → length (readIndex w n ib .free) ≡ freeCount w ib
 unfolding readIndex
 free-many w n ib = length-numbersAt w ib 24 (freeCount w ib)

@@ -1,20 +1,25 @@
--- Where everything lies in a layout: each field and number that is read there is what was laid.
+-- Where everything lies in a layout of the old form: each field and number that is read there is what was laid.
 use Prim.Native.Nat.{ℕ, _+_, _-_, _*_, _^_, _≤_, _<_}
-use mathlib.Core.Path.{_≡_, refl, _∙_, ap}
+use mathlib.Core.Path.{_≡_, refl, _∙_, sym, ap}
 use mathlib.Core.Bool.{true}
 use mathlib.Core.List.{List, [], _∷_, _++_, append-assoc, append-nil}
-use lib.ListN.{length, getD, length-append}
+use lib.ListN.{length, getD, length-append, List·getD-append}
+use lib.Seq.{getD-append-add}
 use native.Mathlib.Omega.{arith}
 use native.Mathlib.Nat.{mul-div-cancel-left}
 use borrow.Author.Tests.{le-leb, eq-eqb}
 use Rattle.fields.specs.Bytes.{part, number, digits}
 use Rattle.fields.proofs.Numbers.{length-digits, at-seam, part-seam, number-seam}
 use Rattle.index.specs.Meaning.{Meaning, numbers, below}
-use Rattle.index.specs.Pieces.{Piece, spell, piecesSize, lastChars}
-use Rattle.index.specs.Layout.{piecesBytes, freeBytes, unusedPlace, lastPlace, recordLength, header, trailer, layout}
-use Rattle.index.specs.Reading.{unusedAt, lastAt, sectionAt, freeCount, numbersAt, piecesIn, readIndex, frame, places}
-use Rattle.index.proofs.Compressing.{length-piecesBytes, length-freeBytes}
-use Rattle.index.proofs.Laying.{free-there, pieces-there}
+use Rattle.index.specs.Pieces.{Piece}
+use Rattle.index.specs.Layout.{freeBytes, unusedPlace, trailer}
+use Rattle.index.specs.Reading.{unusedAt, lastAt, sectionAt, freeCount, numbersAt, frame}
+use Rattle.index.proofs.Compressing.{length-freeBytes}
+use Rattle.index.proofs.Laying.{free-there}
+use Rattle.index_old.specs.Pieces.{spell, piecesSize, lastChars}
+use Rattle.index_old.specs.Layout.{piecesBytes, lastPlace, recordLength, header, layout}
+use Rattle.index_old.specs.Reading.{piecesIn, readIndex, places}
+use Rattle.index_old.proofs.Laying.{length-piecesBytes, pieces-there}
 
 last-short : (ps : List Piece) (w : ℕ) → length (lastChars ps) ≤ piecesSize w ps
 unfolding lastChars piecesSize
@@ -130,6 +135,18 @@ module _ (w : ℕ) (m : Meaning) (unused : List ℕ) (ps : List Piece) (kept12 :
       let e : length t ≡ 7 = simp (length-append, length-digits) in
       ap length ended ∙ length-append most t ∙ omega (arith, length-most, e)
 
+  -- A byte of the unused space lies past the free numbers.
+  pub gap-there : (i : ℕ) → i < length unused → getD b (U + i) 0 ≡ getD unused i 0
+  gap-there i h =
+      let p : List ℕ = head24 ++ freeBytes w (m .free) in
+      let t : List ℕ = piecesBytes w ps ++ trailer R in
+      let l : length p ≡ U = omega (arith, length-append head24 (freeBytes w (m .free)), length-24, length-freeBytes w (m .free)) in
+      let q : b ≡ p ++ (unused ++ t) = parted ∙ simp append-assoc in
+      ap (λ (x : List ℕ). getD x (U + i) 0) q
+      ∙ ap (λ (k : ℕ). getD (p ++ (unused ++ t)) (k + i) 0) (sym l)
+      ∙ getD-append-add p (unused ++ t) i 0
+      ∙ List·getD-append unused t 0 i h
+
   at-rdf : getD b R 0 ≡ 0
   at-rdf = at-seam b most (digits 2 R ++ (digits 2 R ++ digits 2 0)) 0 R ended length-most
 
@@ -137,7 +154,7 @@ module _ (w : ℕ) (m : Meaning) (unused : List ℕ) (ps : List Piece) (kept12 :
     len-there : number 2 b 0 ≡ R
     len-there = number-seam 2 b [] ((w + 2) ∷ (2 ^ w - 1) ∷ t4) R 0 (omega arith) opened refl
 
-    unused-there : unusedAt b ≡ U
+    pub unused-there : unusedAt b ≡ U
     unused-there = number-seam 2 b head18 t20 U 18 (omega arith) (opened ∙ simp append-assoc) length-18
 
     last-there : lastAt b ≡ E
