@@ -16,9 +16,9 @@ SIZE, KEY, MOST = 512, 8, 60
 DEPOT = Measures(SIZE, 0, KEY, MOST)
 
 
-def area_of(entries, free, data, kept=(0, 0)):
+def area_of(entries, free, data, kept=(0, 0), sections=None):
     """An area as the depot lends it; kept are base RBA and horizontal pointer."""
-    return layout.area_of(SIZE, entries, free, data, kept_bytes(*kept))
+    return layout.area_of(SIZE, entries, free, data, kept_bytes(*kept), sections=sections)
 
 
 def data_interval(records):
@@ -90,12 +90,15 @@ def empty(n=2):
     return area_of([(b"", 0)], range(1, n), {})
 
 
-def three(kept=(0, 0)):
+ENTRIES = [(b"B", 0), (b"C5", 2), (b"", 1)]
+
+
+def three(kept=(0, 0), sections=None):
     """Three intervals with records, one of them not in the order of its number, and one free."""
-    return area_of([(b"B", 0), (b"C5", 2), (b"", 1)], [3],
+    return area_of(ENTRIES, [3],
                    {0: [record(b"A0000001", 10), record(b"A0000002", 10), record(b"B0000001", 31)],
                     2: [record(b"C0000001", 20), record(b"C4999999", 8)],
-                    1: [record(b"D0000001", 60), record(b"ZZZZZZZZ", 12)]}, kept)
+                    1: [record(b"D0000001", 60), record(b"ZZZZZZZZ", 12)]}, kept, sections)
 
 
 def full():
@@ -123,9 +126,12 @@ def areas():
     refused("unsound_end_of_file", "area 2 4\n", bent(sound, 2556, bytes(4)))
     refused("unsound_free_not_empty", "area 2 4\n", sound[:2048] + data_interval([record(b"C4000000", 9)]))
     refused("unsound_old_out", "area 2 0\n", bent(sound, 0, b"\0"), b"an older one")
+    refused("unsound_without_sections", "area 2 0\n", layout.old_index_interval(ENTRIES, [3], SIZE) + sound[SIZE:])
     served("area_longest", area_of([(b"", 0)], range(1, 127), {}), request(b"I", b"A0000001HK"))
     served("area_one_interval", area_of([(b"", 0)], [], {}), request(b"I", b"A0000001HK") + request(b"G", b"A0000001"))
     served("area_kept_bytes", three((0x00012000, 0xFFFFFFFF)), request(b"U", b"C0000001HK"))
+    served("area_other_sections", three(sections=[1, 2]), request(b"G", b"C0000001")
+           + b"".join(request(b"I", record(b"E000000%d" % i, 60)) for i in range(9)) + request(b"G", b"E0000008") + request(b"G", b"C4999999"))
 
 
 def requests():

@@ -10,7 +10,7 @@ Where the cases of the two former test programs are now:
 |---|---|
 | data: measures at the edges | measures |
 | data: endings, fitting, source figure, largest empty | endings, fitting, largest_empty |
-| records: figure 38, shorter after longer | figure_38, shorter_after_longer |
+| records: figure 38, shorter after longer | figure_38 of trial_sections.py, shorter_after_longer |
 | areas: data rules, index rules | sound_varieties, several_rules, and rules_alone |
 | areas: gets, gets at | gets, addresses |
 
@@ -22,18 +22,14 @@ Where the cases of the two former test programs are now:
 import os
 
 import model
+import trial_sections
 from layout import area_of, bent, data_interval, index_interval, kept_bytes
 from model import Measures
-from trial_script import Script
+from trial_script import Script, filled
 from trial_soundness import HIGHEST, M4, MOST, SIZE, SOUND, measures, rules_alone, several_rules, sound_varieties
 
 
 # ---- requests as most cases make them
-
-def filled(key, length):
-    """A record that begins with its key; where the length is short of the key, only its front."""
-    return (key + b"." * length)[:length]
-
 
 def steps(t, m, *requests):
     """Requests such as ("I AAAA", 300), one after another, then the check. An E or G has no length."""
@@ -194,11 +190,12 @@ def index_cut(t):
     t.text("== a cut between C1F1F2F3 and C2F0F0F0")
     t.lay(area_of(SIZE, [(b"", 0)], [1], {}))
     t.says(18, "001901f601f601")
+    t.says(500, "0000 000000")
     t.ask("C", M4)
     t.answers(t.ask("I", M4, filled(bytes.fromhex("C1F1F2F3"), 300)), 0, 1)
     t.answers(t.ask("I", M4, filled(bytes.fromhex("C2F0F0F0"), 300)), 0, 3)
     t.says(18, "001801f201f2")
-    t.says(498, "000001c1000100")
+    t.says(496, "0000 000001c1000100")
     t.ask("C", M4)
     for key in ("C1F1F2F3", "C1FFFFFF", "C2000000", "C2F0F0F0"):
         t.ask("G", M4, bytes.fromhex(key), out=300)
@@ -208,10 +205,11 @@ def index_cut(t):
 
 
 def shorter_after_longer(t):
+    """41 closes the first section, so that nothing of 41 42 is taken over."""
     t.text("== separator 41 42, then 41")
     t.lay(area_of(SIZE, [(b"AB", 0), (b"A", 1), (b"", 2)], [], {}) + data_interval([], SIZE))
-    t.says(494, "0000020100014142000200")
-    t.says(20, "01ee01ee")
+    t.says(18, "0018 01eb 01f1")
+    t.says(489, "0000 000002 0006 41 000101 4142 000200")
     three = 4 * SIZE
     t.answers(t.ask("C", M4, lent=three), 0, 0, 0)
     t.text("n 4; K 1")
@@ -223,33 +221,6 @@ def shorter_after_longer(t):
         assert bytes.fromhex(key) in t.area[place * SIZE:(place + 1) * SIZE]
         t.ask("G", M4, bytes.fromhex(key), out=5, lent=three)
     t.ask("C", M4, lent=three)
-
-
-FIGURE_38 = (("12345", "12350", "1234"), ("12356", "12357", "12356"), ("12359", "12370", "1235"), ("12401", "12405", "12401"),
-             ("12421", "12900", "124"), ("13456", "13567", "134"))
-
-
-def figure_38(t):
-    """Source document 001, Figure 38: each cut of its own, then all entries in one record."""
-    m = Measures(SIZE, 0, 5, MOST)
-    t.text("== figure 38")
-    for left, right, separator in FIGURE_38:
-        t.text("%s and %s: %s" % (left, right, separator))
-        t.lay(area_of(SIZE, [(b"", 0)], [1], {0: [filled(left.encode(), 300)]}))
-        t.answers(t.ask("I", m, filled(right.encode(), 300)), 0, 3)
-        t.says(505 - 3 - len(separator), separator.encode().hex() + "00%02x00" % len(separator))
-    t.text("all entries")
-    entries = [(separator.encode(), number) for number, (_, _, separator) in enumerate(FIGURE_38)] + [(b"", 6)]
-    t.lay(area_of(SIZE, entries, [], {}))
-    t.says(473, "000006" + "3334010205" + "030004" + "343031020303" + "040002" + "3536030201" + "31323334000400")
-    t.answers(t.ask("C", m), 0, 0, 0)
-    t.text("12402, 124 FF FF, 12500, 134 FF FF, 13500")
-    for key, number in ((b"12402", 4), (b"124\xff\xff", 4), (b"12500", 5), (b"134\xff\xff", 5), (b"13500", 6)):
-        t.answers(t.ask("I", m, key), 0, 1)
-        assert key in t.area[(number + 1) * SIZE:(number + 2) * SIZE]
-    t.text("F 5 and L 0 after 12356")
-    t.lay(bent(t.area, 490, b"\5"))
-    t.answers(t.ask("C", m), 2, 0)
 
 
 # ---- changes of one interval
@@ -377,8 +348,9 @@ def short_fronts(t):
 
 
 def full_at(t, length, last):
-    """A cut in the last entry adds 103 bytes; one and three would have a separator of two, but two and two are prescribed (E4)."""
-    t.text("== 24 + 0 + 3 x 103 + 3 + 103 + 3 and %d" % length)
+    """A cut in the last entry adds 103 bytes; one and three would have a separator of two, but two and two are prescribed (E4). There are two
+    sections before and after it."""
+    t.text("== 24 + 0 + 3 x 103 + 3 + 103 + 3 + 2 x 2 and %d" % length)
     m = Measures(SIZE, 0, 100, MOST)
     t.lay(area_of(SIZE, [(b"A" * 100, 0), (b"B" * 100, 1), (b"C" * 100, 2), (b"D" * length, 3), (b"", 4)], [5], {}))
     for key in (b"EA" + b"B" * 98, b"EC" + b"B" * 98, b"EB" + b"B" * 98):
@@ -397,7 +369,7 @@ def long_key(t, length, free, last):
 
 
 def short_fronts_counted(t):
-    """Found with short Fs: 24 + 4 x 103 + 3, and 103 for the new entry, would be 542. Counted is what will be written, 245 (A7, E7)."""
+    """Found with short Fs: 24 + 4 x 103 + 3 + 2 x 2, and 103 for the new entry, would be 546. Counted is what will be written, 348 (E7)."""
     t.text("== no room with the Fs found, but with the longest")
     m = Measures(SIZE, 0, 100, MOST)
     entries = [(b"A" * 99 + bytes([65 + i]), i) for i in range(4)] + [(b"", 4)]
@@ -474,7 +446,7 @@ def widths(t):
 
 
 def full_at_two(t, length, last):
-    """Two bytes a number: 24, 252 free numbers, five entries of 4 and separators of 3 x 117 and this length."""
+    """Two bytes a number: 24, 252 free numbers, five entries of 4, two sections, and separators of 3 x 117 and this length."""
     t.text("== 257 intervals, divided at a separator of %d bytes" % length)
     m = Measures(1024, 0, 120, 300)
     fronts = [bytes([65 + i]) * 117 for i in range(3)]
@@ -504,19 +476,19 @@ def larger(t, size):
 def main():
     t = Script()
     for part in (measures, sound_varieties, several_rules, rules_alone, gets, addresses, runs, endings, largest_empty, index_cut,
-                 shorter_after_longer, figure_38, fitting, three_parts, updates, shortenings, shortened_pairs, refusals, far_cut, record_bytes,
-                 joined, emptied, behind, short_fronts):
+                 shorter_after_longer, *trial_sections.CASES, fitting, three_parts, updates, shortenings, shortened_pairs, refusals, far_cut,
+                 record_bytes, joined, emptied, behind, short_fronts):
         part(t)
-    for length, last in ((63, (0, 3)), (64, (7,)), (68, (7,))):
+    for length, last in ((59, (0, 3)), (60, (7,)), (64, (7,))):
         full_at(t, length, last)
-    for length, free, last in ((217, [2], (0, 3)), (218, [2], (7,)), (230, [2], (7,)), (230, [], (6,))):
+    for length, free, last in ((213, [2], (0, 3)), (214, [2], (7,)), (230, [2], (7,)), (230, [], (6,))):
         long_key(t, length, free, last)
     short_fronts_counted(t)
     wasteful(t)
     kept(t)
     greatest(t)
     widths(t)
-    for length, last in ((118, (0, 3)), (119, (7,))):
+    for length, last in ((114, (0, 3)), (115, (7,))):
         full_at_two(t, length, last)
     for size in (1024, 2048, 32768):
         larger(t, size)

@@ -1,4 +1,4 @@
-"""A model of document 01, as document 02 amends it (L6): what each request comes to on any bytes, under any measures.
+"""A model of document 01, as document 02 amends it (L5, L6): what each request comes to on any bytes, under any measures.
 
 It follows the papers (document 01; where that is open, docs/DECISIONS.md, whose points are cited as C2, D1 and so on) and knows nothing
 of the program. An area is bytes. Each request gives an answer, which is a number and its values, and the bytes of area and output
@@ -10,7 +10,7 @@ a script can show which rule an area breaks.
 import functools
 from typing import NamedTuple
 
-from layout import HEADER, cut_at, data_interval, entry_bytes, index_interval, needs, width_for
+from layout import HEADER, cut_at, data_interval, index_interval, index_size, needs, width_for
 
 SIZES = tuple(range(512, 8193, 512)) + tuple(range(10240, 32769, 2048))
 LIMIT = 4096
@@ -25,17 +25,21 @@ INDEX_RULES = {
     "index RDF's length": "the RDF's length is S - 7",
     "index CIDF": "the index interval's CIDF has the displacement S - 7",
     "index CIDF's unused": "and no unused space",
-    "F": "F is at most the previous separator's length",
+    "F": "F is at most the length of the separator that it is counted against",
     "separator's length": "separators have at most K bytes",
     "X'FF'": "separators don't end in X'FF'",
     "bounds": "separators filled up with X'FF' to K bytes strictly ascend",
     "one entry": "there is at least one entry",
     "last empty": "the last entry has an empty separator",
     "last entry": "the displacement to the last entry's control information agrees with what lies there",
-    "last section": "the last-section field equals the last-entry field",
+    "first section": "the header's last displacement leads to the control information of an entry, the first section's highest",
+    "chain": "each section's field leads to the control information of an entry further on, the next section's highest",
+    "chain's end": "the last entry closes a section",
+    "last field": "the last section's field is zero",
+    "single section": "one section alone has at most two entries",
     "unused field": "the displacement to the unused space is not below the header's end",
     "whole numbers": "the free numbers fill the bytes up to the unused space",
-    "overlap": "free numbers and entries don't overlap",
+    "overlap": "free numbers don't overlap with entries or their sections' fields",
     "number below n": "no other number occurs",
     "named once": "no interval number is named twice",
     "all named": "every interval number below n is named",
@@ -179,9 +183,8 @@ def read_index(interval, m, n, without=None):
     ask("index RDF's length", number(interval, record + 1) == record)
     ask("index CIDF", number(interval, record + 3) == record)
     ask("index CIDF's unused", number(interval, record + 5) == 0)
-    unused, last, section = number(interval, 18), number(interval, 20), number(interval, 22)
-    ask("last section", section == last)
-    entries, start = read_entries(interval, m, last, width, ask)
+    unused = number(interval, 18)
+    entries, start = read_entries(interval, m, width, ask)
     ask("unused field", HEADER <= unused)
     ask("overlap", unused <= start)
     ask("whole numbers", (unused - HEADER) % width == 0)
@@ -193,29 +196,48 @@ def read_index(interval, m, n, without=None):
     return Index(interval[4:16] + interval[17:18], base, free, entries)
 
 
-def read_entries(interval, m, last, width, ask):
+def read_entries(interval, m, width, ask):
     """The entries from the right, and where they begin. The walk ends at the first empty separator, or where the header has the last entry;
-    it must be both (D1: walking to either alone judges the same). Left of it all is unused space, whatever it looks like (D2)."""
-    entries, before, bound = [], b"", None
+    it must be both (D1: walking to either alone judges the same). Left of it all is unused space, whatever it looks like (D2).
+
+    `end` is where the open section's highest must stand: first the header says so, then each section's field, which stands left of its
+    highest's characters. An entry that has passed `end` closes the section where the rule that it meets `end` is left out."""
+    last, end, link = number(interval, 20), number(interval, 22), "first section"
+    entries, closed, before, high, bound, field = [], [], b"", b"", None, 0
     control = start = m.size - 7
     while control != last and HEADER <= start - (width + 2):
         control = start - (width + 2)
-        front, count = interval[control:control + 2]
-        named = number(interval, control + 2, width)
-        start = control - count
-        ask("F", front <= len(before))
-        ask("separator's length", front + count <= m.key)
-        separator = before[:front] + interval[max(start, 0):control]
-        ask("X'FF'", not separator.endswith(b"\xff"))
+        closes = control <= end
+        ask(link, not closes or control == end)
+        start, separator = read_separator(interval, m, control, high if closes else before, ask)
         ask("bounds", bound is None or bound < m.bound_of(separator))
-        entries.append((separator, named))
-        before, bound = separator, m.bound_of(separator)
+        entries.append((separator, number(interval, control + 2, width)))
+        closed.append(closes)
+        before, bound, field = separator, m.bound_of(separator), 0
+        if closes:
+            start -= 2
+            field = number(interval, max(start, 0))
+            high, end, link = separator, control - field, "chain"
         if not separator:
             break
     ask("one entry", entries)
     ask("last empty", not before)
     ask("last entry", control == last)
+    ask("chain's end", all(closed[-1:]))
+    ask("last field", field == 0)
+    ask("single section", len(entries) <= 2 or any(closed[:-1]))
     return entries, start
+
+
+def read_separator(interval, m, control, against, ask):
+    """Where an entry's characters begin, and its separator: F bytes of the one that it is counted against, then the characters."""
+    front, count = interval[control:control + 2]
+    start = control - count
+    ask("F", front <= len(against))
+    ask("separator's length", front + count <= m.key)
+    separator = against[:front] + interval[max(start, 0):control]
+    ask("X'FF'", not separator.endswith(b"\xff"))
+    return start, separator
 
 
 # ---- whole areas (refusals 1 and 2)
@@ -398,8 +420,7 @@ def stored(area, m, index, place, parts):
     entries = index.entries[:place] + list(zip(separators, numbers)) + index.entries[place + 1:]
     stores = {named + 1: data_interval(part, m.size) for named, part in zip(numbers, parts)}
     if taken:
-        width = width_for(len(free) + len(entries))
-        if HEADER + width * len(free) + len(entry_bytes(entries, width=width)) > m.size - 7:
+        if index_size(entries, free, width_for(len(free) + len(entries))) > m.size - 7:
             return Answer(7), area
         stores[0] = index_interval(entries, free, m.size, index.kept)
     return Answer(0, (len(stores),)), with_stores(area, m.size, stores)

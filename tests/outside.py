@@ -2,9 +2,9 @@
 """tests/outside.py [SHARED_OBJECT]: the program, through C, against the model, on areas that the crates' own programs do not reach.
 
 The script of the program `trial`; all 28 interval sizes; 200 intervals of 2,048, 256 of 32,768 and 1,000 of 4,096; 4,096 of 10,240 and of 32,768; on each a sequence of requests, damaged
-copies, hostile measures; at each size one field after another with other values; areas filled until 6 or 7. Answers, values, outputs and every byte
-of what is lent are compared. They are the same cases each time: the chance in them has fixed seeds. Without a shared object it is made first. The
-last line is `N compared, M different`; the status is 0 only where M is 0.
+copies, hostile measures; at each size one field after another with other values; each link of the sections' chain with every value that a record has;
+areas filled until 6 or 7. Answers, values, outputs and every byte of what is lent are compared. They are the same cases each time: the chance in them
+has fixed seeds. Without a shared object it is made first. The last line is `N compared, M different`; the status is 0 only where M is 0.
 """
 import os
 import random
@@ -13,7 +13,7 @@ import sys
 import model
 import program
 import random_areas
-from layout import area_of, bent
+from layout import area_of, bent, data_interval, old_index_interval
 from trial_script import replayed
 
 DONE = {"C": 2, "G": 1, "R": 1, "I": 1, "U": 1, "E": 1}
@@ -58,9 +58,10 @@ def each_size(comparing):
 
 
 def fields(area, m):
-    """Places and widths of the layouts' fields: all of the index header, free numbers and entries at both ends, RDFs and CIDFs."""
+    """Places and widths of the layouts' fields: all of the index header, free numbers and entries at both ends, the sections' fields, RDFs and CIDFs."""
     size, last = m.size, model.number(area, 20)
     found = [(0, 2), (2, 1), (3, 1), (4, 4), (16, 1), (18, 2), (20, 2), (22, 2), (24, 1), (25, 1)]
+    found += [(at, 2) for at in random_areas.field_places(area, m)]
     found += [(at, 1) for at in range(last, min(last + 12, size - 7))] + [(at, 1) for at in range(max(last, size - 19), size - 7)]
     found += [(size - 7, 1), (size - 6, 2), (size - 4, 2), (size - 2, 2)]
     for end in range(2 * size, min(len(area), 4 * size) + 1, size):
@@ -74,7 +75,7 @@ def each_field(comparing):
     """One field after another with other values, at every size."""
     for size in model.SIZES:
         r = random.Random("field %d" % size)
-        made = random_areas.Made(r, random_areas.measures(r, size, (4, 8)), 4)
+        made = random_areas.Made(r, random_areas.measures(r, size, (4, 8)), 8)
         limit = 2 ** 32 - made.n * size
         for at, width in fields(made.area, made.m):
             old, top = model.number(made.area, at, width), 256 ** width
@@ -82,13 +83,24 @@ def each_field(comparing):
                 comparing.ask("C", bent(made.area, at, (new % top).to_bytes(width, "big")), made.m)
 
 
+def each_link(comparing):
+    """Nine entries in sections of three, and in others; every displacement within the record for each link and for the last entry, and some beyond."""
+    m = model.Measures(512, 0, 4, 60)
+    entries = [(separator, number) for number, separator in enumerate((b"A", b"BAC", b"BA", b"BCA", b"BCC", b"BD", b"C", b"D", b""))]
+    for sections in (None, [1, 5, 2, 1], [8, 1]):
+        area = area_of(512, entries, [10, 9], {3: [b"BC01", b"BC02"]}, sections=sections)
+        for at in [20, 22] + random_areas.field_places(area, m):
+            for value in list(range(513)) + [1024, 32768, 65535]:
+                comparing.ask("C", bent(area, at, value.to_bytes(2, "big")), m)
+
+
 def no_room(comparing):
-    """Index records with little room, so that divisions meet 7, and such whose entries and free numbers overlap."""
+    """Index records with little room, so that divisions meet 7; such whose entries and free numbers overlap; such in the form without sections."""
     for turn in range(60):
         r = random.Random("crowded %d" % turn)
         made = random_areas.crowded(r)
         damages(comparing, made, requests(comparing, made, 20), 5)
-        for area, m in (random_areas.overlapping(r), random_areas.no_entries(r)):
+        for area, m in (random_areas.overlapping(r), random_areas.no_entries(r), random_areas.old_form(r)):
             comparing.ask("C", area, m)
 
 
@@ -118,6 +130,16 @@ def most(comparing, size):
         area = comparing.ask(letter, area, m, content, address, out).area
     for at, new in ((2, b"\3\1"), (2, b"\4\1"), (24, b"\x10\x00"), (24, b"\x0f\xa0"), (18, b"\x20\x00")):
         comparing.ask("C", bent(area, at, new), m)
+
+
+def most_named(comparing):
+    """As many intervals as an index record of this size can name beside one entry; in the form without sections it had room for one more."""
+    for size, n in ((1024, 494), (2048, 1006)):
+        m = model.Measures(size, 0, 8, 60)
+        area = area_of(size, [(b"", 0)], range(n - 1, 0, -1), {})
+        for letter, content in (("C", b""), ("I", b"A0000001"), ("G", b"A0000001"), ("E", b"A0000001")):
+            area = comparing.ask(letter, area, m, content).area
+        comparing.ask("C", old_index_interval([(b"", 0)], range(n, 0, -1), size) + data_interval([], size) * (n + 1), m)
 
 
 def beyond(comparing):
@@ -161,6 +183,7 @@ def main(words):
     replay(comparing)
     each_size(comparing)
     each_field(comparing)
+    each_link(comparing)
     for size in (512, 1024, 4096):
         filled_up(comparing, size, 40, size // 4)
     filled_up(comparing, 512, 127, 200)
@@ -169,6 +192,7 @@ def main(words):
     large(comparing, 2048, 200, 190, 33, 200)
     large(comparing, 32768, 256, 250, 545, 60)
     large(comparing, 4096, 1000, 190, 66, 60)
+    most_named(comparing)
     beyond(comparing)
     most(comparing, 10240)
     most(comparing, 32768)

@@ -1,7 +1,8 @@
 """Areas and requests by chance, for outside.py and fuzz: sound areas as some lawful writer might leave them, damage in every field, requests
 that meet every number. `r` is always a random.Random, so that a seed tells all."""
 import model
-from layout import area_of, cut_at, data_interval, entry_bytes, groups_of, index_interval, kept_bytes, needs, rdf, same_front, width_for
+from layout import (HEADER, area_of, cut_at, data_interval, groups_of, index_interval, index_size, kept_bytes, needs, old_index_interval, parts_of, rdf,
+                    width_for, writers_sections)
 
 ALPHABETS = [b"\x00\xff", b"ABC", b"0123456789", b"\x00\x01A\xfe\xff", bytes(range(256))]
 HOSTILE = [0, 1, 3, 4, 7, 255, 256, 505, 506, 511, 512, 513, 32761, 32768, 65535, 65536, 2 ** 31, 2 ** 32 - 1, 2 ** 32, 2 ** 63, 2 ** 64 - 8, 2 ** 64 - 1]
@@ -30,12 +31,24 @@ def hostile(r, m):
 def crowded(r):
     """An area whose long separators leave little room in the index record, though intervals are free."""
     m = measures(r, r.choice([512, 512, 1024]), (60, 100, 200, 255))
-    return Made(r, m, r.randint(4, 9), r.randint(1, 3))
+    return Made(r, m, r.randint(4, 14), r.randint(1, 3))
+
+
+def spread(r, count):
+    """Sections of so many entries as some lawful writer might make them, mostly our own; one alone has two entries at most."""
+    share = r.choice([None, None, 0.1, 0.5, 0.9, 1])
+    if share is None:
+        return writers_sections(count)
+    closing = [r.random() < share for _ in range(count - 1)]
+    if count > 2 and not any(closing):
+        closing[r.randrange(count - 1)] = True
+    ends = [place for place, closes in enumerate(closing + [True], 1) if closes]
+    return [end - before for before, end in zip([0] + ends, ends)]
 
 
 class Made:
     """A sound area, and what requests are made up from. Where `spare` is given, so many intervals at least stay free, and separators are
-    as long and as many as there is room for."""
+    as long and as many as there is room for in the sections that it has."""
 
     def __init__(self, r, m, n, spare=None):
         self.r, self.m, self.n, self.spare = r, m, n, spare
@@ -52,18 +65,28 @@ class Made:
         return bytes(self.r.choices(self.letters, k=self.m.key))
 
     def separators(self):
-        """At most n - 1, and as many as the index record has room for beside the free numbers; long ones sometimes, which fill it."""
+        """At most n - 1, and as many as the index record has room for beside the free numbers; long ones sometimes, which fill it. Where most of
+        them have a long front in common, much hangs on which of them close a section."""
         r, m = self.r, self.m
         longest = r.choice([1, 2, 3, m.key]) if self.spare is None else m.key
+        stem = self.key()[:r.choice([0, 0, r.randrange(m.key)])]
         found = set()
         for _ in range(r.randrange(self.n) if self.spare is None else self.n - 1 - self.spare):
-            separator = self.key()[:r.randint(1, min(longest, m.key))].rstrip(b"\xff")
+            front = stem if r.random() < 0.8 else b""
+            separator = (front + self.key())[:min(len(front) + r.randint(1, longest), m.key)].rstrip(b"\xff")
             if separator:
                 found.add(separator)
         found = sorted(found, key=m.bound_of)
-        while width_for(self.n) * self.n + 2 + sum(2 + len(separator) for separator in found) > m.size - 7 - 24:
+        self.sections = spread(r, len(found) + 1)
+        while not self.fits(found, self.sections):
             found.pop(r.randrange(len(found)))
+            self.sections = spread(r, len(found) + 1)
         return found
+
+    def fits(self, separators, sections, fronts=None):
+        """Whether the index record has room for these and the last one, all others of its intervals being free."""
+        entries = [(separator, 0) for separator in separators + [b""]]
+        return index_size(entries, range(self.n - len(entries)), width_for(self.n), sections, fronts) <= self.m.size - 7
 
     def records(self):
         """The records of each interval in use: none, a few by chance and at the bounds, or as many as fit."""
@@ -119,17 +142,12 @@ class Made:
         return area_of(self.m.size, self.entries, self.free, {}, self.kept, found)
 
     def index(self):
+        """The sections chosen, and Fs that are sometimes shorter than they could be, where there is room for it."""
         r = self.r
-        filling = r.choice([0, 0, r.randrange(256)])
-        fronts, before = [], b""
-        for separator, _ in self.entries:
-            longest = same_front(before, separator)
-            fronts.append(r.choice([longest, longest, r.randint(0, longest)]))
-            before = separator
-        width = width_for(self.n)
-        if 24 + width * len(self.free) + len(entry_bytes(self.entries, fronts, width)) > self.m.size - 7:
+        fronts = [r.choice([part.front, part.front, r.randint(0, part.front)]) for part in parts_of(self.entries, self.sections)]
+        if not self.fits([separator for separator, _ in self.entries[:-1]], self.sections, fronts):
             fronts = None
-        return index_interval(self.entries, self.free, self.m.size, self.kept, fronts, filling)
+        return index_interval(self.entries, self.free, self.m.size, self.kept, self.sections, fronts, r.choice([0, 0, r.randrange(256)]))
 
     def interval(self, records):
         """Groups as far as possible, or runs split by chance where there is room for it."""
@@ -163,6 +181,7 @@ class Even(Made):
         self.letters = b"0123456789"
         keys = sorted(self.r.sample(range(10 ** 8), self.used * self.each))
         self.parts = [[b"%08d" % key for key in keys[at:at + self.each]] for at in range(0, len(keys), self.each)]
+        self.sections = writers_sections(self.used)
         return [cut_at(left[-1], right[0]) for left, right in zip(self.parts, self.parts[1:])]
 
     def records(self):
@@ -186,7 +205,9 @@ def damaged(r, area, m):
             area[m.size * r.randint(1, len(area) // m.size) - 2] ^= 0x80
         elif kind < 0.16:
             strange_group(r, area, m)
-        elif kind < 0.4:
+        elif kind < 0.22:
+            strange_chain(r, area, m)
+        elif kind < 0.44:
             shift_field(r, area, m)
         else:
             at = somewhere(r, area, m)
@@ -213,11 +234,37 @@ def strange_group(r, area, m):
     area[end - 4:end] = (d + count * length).to_bytes(2, "big") + (u - count * length - fields).to_bytes(2, "big")
 
 
+def field_places(area, m):
+    """Where the fields of the index record's sections stand, from the first section on, as far as they lead."""
+    places, control = [], model.number(area, 22)
+    while HEADER <= control < m.size - 8:
+        at = control - area[control + 1] - 2
+        if at < HEADER:
+            break
+        places.append(at)
+        if model.number(area, at) == 0:
+            break
+        control -= model.number(area, at)
+    return places
+
+
+def strange_chain(r, area, m):
+    """One link of the sections' chain leads elsewhere: to the highest after the next, to the last entry, nowhere, out of the record, or to a place
+    nearby."""
+    links = [22] + field_places(area, m)
+    place = r.randrange(len(links))
+    at, control = links[place], model.number(area, 22) - sum(model.number(area, link) for link in links[1:place])
+    old, after = model.number(area, at), model.number(area, links[place + 1]) if place + 1 < len(links) else 3
+    last = model.number(area, 20)
+    new = r.choice([old - after, last, 0] if place == 0 else [old + after, control - last, 0, old - 3, old + 3, control, 65535, r.randrange(m.size)])
+    area[at:at + 2] = (new % 65536).to_bytes(2, "big")
+
+
 def shift_field(r, area, m):
     """A number of two bytes goes up or down a little, and perhaps its neighbour the other way: d and u, two lengths, two displacements."""
     size = m.size
     end = size * r.randint(1, len(area) // size)
-    places = [end - 4, end - 2, end - 6, end - 9, end - 12, 18, 20, 22, 0, size - 6]
+    places = [end - 4, end - 2, end - 6, end - 9, end - 12, 18, 20, 22, 0, size - 6] + field_places(area, m)[:3]
     first, by = r.choice(places), r.choice([-6, -3, -1, 1, 3, 6])
     second = r.choice([first, first + 2, first - 3, 20, 22])
     for at, change in ((first, by), (second, r.choice([0, -by, by]))):
@@ -233,26 +280,40 @@ def somewhere(r, area, m):
     start = size * r.randint(1, len(area) // size - 1)
     d = min(int.from_bytes(area[start + size - 4:start + size - 2], "big"), size)
     return r.choice([r.randrange(24), r.choice([0, 1, 2, 3, 16, 18, 19, 20, 21, 22, 23]), r.randrange(24, max(unused, 25)), r.randrange(last, size - 7),
+                     r.choice(field_places(area, m) + [max(last - 2, 0)]) + r.randrange(2),
                      r.randrange(max(last, size - 30), size - 7), r.randrange(size - 7, size), start + size - 1 - r.randrange(4),
                      start + size - 5 - r.randrange(12), start + size - 5 - r.randrange(30), start + r.randrange(max(d, 1)),
                      start + m.offset + r.randrange(m.key), r.randrange(len(area))])
 
 
 def overlapping(r):
-    """An area, and its measures, that breaks one rule alone: its only free number, 0, is the byte 0 with which the entries begin."""
+    """An area, and its measures, that breaks one rule alone: its only free number, 0, is the first byte of the last section's field, with
+    which the entries begin."""
     key = r.choice([60, 100, 200, 255])
     m = model.Measures(r.choice([512, 1024]), 0, key, r.choice([key, 505]))
     count = 2
-    while (count - 1) * key < m.size - 7 - 24 - 3 * count:
+    while (count - 1) * key < room_for_characters(m, count):
         count += 1
-    rest, entries = m.size - 7 - 24 - 3 * count, []
+    rest, entries = room_for_characters(m, count), []
     for number in range(1, count):
         long = min(key, rest - (count - 1 - number))
         entries.append((bytes([64 + number]) * long, number))
         rest -= long
     index = index_interval(entries + [(b"", count)], [], m.size)
-    assert index[18:22] == bytes([0, 24, 0, 24])
-    return index[:19] + bytes([25]) + index[20:] + data_interval([], m.size) * (count + 1), m
+    assert index[18:22] == bytes([0, HEADER, 0, HEADER + 2])
+    return index[:19] + bytes([HEADER + 1]) + index[20:] + data_interval([], m.size) * (count + 1), m
+
+
+def room_for_characters(m, count):
+    """The bytes that an index record with no free numbers has for the characters of so many entries in the writer's sections."""
+    return m.size - 7 - HEADER - 3 * count - 2 * len(writers_sections(count))
+
+
+def old_form(r):
+    """An area, and its measures, in the form that had no sections. With one or two entries it may have the bytes of a sound one."""
+    made = Made(r, measures(r, r.choice([512, 1024])), r.choice([1, 2, 2, 3, 4, 8, 40]))
+    index = old_index_interval(made.entries, made.free, made.m.size, made.kept, r.choice([0, 0, 1, 255]))
+    return index + made.area[made.m.size:], made.m
 
 
 def no_entries(r):

@@ -12,6 +12,11 @@ FILLED = b"\xee"
 LONGEST_AREA = 1048576
 
 
+def filled(key, length):
+    """A record that begins with its key; where the length is short of the key, only its front."""
+    return (key + b"." * length)[:length]
+
+
 def items(part):
     """All bytes, neighbours that are equal as one item: the byte, and after a star how often it stands there."""
     out = ""

@@ -1,10 +1,10 @@
 """The cases of trial on refusals 1 and 2: measures, areas that are sound in other ways than a writer's, damage, and each rule broken alone.
 
 Each function writes its cases to a Script. The area of most of them, SOUND, has four intervals of 512 bytes: the entries AB, C and the last
-name 0, 2 and 1, and 3 is free.
+name 0, 2 and 1, and 3 is free. AB and C are the first section, the last entry is the second.
 """
 import model
-from layout import HEADER, area_of, bent, data_interval, entry, entry_bytes, index_frame, index_interval, rdf
+from layout import HEADER, Part, area_of, bent, data_interval, index_frame, index_interval, old_index_interval, parts_of, rdf
 from model import Measures
 
 SIZE, MOST = 512, 505
@@ -65,6 +65,12 @@ DATA = {0: [b"AA01HHHH", b"AB01KKKK"], 1: [b"DD01EEEEE"], 2: [b"BB01HHHH", b"CC0
 SOUND = area_of(SIZE, ENTRIES, [3], DATA)
 FIRST, SECOND, THIRD, FREE = (SIZE * place for place in (1, 2, 3, 4))
 
+# where the control information of its entries stands, and the fields of its two sections
+AB_AT, C_AT, LAST_AT = 502, 497, 491
+C_FIELD, LAST_FIELD = 494, 489
+assert SOUND[18:24] == bytes([0, 25]) + LAST_AT.to_bytes(2, "big") + C_AT.to_bytes(2, "big")
+assert SOUND[LAST_FIELD:505] == bytes([0, 0, 0, 0, 1, 0, C_AT - LAST_AT]) + b"C" + bytes([0, 1, 2]) + b"AB" + bytes([0, 2, 0])
+
 # 257 intervals, so that pointers and free numbers have two bytes
 WIDE = area_of(1024, [(b"M", 256), (b"", 0)], list(range(255, 0, -1)), {256: [b"AA01"], 0: [b"ZZ01"]})
 M_WIDE = Measures(1024, 0, 4, 60)
@@ -75,10 +81,18 @@ def data_with(number, interval):
     return bent(SOUND, SIZE * (number + 1), interval)
 
 
-def index_with(entries, free, data, count=4, kept=bytes(13)):
-    """An index record and so many data intervals, whether or not they are all named."""
-    intervals = [data_interval(data.get(number, []), SIZE) for number in range(count)]
-    return index_interval(entries, free, SIZE, kept) + b"".join(intervals)
+def index_with(entries, free, data, sections=None):
+    """An index record and four data intervals, whether or not they are all named."""
+    return index_interval(entries, free, SIZE, sections=sections) + intervals(data)
+
+
+def intervals(data):
+    """Four data intervals."""
+    return b"".join(data_interval(data.get(number, []), SIZE) for number in range(4))
+
+
+def two(number):
+    return number.to_bytes(2, "big")
 
 
 def with_end(body, fields, d, u):
@@ -103,7 +117,11 @@ def sound_varieties(t):
                        ("base at the limit", bent(SOUND, 4, bytes.fromhex("fffff800"))),
                        ("a key at its own bound", bent(SOUND, FIRST + 8, b"AB\xff\xff")),
                        ("a key just above the bound before", bent(SOUND, SECOND, b"D\0\0\0")),
-                       ("what looks like an entry left of the last", bent(SOUND, 0x1ED - 4, b"Z" + bytes([0, 1, 7]))),
+                       ("what looks like an entry left of the last", bent(SOUND, LAST_FIELD - 4, b"Z" + bytes([0, 1, 7]))),
+                       ("what looks like a section left of the last", bent(SOUND, LAST_FIELD - 6, bytes([0, 4]) + b"Z" + bytes([0, 1, 7]))),
+                       ("sections of one and two", area_of(SIZE, ENTRIES, [3], DATA, sections=[1, 2])),
+                       ("sections of one each", area_of(SIZE, ENTRIES, [3], DATA, sections=[1, 1, 1])),
+                       ("two entries in sections of one", area_of(SIZE, ENTRIES[:1] + [(b"", 1)], [3, 2], {}, sections=[1, 1])),
                        ("pointers swapped, and the intervals empty", area_of(SIZE, [(b"AB", 2), (b"C", 0), (b"", 1)], [3], {})),
                        ("a separator of K bytes", area_of(SIZE, [(b"AB99", 0)] + ENTRIES[1:], [3], DATA)),
                        ("three of a length as a single and a run", data_with(1, data_interval([b"DD01", b"DD02", b"DD03"], SIZE, [(4, 1), (4, 2)])))):
@@ -126,22 +144,23 @@ def several_rules(t):
                        ("lengths that do not add up, the keys elsewhere", bent(SOUND, FIRST + 506, b"\0\7")),
                        ("too short for a key", bent(SOUND, THIRD + 502, rdf(0, 16) + rdf(0, 3))),
                        ("a length of 506 under M 505", bent(SOUND, SECOND + 505, bytes.fromhex("0001fa01fa0000"))),
-                       ("F past the separator before", bent(SOUND, 497, b"\3")),
-                       ("a separator longer than K by F and L", bent(SOUND, 497, b"\2\3")),
-                       ("F and L of 255", bent(SOUND, 497, b"\xff\xff")),
-                       ("ends in FF", bent(SOUND, 496, b"\xff")),
-                       ("empty before the last", bent(SOUND, 493, bytes([0, 1, 1, 0, 0, 2, 2]))),
-                       ("no characters at the end, but an F", bent(SOUND, 493, b"\1")),
+                       ("F past the separator before", bent(SOUND, C_AT, b"\3")),
+                       ("F past the highest before, not past the separator before", later_front()),
+                       ("a separator longer than K by F and L", index_with([(b"AB", 0), (b"ABCDE", 2), (b"", 1)], [3], DATA, sections=[1, 2])),
+                       ("F and L of 255", bent(SOUND, C_AT, b"\xff\xff")),
+                       ("ends in FF", bent(SOUND, C_AT - 1, b"\xff")),
+                       ("empty before the last", index_with([(b"AB", 0), (b"", 2), (b"", 1)], [3], {})),
+                       ("no characters at the end, but an F", bent(SOUND, LAST_AT, b"\1")),
                        ("a number twice", bent(SOUND, 504, b"\2")),
                        ("free and used", bent(SOUND, 24, b"\1")),
                        ("a number past the last, free", bent(SOUND, 24, b"\4")),
                        ("a number past the last, used", bent(SOUND, 504, b"\4")),
                        ("unused one less", bent(SOUND, 18, b"\0\x18")),
                        ("unused one more", bent(SOUND, 18, b"\0\x1a")),
-                       ("last entry inside another, the last section not", bent(SOUND, 20, b"\1\xee")),
-                       ("last entry at the one before", bent(SOUND, 20, b"\1\xf1\1\xf1")),
-                       ("last entry in the header", bent(SOUND, 20, b"\0\x0a\0\x0a")),
-                       ("last entry past the record", bent(SOUND, 20, b"\1\xfa\1\xfa")),
+                       ("last entry at the one before", bent(SOUND, 20, two(C_AT))),
+                       ("last entry at the one before, and one section", bent(bent(SOUND, 20, two(C_AT)), C_FIELD, two(0))),
+                       ("last entry in the header", bent(SOUND, 20, two(10) * 2)),
+                       ("last entry past the record", bent(SOUND, 20, two(506) * 2)),
                        ("last entry at no place", bent(SOUND, 20, b"\xff\xff\xff\xff")),
                        ("unused past the record", bent(SOUND, 18, b"\xff\xff")),
                        ("d and u of 65535 and 32767", bent(SOUND, FIRST + 508, b"\xff\xff\x7f\xff")),
@@ -182,25 +201,35 @@ def all_of_key(*entries):
     return area_of(SIZE, list(entries), [3], {0: DATA[0], 1: DATA[1]})
 
 
-def last_not_empty():
-    """Entries AB, C and Z; the header leads to Z's control information, one byte after its character."""
-    tail = entry(b"Z", 0, 1) + entry(b"C", 0, 2) + entry(b"AB", 0, 0)
-    index = index_frame(tail, [3], SIZE)
-    return bent(index, 20, (SIZE - 7 - len(tail) + 1).to_bytes(2, "big") * 2) + SOUND[SIZE:]
-
-
 def overlapping():
-    """Entries down to byte 24, and the free list one byte into them: the last entry's F, 0, is read as the free number 0."""
-    index = index_interval([(b"A" * 236, 1), (b"B" * 236, 2), (b"", 3)], [], SIZE)
-    assert index[18:22] == bytes([0, 24, 0, 24])
-    return bent(index, 18, b"\0\x19") + data_interval([], SIZE) * 4
+    """Entries down to byte 24, and the free list one byte into them: the first byte of the last section's field, 0, is read as the free number 0."""
+    index = index_interval([(b"A" * 234, 1), (b"B" * 234, 2), (b"", 3)], [], SIZE)
+    assert index[18:22] == two(HEADER) + two(HEADER + 2)
+    return bent(index, 18, two(HEADER + 1)) + data_interval([], SIZE) * 4
 
 
 def by_front():
     """41 FF 05, then F 2 and L 0: the separator 41 FF ends in X'FF' though no character is written (D6)."""
-    entries = [(b"A\xff\x05", 0), (b"A\xff", 2), (b"", 1)]
-    assert entry(b"", 2, 2) in entry_bytes(entries)
-    return area_of(SIZE, entries, [3], {0: DATA[0], 2: [b"A\xff\x06\x01"], 1: DATA[1]})
+    entries, sections = [(b"A\xff\x05", 0), (b"A\xff", 2), (b"", 1)], [1, 2]
+    assert parts_of(entries, sections)[1] == Part(b"", 2, 2, False)
+    return area_of(SIZE, entries, [3], {0: DATA[0], 2: [b"A\xff\x06\x01"], 1: DATA[1]}, sections=sections)
+
+
+def below_the_one_before():
+    """The highest of the second section is above the highest before it, but not above the entry before it, C."""
+    return index_with([(b"A", 0), (b"C", 2), (b"B", 1), (b"", 3)], [], {0: DATA[0][:1]}, sections=[1, 2, 1])
+
+
+def front_of_the_one_before():
+    """A, then CA and a second section's highest with F 1 and D: that is AD, though CD would stand there if F were counted against CA."""
+    parts = [Part(b"A", 0, 0, True), Part(b"CA", 0, 2, False), Part(b"D", 1, 1, True), Part(b"", 0, 3, True)]
+    return index_frame(parts, [], SIZE) + intervals({})
+
+
+def later_front():
+    """A, then BCD and a second section's highest with F 2: more than A has."""
+    parts = [Part(b"A", 0, 0, True), Part(b"BCD", 0, 2, False), Part(b"D", 2, 1, True), Part(b"", 0, 3, True)]
+    return index_frame(parts, [], SIZE) + intervals({})
 
 
 def alone():
@@ -221,17 +250,34 @@ def index_alone():
         ("index CIDF", "504", bent(SOUND, 508, b"\1\xf8")),
         ("index CIDF's unused", "1", bent(SOUND, 510, b"\0\1")),
         ("index CIDF's unused", "busy", bent(SOUND, 510, b"\x80\0")),
-        ("F", "1 in the first entry", bent(SOUND, 502, b"\1")),
+        ("F", "1 in the first entry", bent(SOUND, AB_AT, b"\1")),
+        ("F", "1 in the first section's highest, behind AB", bent(SOUND, C_AT, b"\1")),
         ("separator's length", "5 for K 4", all_of_key((b"ABCDE", 0), (b"C", 2), (b"", 1))),
         ("X'FF'", "43 FF", area_of(SIZE, [(b"AB", 0), (b"C\xff", 2), (b"", 1)], [3], DATA)),
         ("X'FF'", "by F with L 0", by_front()),
         ("bounds", "descend", all_of_key((b"C", 0), (b"AB", 2), (b"", 1))),
         ("bounds", "equal", all_of_key((b"AB", 0), (b"AB", 2), (b"", 1))),
         ("bounds", "a longer separator after its own front", all_of_key((b"C", 0), (b"CA", 2), (b"", 1))),
+        ("bounds", "a section's highest, above the highest before", below_the_one_before()),
+        ("bounds", "a section's highest, with the front of the highest before", front_of_the_one_before()),
         ("one entry", "none, all free", index_with([], [3, 2, 1, 0], {})),
-        ("last empty", "Z", last_not_empty()),
-        ("last entry", "inside another, and the last section with it", bent(SOUND, 20, b"\1\xee\1\xee")),
-        ("last section", "elsewhere", bent(SOUND, 22, b"\1\xee")),
+        ("last empty", "Z", index_with([(b"AB", 0), (b"C", 2), (b"Z", 1)], [3], DATA)),
+        ("last entry", "at a field", bent(SOUND, 20, two(C_FIELD))),
+        ("last entry", "at its own field", bent(SOUND, 20, two(LAST_FIELD))),
+        ("last entry", "0", bent(SOUND, 20, two(0))),
+        ("first section", "one byte after its highest's F", bent(SOUND, 22, two(C_AT + 1))),
+        ("first section", "past the record", bent(area_of(SIZE, ENTRIES, [3], DATA, sections=[1, 2]), 22, b"\xff\xff")),
+        ("chain", "zero too early", bent(SOUND, C_FIELD, two(0))),
+        ("chain", "one byte after the next highest's F", bent(SOUND, C_FIELD, two(C_AT - LAST_AT - 1))),
+        ("chain's end", "one byte before the last F", bent(SOUND, C_FIELD, two(C_AT - LAST_AT + 1))),
+        ("chain's end", "what looks like an entry, but is not reached", bent(bent(SOUND, C_FIELD, two(C_AT - 486)), 484, bytes([0, 0, 0, 0, 3]))),
+        ("chain's end", "at the free numbers", bent(SOUND, C_FIELD, two(C_AT - HEADER))),
+        ("chain's end", "larger than the record", bent(SOUND, C_FIELD, b"\xff\xff")),
+        ("last field", "1", bent(SOUND, LAST_FIELD, two(1))),
+        ("last field", "leads on", bent(SOUND, LAST_FIELD, two(5))),
+        ("last field", "256, of a single section", bent(area_of(SIZE, ENTRIES[:1] + [(b"", 1)], [3, 2], {}), 495, two(256))),
+        ("single section", "three entries", area_of(SIZE, ENTRIES, [3], DATA, sections=[3])),
+        ("single section", "the form without sections", area_of(SIZE, ENTRIES, [3], DATA, found={0: old_index_interval(ENTRIES, [3], SIZE)})),
         ("unused field", "23", bent(area_of(SIZE, ENTRIES, [], DATA), 18, b"\0\x17")),
         ("unused field", "0", bent(area_of(SIZE, ENTRIES, [], DATA), 18, b"\0\0")),
         ("overlap", "by one byte", overlapping(), Measures(SIZE, 0, 255, MOST)),
@@ -248,7 +294,7 @@ def index_alone():
 
 
 def data_alone():
-    two = b"DD01EDD02E"
+    pair = b"DD01EDD02E"
     return [
         ("busy", "in use", bent(SOUND, FIRST + 510, b"\x81\xe6")),
         ("busy", "free", bent(SOUND, FREE + 510, b"\x81\xfc")),
@@ -262,7 +308,7 @@ def data_alone():
         ("control byte", "reserved bits", bent(SOUND, SECOND + 505, b"\x80")),
         ("control byte", "reserved bits, the last", bent(SOUND, SECOND + 505, b"\1")),
         ("control byte", "a count alone", bent(SOUND, SECOND + 505, b"\x08")),
-        ("pair within", "the count lies in the unused space", data_with(1, with_end(two, rdf(8, 2) + rdf(0x40, 5), 10, 495))),
+        ("pair within", "the count lies in the unused space", data_with(1, with_end(pair, rdf(8, 2) + rdf(0x40, 5), 10, 495))),
         ("partner", "X'00'", bent(SOUND, FIRST + 502, b"\0")),
         ("partner", "X'48'", bent(SOUND, FIRST + 502, b"\x48")),
         ("partner", "X'18'", bent(SOUND, FIRST + 502, b"\x18")),

@@ -1,5 +1,5 @@
 #!/usr/bin/env python3
-"""Writes the four areas that speed.c times requests on, two more for stack.c, and two with few and with many intervals: make_areas.py FOLDER.
+"""Writes the five areas that speed.c times requests on, two more for stack.c, and two with few and with many intervals: make_areas.py FOLDER.
 
 Records of 60 bytes, keys of 8 decimal digits at the front; in c6 records of 6 bytes, all of them key, so that an interval has thousands. The intervals in use are filled evenly but for the middle one, which is
 full, so that one record more divides it. NAME.ci is the area; NAME.txt has S, n, the number of entries, a key that is there, one right
@@ -15,6 +15,7 @@ import layout  # noqa: E402
 AREAS = [("a20", 512, 20, 2, 100, 60, 8),
          ("a127", 512, 127, 37, 400, 60, 8),
          ("a200", 2048, 200, 4, 4378, 60, 8),
+         ("e200", 2048, 204, 4, 4468, 60, 8),
          ("s4096", 4096, 20, 2, 1100, 60, 8),
          ("b20", 32768, 20, 2, 8825, 60, 8),
          ("c6", 32768, 6, 2, 20459, 6, 6),

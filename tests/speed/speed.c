@@ -1,5 +1,5 @@
-/* Times the register's requests of two builds in turn: speed FOLDER BEFORE.so [AFTER.so].
-   FOLDER holds the areas that make_areas.py wrote. Each figure is the best of many rounds; within a round the builds take turns, so that
+/* Times the register's requests of two builds in turn: speed FOLDER BEFORE.so [AFTER.so [FOLDER_AFTER]].
+   FOLDER holds the areas that make_areas.py wrote; where the two builds read other layouts, the second has its own in FOLDER_AFTER. Each figure is the best of many rounds; within a round the builds take turns, so that
    whatever else the machine does falls on both. The plain sum that ratios are told by is one loop over the area's bytes, not inlined and
    not vectorised. Prints, for each area and request, nanoseconds of each build, the part of the sum that it is, how many times the check
    of the same build, and after / before. A change is undone before the next by copying back the intervals that it wrote; what that takes
@@ -147,7 +147,7 @@ static double timed(const struct build *b, struct area *a, enum what w, int time
 
 int main(int argc, char **argv)
 {
-    static const char *areas[] = {"a20", "a127", "a200", "b20"};
+    static const char *areas[] = {"a20", "a127", "a200", "e200", "b20"};
     static volatile uint64_t keep;
     (void)keep;
     if (argc == 7 && !strcmp(argv[3], "loop")) {
@@ -159,11 +159,11 @@ int main(int argc, char **argv)
         return fprintf(stderr, "no request is called %s\n", argv[5]), 1;
     }
     if (argc < 3)
-        return fprintf(stderr, "speed FOLDER BEFORE.so [AFTER.so]\n"), 1;
+        return fprintf(stderr, "speed FOLDER BEFORE.so [AFTER.so [FOLDER_AFTER]]\n"), 1;
     int builds = argc > 3 ? 2 : 1;
     struct build b[2] = {load(argv[2]), load(argv[argc > 3 ? 3 : 2])};
-    for (int k = 0; k < 4; k++) {
-        struct area a = read_area(argv[1], areas[k]);
+    for (int k = 0; k < 5; k++) {
+        struct area each[2] = {read_area(argv[1], areas[k]), read_area(argv[argc > 4 ? 4 : 1], areas[k])}, a = each[0];
         double sum = 1e18, index_sum = 1e18;
         double best[2][KINDS];
         for (int i = 0; i < 2; i++)
@@ -181,7 +181,7 @@ int main(int argc, char **argv)
             index_sum = t < index_sum ? t : index_sum;
             for (int w = 0; w < KINDS; w++)
                 for (int i = 0; i < builds; i++) {
-                    double d = timed(&b[i], &a, w, 1 + (int)(100000 / (sum / 4)));
+                    double d = timed(&b[i], &each[i], w, 1 + (int)(100000 / (sum / 4)));
                     best[i][w] = d < best[i][w] ? d : best[i][w];
                 }
         }

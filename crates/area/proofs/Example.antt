@@ -18,10 +18,12 @@ use Rattle.interval.specs.Role.{soundFree, soundUsed}
 use Rattle.index.specs.Bounds.{bound, separator}
 use Rattle.index.specs.Meaning.{count, once, namedOnce}
 use Rattle.index.specs.Rules.{rises, closed, keepsRules}
-use Rattle.index.specs.Pieces.{spell, frontsFit, piecesSize, lastChars}
-use Rattle.index.specs.Layout.{pieceBytes, piecesBytes, freeBytes, header, trailer, layout as indexLayout}
-use Rattle.index.specs.Form.{packed, entriesSize, entrySize, indexSize, indexBytes}
-use Rattle.index.specs.Reading.{numbersAt, piecesAt, piecesIn, readIndex, frame, places, soundIndex}
+use Rattle.index.specs.Layout.{pieceBytes, freeBytes, trailer}
+use Rattle.index.specs.Reading.{numbersAt, frame}
+use Rattle.sections.specs.Parts.{spellAll, frontsIn, partsSize, sectionsIn, endsClosed}
+use Rattle.sections.specs.Layout.{ahead, partBytes, partsBytes, lastLong, header, layout as indexLayout}
+use Rattle.sections.specs.Form.{rootFrom, packedIn, indexSize, indexBytes}
+use Rattle.sections.specs.Reading.{partsAt, partsIn, readIndex, fieldsTrue, places, soundIndex}
 use Rattle.area.specs.Soundness.{unsoundFree, unsoundUsed, unsoundData, lowest}
 use Rattle.area.specs.Reading.{damaged, whole, readArea}
 use Rattle.area.specs.Layout.{Lent, AreaLaidOut}
@@ -31,9 +33,9 @@ use Rattle.area.proofs.Laying.{area-only-laid-out}
 -- There is a sound area with records: these bytes are read as just that content.
 pub some-sound : readArea depot 2 bytes ≡ whole held
 unfolding bytes number digits orderOf common sum rdfCount push groups need concat ascendFrom ascending every groupBytes groupsBytes layout form rdfs rdfsIn
-    wellFormed lengths cut recordsIn formSound sound bound separator count once namedOnce rises closed keepsRules spell frontsFit piecesSize lastChars pieceBytes
-    piecesBytes freeBytes header trailer indexLayout packed entriesSize entrySize indexSize indexBytes numbersAt piecesAt piecesIn readIndex frame places soundIndex
-    soundFree soundUsed unsoundFree unsoundUsed unsoundData lowest readArea widthFor
+    wellFormed lengths cut recordsIn formSound sound bound separator count once namedOnce rises closed keepsRules spellAll frontsIn endsClosed partsSize
+    sectionsIn ahead pieceBytes partBytes partsBytes lastLong freeBytes header trailer indexLayout rootFrom packedIn indexSize indexBytes numbersAt partsAt
+    partsIn readIndex frame fieldsTrue places soundIndex soundFree soundUsed unsoundFree unsoundUsed unsoundData lowest readArea widthFor
 some-sound = refl
 
 -- And damage is told where it is: a byte of the index record; the free interval; both data intervals, of which the lower is told; a free interval that is
@@ -42,22 +44,23 @@ pub some-damaged : (readArea depot 2 (splice bytes 0 (0 ∷ [])) ≡ damaged 0)
     × (readArea depot 2 (splice bytes 1024 (replicate 512 0)) ≡ damaged 2)
     × (readArea depot 2 (splice bytes 512 (replicate 1024 0)) ≡ damaged 1)
     × (readArea depot 2 exchanged ≡ damaged 2)
-unfolding bytes exchanged splice number digits orderOf common sum rdfCount push groups need concat ascendFrom ascending every groupBytes groupsBytes layout form
-    rdfs rdfsIn wellFormed lengths cut recordsIn formSound sound bound separator count once namedOnce rises closed keepsRules spell frontsFit piecesSize lastChars
-    pieceBytes piecesBytes freeBytes header trailer indexLayout packed entriesSize entrySize indexSize indexBytes numbersAt piecesAt piecesIn readIndex frame places
-    soundIndex soundFree soundUsed unsoundFree unsoundUsed unsoundData lowest readArea widthFor
+unfolding bytes exchanged splice number digits orderOf common sum rdfCount push groups need concat ascendFrom ascending every groupBytes groupsBytes layout
+    form rdfs rdfsIn wellFormed lengths cut recordsIn formSound sound bound separator count once namedOnce rises closed keepsRules spellAll frontsIn
+    endsClosed partsSize sectionsIn ahead pieceBytes partBytes partsBytes lastLong freeBytes header trailer indexLayout rootFrom packedIn indexSize
+    indexBytes numbersAt partsAt partsIn readIndex frame fieldsTrue places soundIndex soundFree soundUsed unsoundFree unsoundUsed unsoundData lowest
+    readArea widthFor
 some-damaged = (refl, refl, refl, refl)
 
 -- ---- the example keeps what the laws ask
 
 some-octets : allOctets bytes ≡ true
 unfolding bytes digits common sum rdfCount push groups need concat groupBytes groupsBytes layout form
-    piecesSize lastChars pieceBytes piecesBytes freeBytes header trailer indexLayout packed entriesSize entrySize indexSize indexBytes widthFor
+    partsSize sectionsIn ahead pieceBytes partBytes partsBytes lastLong freeBytes header trailer indexLayout rootFrom packedIn indexSize indexBytes widthFor
 some-octets = refl
 
 some-length : length bytes ≡ 1536
-unfolding bytes digits common sum rdfCount push groups need concat groupBytes groupsBytes layout form piecesSize lastChars pieceBytes piecesBytes freeBytes header
-    trailer indexLayout packed entriesSize entrySize indexSize indexBytes widthFor
+unfolding bytes digits common sum rdfCount push groups need concat groupBytes groupsBytes layout form partsSize sectionsIn ahead pieceBytes partBytes
+    partsBytes lastLong freeBytes header trailer indexLayout rootFrom packedIn indexSize indexBytes widthFor
 some-length = refl
 
 -- Its measures and its length are not refused.

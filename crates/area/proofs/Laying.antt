@@ -15,10 +15,10 @@ use Rattle.measures.specs.declared.Measures.{Measures}
 use Rattle.measures.proofs.Fine.{fits-large}
 use Rattle.index.specs.Bounds.{bound}
 use Rattle.index.specs.Meaning.{Entry, Meaning, numbers, below}
-use Rattle.index.specs.Reading.{readIndex, soundIndex}
-use Rattle.index.proofs.NeverDamaged.{index-reads, index-never-damaged}
-use Rattle.index.proofs.OnlyLaidOut.{index-only-laid-out, index-keeps-rules}
 use Rattle.index.proofs.Naming.{both-below}
+use Rattle.sections.specs.Reading.{readIndex, soundIndex}
+use Rattle.sections.proofs.NeverDamaged.{index-reads, index-never-damaged}
+use Rattle.sections.proofs.OnlyLaidOut.{index-only-laid-out, index-keeps-rules}
 use Rattle.area.specs.Content.{Filled, Content, indexIn, dataIn, fill, entriesOf, meaningOf}
 use Rattle.area.specs.Reading.{whole, readArea}
 use Rattle.area.specs.Layout.{Lent, IndexInterval, FreeIntervals, UsedIntervals, AreaLaidOut}

@@ -13,7 +13,7 @@ use Rattle.measures.specs.Judgement.{widthFor}
 use Rattle.measures.specs.declared.Measures.{Measures}
 use Rattle.measures.proofs.Fine.{fits-small}
 use Rattle.index.specs.Meaning.{Meaning}
-use Rattle.index.specs.Reading.{readIndex, soundIndex}
+use Rattle.sections.specs.Reading.{readIndex, soundIndex}
 use Rattle.area.specs.Content.{Content, indexIn, dataIn, contentOf}
 use Rattle.area.specs.Soundness.{unsoundData, lowest}
 use Rattle.area.specs.Reading.{Reading, damaged, whole, readArea}

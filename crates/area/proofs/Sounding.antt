@@ -13,9 +13,9 @@ use Rattle.interval.specs.Role.{soundFree, soundUsed}
 use Rattle.index.specs.Bounds.{bound}
 use Rattle.index.specs.Meaning.{Entry, Meaning, numbers}
 use Rattle.index.specs.Rules.{boundBefore}
-use Rattle.index.specs.Reading.{readIndex, soundIndex}
 use Rattle.index.proofs.Keeping.{Keeps, rules-apart}
-use Rattle.index.proofs.Sounding.{sound-apart as record-apart}
+use Rattle.sections.specs.Reading.{readIndex, soundIndex}
+use Rattle.sections.proofs.Sounding.{sound-apart as record-apart}
 use Rattle.area.specs.Content.{Content, indexIn, dataIn, fill, contentOf, entriesOf, meaningOf}
 use Rattle.area.specs.Soundness.{unsoundFree, unsoundUsed, unsoundData, lowest}
 use Rattle.area.specs.Reading.{damaged, whole, readArea}

@@ -6,7 +6,7 @@ use lib.ListN.{replicate}
 use Rattle.measures.specs.Judgement.{measures, widthFor}
 use Rattle.measures.specs.declared.Measures.{Measures}
 use Rattle.interval.specs.Layout.{form}
-use Rattle.index.specs.Form.{indexBytes}
+use Rattle.sections.specs.Form.{indexBytes}
 use Rattle.area.specs.Content.{Content, meaningOf}
 
 -- size 512, key of 8 bytes at the front, records of at most 60 bytes

@@ -1,4 +1,5 @@
--- A whole area said by the two grammars alone: document 01, 'The area we lend', 'Data interval', 'Index record'. Nothing here reads.
+-- A whole area said by the two grammars alone: document 01, 'The area we lend', 'Data interval', 'Index record'; document 02, L5, for the index record's
+-- sections. Nothing here reads.
 use Prim.Native.Nat.{ℕ}
 use mathlib.Core.Path.{_≡_}
 use mathlib.Core.Bool.{true}
@@ -12,7 +13,7 @@ use Rattle.interval.specs.Layout.{LaidOut as IntervalLaidOut}
 use Rattle.index.specs.Bounds.{bound}
 use Rattle.index.specs.Meaning.{Meaning}
 use Rattle.index.specs.Rules.{keepsRules}
-use Rattle.index.specs.Layout.{LaidOut as IndexLaidOut}
+use Rattle.sections.specs.Layout.{LaidOut as IndexLaidOut}
 use Rattle.area.specs.Content.{Filled, Content, indexIn, dataIn, meaningOf}
 
 -- an area that is lent: bytes, with measures and a length that refusal 1 lets pass
@@ -20,7 +21,7 @@ pub record Lent (m : Measures) (n : ℕ) (area : List ℕ) : Type 0 where
   pub octets : Octets area
   pub fits : Fits m n (length area)
 
--- the index interval is laid out with this meaning, which keeps all rules
+-- the index interval is laid out, in some sections, with this meaning, which keeps all rules
 pub record IndexInterval (m : Measures) (n : ℕ) (ix : Meaning) (ib : List ℕ) : Type 0 where
   pub laid : IndexLaidOut (widthFor n) (m .size) ix ib
   pub rules : keepsRules (m .size) (m .key) n [] [] ix ≡ true

@@ -5,7 +5,7 @@ use lib.Dec.{ltb}
 use Rattle.fields.specs.Choice.{pick}
 use Rattle.measures.specs.Judgement.{widthFor}
 use Rattle.measures.specs.declared.Measures.{Measures}
-use Rattle.index.specs.Reading.{readIndex, soundIndex}
+use Rattle.sections.specs.Reading.{readIndex, soundIndex}
 use Rattle.area.specs.Content.{Content, indexIn, contentOf}
 use Rattle.area.specs.Soundness.{unsoundData, lowest}
 

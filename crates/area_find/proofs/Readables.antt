@@ -12,9 +12,9 @@ use Rattle.measures.proofs.Fine.{fits-small, fits-large}
 use Rattle.interval.specs.Reading.{sound, Readable}
 use Rattle.index.specs.Bounds.{bound}
 use Rattle.index.specs.Meaning.{Entry, numbers, named}
-use Rattle.index.specs.Reading.{soundIndex}
 use Rattle.index.proofs.Counting.{count-among}
 use Rattle.index.proofs.Naming.{named-each}
+use Rattle.sections.specs.Reading.{soundIndex}
 use Rattle.area.specs.Content.{Content, indexIn, dataIn, meaningOf}
 use Rattle.area.specs.Reading.{readArea, whole}
 use Rattle.area.proofs.Sounding.{AllFree, AllUsed, sound-apart, sound-rules}

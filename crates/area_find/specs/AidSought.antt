@@ -14,8 +14,8 @@ use Rattle.interval.specs.Search.{placeOf, Within, startingAt, startedOf}
 use Rattle.interval.specs.declared.Started.{Started}
 use Rattle.interval.specs.declared.Started.the-variants as started
 use Rattle.index.specs.Meaning.{numbers}
-use Rattle.index.specs.Reading.{readIndex}
 use Rattle.index.specs.Search.{leadsTo}
+use Rattle.sections.specs.Reading.{readIndex}
 use Rattle.area.specs.Content.{Content, indexIn, dataIn}
 use Rattle.area.specs.Reading.{readArea, whole}
 use Rattle.area_find.specs.declared.Spot.{Spot}

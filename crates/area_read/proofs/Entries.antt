@@ -1,16 +1,14 @@
 -- The walk over the entries: what is judged and counted at each.
-use Prim.Native.Nat.{ℕ, suc, _+_, _-_, _*_, _≤_, _<_, min}
-use mathlib.Core.Path.{_≡_, refl, _∙_, sym}
+use Prim.Native.Nat.{ℕ, suc, _+_, _*_, _≤_, _<_, min}
+use mathlib.Core.Path.{_≡_, refl, _∙_, sym, ap}
 use mathlib.Core.Bool.{Bool, true, false}
 use mathlib.Core.List.{List, [], _∷_, map}
 use lib.ListN.{length, take, drop, replicate, length-append, length-replicate, drop-of-length-le}
-use lib.Seq.{take-take}
 use lib.Dec.{eqb}
 use native.Mathlib.Omega.{arith}
 use native.Mathlib.Numerals.{add-one}
 use borrow.Author.Tests.{ne-eqb}
 use Rattle.fields.specs.Choice.{pick, both}
-use Rattle.fields.specs.Bytes.{part, number, splice}
 use Rattle.fields.proofs.Choices.{both-split, false-true}
 use Rattle.measures.specs.Judgement.{Fits, widthFor}
 use Rattle.measures.specs.declared.Measures.{Measures}
@@ -25,26 +23,23 @@ use Rattle.interval_read.specs.AidOpened.{openedOf}
 use Rattle.interval_read.specs.declared.Opened.{Opened}
 use Rattle.interval_read.specs.declared.Opened.the-variants as opened
 use Rattle.index.specs.Bounds.{bound}
-use Rattle.index.specs.Meaning.{Entry, entry}
+use Rattle.index.specs.Meaning.{Entry}
 use Rattle.index.specs.Rules.{boundBefore}
-use Rattle.index.specs.Pieces.{spelt}
-use Rattle.index.specs.Reading.{lengthAt, pieceAt, readIndex, soundIndex}
+use Rattle.sections.specs.Reading.{readIndex, soundIndex}
 use Rattle.index_step.specs.declared.Step.{Step}
-use Rattle.index_step.specs.AidStep.{frontAt, charsAt, stepAt, joinedOf, Lies, reach}
-use Rattle.index_step.proofs.Stepping.{Standing, Stepped, standing-start, standing-step, reach-most, extended-chars, extended-front, extended-length}
+use Rattle.index_step.specs.declared.Place.{Place}
+use Rattle.index_step.specs.AidStep.{stepAt, placeStart, placePast, Lies, reach, Renewed}
+use Rattle.index_step.specs.AidEntries.{Here, hereFirst, partHere, sepHere, entryHere, hereNext, Held}
+use Rattle.index_step.proofs.Passing.{held-lies, held-step, step-past, step-renews, held-on}
+use Rattle.index_step.proofs.Stepping.{Standing, Stepped, standing-start, standing-step, held-start}
 use Rattle.area.specs.Content.{dataIn, fill, recordsOf}
 use Rattle.area.specs.Soundness.{unsoundUsed, lowest}
-use Rattle.area.proofs.Places.{length-lent}
-use Rattle.area_read.specs.AidEntries.{Closed, Counted, EntryLies, lowIn, highIn}
+use Rattle.area.proofs.Places.{length-data}
+use Rattle.area_read.specs.AidEntries.{Closed, Counted}
 use Rattle.area_read.specs.declared.Seen.{Seen}
 use Rattle.area_read.proofs.Lows.{lowest-met}
 
 -- ---- one interval
-
--- after `extend` the buffer begins with the separator that was put together
-pub joined : (buf ib new : List ℕ) (f l at : ℕ) → f + reach l ≤ length buf → at + reach l ≤ length ib → new ≡ splice buf f (part ib at (reach l))
-    → take (f + l) new ≡ joinedOf f buf ib at l
-joined buf ib new f l at h i e = extended-chars ib buf new f l at h i e
 
 module _ (m : Measures) (ci low high : List ℕ) (small : length ci ≤ 32768) (sized : 4 ≤ length ci) (some : 1 ≤ m .key) (inside : m .offset + m .key ≤ m .least) where
   by-bound : (b : Bool) (o : Opened) → both (sound m ci) (above low (keysOf m (recordsIn ci))) ≡ b
@@ -92,14 +87,15 @@ pick-none : (b : Bool) (k : ℕ) (ks : List ℕ) → pick b ks (k ∷ ks) ≡ []
 pick-none true k ks e = (refl, e)
 pick-none false k ks e = absurd (let z : _≡_ {A = ℕ} 0 1 = cc in omega arith)
 
--- How far it has come: it stands before entry i, and buf begins with the separator before. The lowest of `worst` and the unsound numbers of all entries
+-- How far it has come: it stands before entry i, as place and buffers say. The lowest of `worst` and the unsound numbers of all entries
 -- is the lowest of `low` and those of the entries from i on. Where all intervals in use are sound, `records` and the records of the entries from i on
 -- make up all of them. At most 32768 records were counted for each entry passed.
-pub record Going (m : Measures) (n : ℕ) (area ib : List ℕ) (worst : ℕ) (buf : List ℕ) (right before i low records : ℕ) : Type 0 where
-  pub ref : List ℕ
-  pub standing : Standing (widthFor n) (m .key) n ib i right before ref
+pub record Going (m : Measures) (n : ℕ) (area ib : List ℕ) (worst : ℕ) (buf high : List ℕ) (p : Place) (i low records : ℕ) : Type 0 where
+  pub here : Here
+  pub standing : Standing (widthFor n) (m .key) n ib i here
+  pub held : Held here p buf high
   pub whole : length buf ≡ 263
-  pub front : take before buf ≡ ref
+  pub whole' : length high ≡ 263
   pub lowers : lowest worst (unsoundUsed m area [] (readIndex (widthFor n) n ib .entries))
       ≡ lowest low (unsoundUsed m area (boundBefore (m .key) [] (take i (readIndex (widthFor n) n ib .entries))) (drop i (readIndex (widthFor n) n ib .entries)))
   pub clean : unsoundUsed m area [] (readIndex (widthFor n) n ib .entries) ≡ []
@@ -115,14 +111,17 @@ module _ (m : Measures) (n : ℕ) (area ib : List ℕ) (worst : ℕ) where
   abbrev es : List Entry
   es = readIndex (widthFor n) n ib .entries
 
-  pub setting-out : 7 ≤ length ib → m .key ≤ 255 → soundIndex (widthFor n) (m .key) n [] [] ib ≡ true → Going m n area ib worst (replicate 263 0) (length ib - 7) 0 0 worst 0
+  pub setting-out : (p : Place) → 7 ≤ length ib → m .key ≤ 255 → soundIndex (widthFor n) (m .key) n [] [] ib ≡ true → p ≡ placeStart ib
+      → Going m n area ib worst (replicate 263 0) (replicate 263 0) p 0 worst 0
   unfolding boundBefore
-  setting-out large k h =
+  setting-out p large k h is =
+      let z : length {A = ℕ} (replicate 263 0) ≡ 263 = length-replicate {A = ℕ} 263 0 in
       record {
-        ref = [];
+        here = hereFirst ib;
         standing = standing-start w (m .key) n ib large k h;
-        whole = length-replicate {A = ℕ} 263 0;
-        front = refl;
+        held = rw is (held-start ib (replicate 263 0) (replicate 263 0) (omega (arith, z)) (omega (arith, z)));
+        whole = z;
+        whole' = z;
         lowers = refl;
         clean = λ z. z;
         counts = λ z. omega arith;
@@ -130,97 +129,113 @@ module _ (m : Measures) (n : ℕ) (area ib : List ℕ) (worst : ℕ) where
       }
 
   -- all entries seen
-  pub arrived : (buf : List ℕ) (right before i low records : ℕ) → Going m n area ib worst buf right before i low records → length es ≤ i
+  pub arrived : (buf high : List ℕ) (p : Place) (i low records : ℕ) → Going m n area ib worst buf high p i low records → length es ≤ i
       → (low ≡ lowest worst (unsoundUsed m area [] es)) × Counted m area [] es records
   unfolding unsoundUsed lowest recordsOf
-  arrived buf right before i low records g h =
+  arrived buf high p i low records g h =
       (sym (g .lowers ∙ rw (drop-of-length-le es)), λ (z : unsoundUsed m area [] es ≡ []). sym (g .counts z ∙ rw (drop-of-length-le es) (omega arith)))
 
   -- one entry more
-  module _ (buf : List ℕ) (right before i low records : ℕ) (g : Going m n area ib worst buf right before i low records) (more : i < length es) where
-    step : Stepped w (m .key) n ib i right before (g .ref)
-    step = standing-step w (m .key) n ib i right before (g .ref) (g .standing) more
+  module _ (buf high : List ℕ) (p : Place) (i low records : ℕ) (g : Going m n area ib worst buf high p i low records) (more : i < length es) where
+    abbrev h : Here
+    h = g .here
 
-    abbrev F : ℕ
-    F = frontAt (widthFor n) ib right
-
-    abbrev L : ℕ
-    L = lengthAt (widthFor n) ib right
+    step : Stepped w (m .key) n ib i h
+    step = standing-step w (m .key) n ib i h (g .standing) more
 
     abbrev num : ℕ
-    num = number (widthFor n) ib (right - widthFor n)
+    num = partHere (widthFor n) ib h .piece .num
 
     abbrev sep : List ℕ
-    sep = spelt (g .ref) (pieceAt (widthFor n) ib right)
+    sep = sepHere (widthFor n) ib h
 
     -- for the call that takes it apart
-    pub entry-lies : Lies (widthFor n) ib right
-    entry-lies = (width-most n, omega (arith, g .standing .lie .inside), step .room)
+    pub entry-lies : Lies (widthFor n) ib (p .right)
+    entry-lies = held-lies w ib h p buf high (g .held) (g .standing .inside) (step .lies) (width-most n)
 
-    -- what is in the buffer, in the definition's words
-    low-held : lowIn m (eqb i 0) before buf ≡ boundBefore (m .key) [] (take i es)
-    low-held = rw (g .front) (sym (g .standing .low))
+    -- the separator before, as it is lent
+    pub before-inside : p .len ≤ length buf
+    before-inside = omega (arith, g .held .short, g .whole)
 
-    front-held : take F buf ≡ take F (g .ref)
-    front-held = sym (take-take F before buf (step .front)) ∙ rw (g .front)
+    pub before-long : length (take (p .len) buf) ≡ p .len
+    before-long = ap length (g .held .ref) ∙ g .held .long
 
-    high-held : highIn m buf ib (stepAt (widthFor n) ib right) ≡ bound (m .key) sep
-    high-held = rw front-held
+    pub before-short : length (take (p .len) buf) ≤ m .key
+    before-short = omega (arith, ap length (g .held .ref), g .standing .short)
 
-    module _ (s : Step) (e : s ≡ stepAt (widthFor n) ib right) where
+    low-held : pick (eqb i 0) [] (bound (m .key) (take (p .len) buf)) ≡ boundBefore (m .key) [] (take i es)
+    low-held = rw (g .held .ref) (sym (g .standing .low))
+
+    module _ (s : Step) (e : s ≡ stepAt (widthFor n) ib (p .right) (p .end)) where
+      is : s ≡ stepAt (widthFor n) ib (h .right) (h .end)
+      is = held-step w ib h p buf high (g .held) (g .standing .inside) (step .lies) s e
+
+      num-is : s .number ≡ num
+      num-is = ap (λ (x : Step). x .number) is
+
       -- for the other calls
       pub within : s .number < n
-      within = rw e (step .within)
+      within = rw num-is (step .within)
 
-      pub fits : s .front + s .len ≤ m .key
-      fits = rw e (step .fits)
+      pub renew-fits : (s .front + s .len + 8 ≤ length high) × (s .front + s .len + 8 ≤ length buf) × (s .at + reach (s .len) ≤ length ib)
+      renew-fits = step-renews w ib h p buf high (g .held) (g .standing .inside) (step .lies) s is
 
-      inside : s .at + reach (s .len) ≤ length ib
-      inside = rw e (step .inside)
+      pub past-fits : (s .front + s .len ≤ 510) × (s .at ≤ length ib) × (pick (s .closes) 2 0 ≤ s .at)
+      past-fits = step-past w ib h p buf high (g .held) (g .standing .inside) (step .lies) s is
 
-      pub entry-fits : Fits m n (length area)
-          → EntryLies m (take ((s .number + 1) * m .size + m .size - (s .number + 1) * m .size) (drop ((s .number + 1) * m .size) area)) buf before ib s
-      entry-fits f =
-          let z = length-lent m n area f (s .number) within in
-          (omega (arith, z, fits-large f), omega (arith, z, fits-small f), f .key-some, f .key-inside, g .standing .short, omega (arith, f .key-most, g .whole), fits, inside)
+      module _ (buf' high' : List ℕ) (q : Place) (new : Renewed ib s buf high buf' high') (past : q ≡ placePast ib s p) (wh : length buf' ≡ 263) where
+        on : Held (hereNext w ib h) q buf' high'
+        on = rw past (held-on w ib h p buf high (g .held) (g .standing .inside) (step .lies) s is buf' high' new)
 
-      pub onward : (new : List ℕ) (ok : Bool) (count : ℕ) → m .key ≤ 255 → ok ≡ soundUsed m (lowIn m (eqb i 0) before buf) (highIn m buf ib s) (dataIn m area (s .number))
-          → (ok ≡ true → count ≡ length (recordsIn (dataIn m area (s .number)))) → count ≤ 32768 → new ≡ splice buf (s .front) (part ib (s .at) (reach (s .len)))
-          → Going m n area ib worst new (s .at) (s .front + s .len) (i + 1) (pick ok low (min (s .number) low)) (records + count)
-      onward new ok count key j k c is =
-          rw (e, add-one i)
-          (record {
-            ref = sep;
-            standing = step .next;
-            whole = extended-length ib buf new F L (charsAt w ib right) room (step .inside) is' ∙ g .whole;
-            front = extended-front ib buf new F L (charsAt w ib right) room (step .inside) is' (g .ref) before (g .front) (step .front);
-            lowers = g .lowers ∙ rw split (lowest-pick ok low num (unsoundUsed m area (bound (m .key) sep) (drop (suc i) es)) ∙ rw bounds);
-            clean = λ (z : unsoundUsed m area [] es ≡ []). rw bounds (none z .1);
-            counts = λ (z : unsoundUsed m area [] es ≡ []). g .counts z ∙ rw (step .here) (omega (arith, records-cons m area (entry sep num) (drop (suc i) es), k' (none z .0)));
-            few = omega (arith, g .few, one-more);
-          })
-        where
-          room : F + reach L ≤ length buf
-          room = omega (arith, step .fits, g .whole, key, reach-most L)
+        -- its own separator, as it is lent
+        pub own-inside : q .len ≤ length buf'
+        own-inside = omega (arith, on .short, wh)
 
-          is' : new ≡ splice buf F (part ib (charsAt w ib right) (reach L))
-          is' = rw e at is
+        pub own-long : length (take (q .len) buf') ≡ q .len
+        own-long = ap length (on .ref) ∙ on .long
 
-          j' : ok ≡ soundUsed m (boundBefore (m .key) [] (take i es)) (bound (m .key) sep) (dataIn m area num)
-          j' = (rw e at j) ∙ rw (low-held, high-held)
+        pub own-short : length (take (q .len) buf') ≤ m .key
+        own-short = omega (arith, ap length (on .ref), step .fits)
 
-          k' : ok ≡ true → count ≡ length (recordsIn (dataIn m area num))
-          k' = rw e at k
+        -- its interval was judged by both bounds
+        module _ (f : Fits m n (length area)) (o : Opened) (r : Seen)
+            (opens : o ≡ openedOf m (pick (eqb i 0) [] (bound (m .key) (take (p .len) buf))) (dataIn m area (s .number)))
+            (closes : Closed m (dataIn m area (s .number)) (bound (m .key) (take (q .len) buf')) o r) where
+          seen : (r .ok ≡ soundUsed m (boundBefore (m .key) [] (take i es)) (bound (m .key) sep) (dataIn m area num))
+              × ((r .ok ≡ true → r .count ≡ length (recordsIn (dataIn m area num))) × (r .count ≤ 32768))
+          seen =
+              let z = length-data m n area f num (step .within) in
+              seen-is m (dataIn m area num) (boundBefore (m .key) [] (take i es)) (bound (m .key) sep)
+              (omega (arith, z, fits-small f)) (omega (arith, z, fits-large f)) (f .key-some) (f .key-inside) o
+              (rw (low-held, num-is) at opens) r (rw (on .ref, num-is) at closes)
+
+          pub seen-few : r .count ≤ 32768
+          seen-few = seen .1 .1
 
           split : unsoundUsed m area (boundBefore (m .key) [] (take i es)) (drop i es)
-              ≡ pick ok (unsoundUsed m area (bound (m .key) sep) (drop (suc i) es)) (num ∷ unsoundUsed m area (bound (m .key) sep) (drop (suc i) es))
-          split = rw (step .here, j') (used-cons m area (boundBefore (m .key) [] (take i es)) (entry sep num) (drop (suc i) es))
+              ≡ pick (r .ok) (unsoundUsed m area (bound (m .key) sep) (drop (suc i) es)) (num ∷ unsoundUsed m area (bound (m .key) sep) (drop (suc i) es))
+          split = rw (step .here, seen .0) (used-cons m area (boundBefore (m .key) [] (take i es)) (entryHere w ib h) (drop (suc i) es))
 
           bounds : boundBefore (m .key) [] (take (suc i) es) ≡ bound (m .key) sep
           bounds = step .next .low ∙ rw (ne-eqb (suc i) 0 (omega arith))
 
-          none : unsoundUsed m area [] es ≡ [] → (ok ≡ true) × (unsoundUsed m area (bound (m .key) sep) (drop (suc i) es) ≡ [])
-          none z = pick-none ok num (unsoundUsed m area (bound (m .key) sep) (drop (suc i) es)) (sym split ∙ g .clean z)
+          none : unsoundUsed m area [] es ≡ [] → (r .ok ≡ true) × (unsoundUsed m area (bound (m .key) sep) (drop (suc i) es) ≡ [])
+          none z = pick-none (r .ok) num (unsoundUsed m area (bound (m .key) sep) (drop (suc i) es)) (sym split ∙ g .clean z)
 
           one-more : 32768 * suc i ≡ 32768 * i + 32768
           one-more = omega arith
+
+          pub onward : length high' ≡ 263 → Going m n area ib worst buf' high' q (i + 1) (pick (r .ok) low (min (s .number) low)) (records + r .count)
+          onward wh' =
+              rw (num-is, add-one i)
+              (record {
+                here = hereNext w ib h;
+                standing = step .next;
+                held = on;
+                whole = wh;
+                whole' = wh';
+                lowers = g .lowers ∙ rw split (lowest-pick (r .ok) low num (unsoundUsed m area (bound (m .key) sep) (drop (suc i) es)) ∙ rw bounds);
+                clean = λ (z : unsoundUsed m area [] es ≡ []). rw bounds (none z .1);
+                counts = λ (z : unsoundUsed m area [] es ≡ []). g .counts z ∙ rw (step .here) (omega (arith, records-cons m area (entryHere w ib h) (drop (suc i) es), seen .1 .0 (none z .0)));
+                few = omega (arith, g .few, one-more, seen-few);
+              })

@@ -1,6 +1,6 @@
 -- The check's ways out, against the reading of the whole area.
 use Prim.Native.Nat.{ℕ, _+_, _*_, _≤_, _<_}
-use mathlib.Core.Path.{_≡_, refl, _∙_, sym}
+use mathlib.Core.Path.{_≡_, refl, _∙_, sym, ap}
 use mathlib.Core.Bool.{Bool, true, false}
 use mathlib.Core.List.{List, [], _∷_}
 use lib.ListN.{length}
@@ -15,10 +15,11 @@ use Rattle.measures.specs.declared.Measures.{Measures}
 use Rattle.interval.specs.Role.{soundUsed}
 use Rattle.index.specs.Meaning.{Entry, Meaning, numbers, below}
 use Rattle.index.specs.Bounds.{bound}
-use Rattle.index.specs.Reading.{numbersAt, freeCount, readIndex, soundIndex}
-use Rattle.index.proofs.Sounding.{sound-below}
-use Rattle.index.proofs.Apart.{free-are}
-use Rattle.index.proofs.Free.{free-many, free-lie}
+use Rattle.index.specs.Reading.{numbersAt, freeCount}
+use Rattle.index.proofs.Apart.{length-numbersAt}
+use Rattle.sections.specs.Reading.{readIndex, soundIndex}
+use Rattle.sections.proofs.Sounding.{Sound, sound-apart, sound-below}
+use Rattle.sections.proofs.Apart.{free-are}
 use Rattle.area.specs.Content.{indexIn, dataIn}
 use Rattle.area.specs.Soundness.{unsoundFree, unsoundUsed, unsoundData, lowest}
 use Rattle.area.specs.Reading.{readArea}
@@ -40,9 +41,10 @@ module _ (w K n : ℕ) (ib : List ℕ) (h : soundIndex w K n [] [] ib ≡ true) 
 
   pub frees : (free : ℕ) → free ≡ length (readIndex w n ib .free) → Frees free
   frees free e =
-      let q : free ≡ freeCount w ib = e ∙ free-many w n ib in
+      let q : free ≡ freeCount w ib = e ∙ ap length (free-are w n ib) ∙ length-numbersAt w ib 24 (freeCount w ib) in
+      let s : Sound w K n [] [] ib = sound-apart w K n [] [] ib h in
       record {
-        lie = rw q (free-lie w K n [] [] ib h);
+        lie = rw q (omega (arith, s .placed .unused, s .placed .apart));
         small = rw (q, ← free-are w n ib) (numbers-below .0);
         are = rw q (sym (free-are w n ib));
       }

@@ -1,10 +1,9 @@
 -- Aids to the check of an area, entry by entry. Contracts of this crate's inner functions cite them.
-use Prim.Native.Nat.{ℕ, _+_, _≤_}
+use Prim.Native.Nat.{ℕ}
 use mathlib.Core.Path.{_≡_}
-use mathlib.Core.Bool.{false, true, Bool}
+use mathlib.Core.Bool.{false, true}
 use mathlib.Core.List.{List, []}
-use lib.ListN.{length, take}
-use Rattle.fields.specs.Choice.{pick}
+use lib.ListN.{length}
 use Rattle.measures.specs.Judgement.{Fits, widthFor}
 use Rattle.measures.specs.declared.Measures.{Measures}
 use Rattle.interval.specs.Records.{keysOf, upTo}
@@ -12,10 +11,7 @@ use Rattle.interval.specs.Reading.{recordsIn}
 use Rattle.interval_read.specs.declared.Opened.{Opened}
 use Rattle.interval_read.specs.declared.Opened.the-variants as opened
 use Rattle.index.specs.Meaning.{Entry}
-use Rattle.index.specs.Reading.{readIndex, soundIndex}
-use Rattle.index.specs.Bounds.{bound}
-use Rattle.index_step.specs.declared.Step.{Step}
-use Rattle.index_step.specs.AidStep.{joinedOf, reach}
+use Rattle.sections.specs.Reading.{readIndex, soundIndex}
 use Rattle.area.specs.Content.{fill, recordsOf}
 use Rattle.area.specs.Soundness.{unsoundUsed}
 use Rattle.area_read.specs.declared.Seen.{Seen}
@@ -29,22 +25,8 @@ Closed m ci high opened.Bad r = (r .ok ≡ false) × (r .count ≡ 0)
 abbrev pub Counted : Measures → List ℕ → List ℕ → List Entry → ℕ → Type 0
 Counted m area low es records = unsoundUsed m area low es ≡ [] → records ≡ length (recordsOf (fill m area es))
 
--- an aid: an interval and measures that were judged, a buffer with the separator before, and the entry's characters in the record
-abbrev pub EntryLies : Measures → List ℕ → List ℕ → ℕ → List ℕ → Step → Type 0
-EntryLies m ci buf before ib s =
-    (4 ≤ length ci) × (length ci ≤ 32768) × (1 ≤ m .key) × (m .offset + m .key ≤ m .least) × (before ≤ m .key)
-    × (m .key + 8 ≤ length buf) × (s .front + s .len ≤ m .key) × (s .at + reach (s .len) ≤ length ib)
-
 -- an aid: an area that was judged, its index record sound, and how many entries that has
 abbrev pub EntriesSound : Measures → ℕ → List ℕ → List ℕ → ℕ → Type 0
 EntriesSound m n area ib entries =
     Fits m n (length area) × (length ib ≡ m .size) × (soundIndex (widthFor n) (m .key) n [] [] ib ≡ true)
     × (entries ≡ length (readIndex (widthFor n) n ib .entries))
-
--- an aid: the bound before, with whose separator buf begins; the first entry has none
-abbrev pub lowIn : Measures → Bool → ℕ → List ℕ → List ℕ
-lowIn m first before buf = pick first [] (bound (m .key) (take before buf))
-
--- an aid: the bound of the separator that is put together from buf and the record
-abbrev pub highIn : Measures → List ℕ → List ℕ → Step → List ℕ
-highIn m buf ib s = bound (m .key) (joinedOf (s .front) buf ib (s .at) (s .len))

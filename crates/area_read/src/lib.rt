@@ -1,27 +1,23 @@
 // Whether a whole control area is sound: the index record, then every data interval in its role, in one pass in key order.
-ghost use Prim.Native.Nat.{_+_, _-_, _*_, _≤_, _<_, min};
+ghost use Prim.Native.Nat.{_+_, _*_, _≤_, _<_, min};
 ghost use mathlib.Core.Path.{_≡_};
 ghost use mathlib.Core.Bool.{true, false};
 ghost use mathlib.Core.List.{[]};
 ghost use lib.ListN.{length};
 ghost use Rattle.fields.specs.Choice.{pick};
-ghost use Rattle.fields.specs.Bytes.{part, splice};
 ghost use Rattle.measures.specs.Judgement.{Fits, widthFor};
 ghost use Rattle.interval.specs.Bounds.{bound};
-ghost use Rattle.interval.specs.Reading.{recordsIn};
-ghost use Rattle.interval.specs.Role.{soundUsed};
 ghost use Rattle.interval_read.specs.AidOpened.{Inside};
 ghost use Rattle.index.specs.Meaning.{below};
-ghost use Rattle.index.specs.Reading.{numbersAt, readIndex};
-ghost use Rattle.index_step.specs.AidStep.{reach};
+ghost use Rattle.index.specs.Reading.{numbersAt};
+ghost use Rattle.sections.specs.Reading.{readIndex};
 ghost use Rattle.area.specs.Soundness.{unsoundFree, unsoundUsed, lowest};
 ghost use Rattle.area.specs.Reading.{readArea};
 ghost use Rattle.area.specs.Checked.{checkedOf};
-ghost use Rattle.area_read.specs.AidEntries.{Closed, Counted, EntryLies, EntriesSound, lowIn, highIn};
+ghost use Rattle.area_read.specs.AidEntries.{Closed, Counted, EntriesSound};
 use area::Checked;
 use index_read::Index;
 use index_step::BUFFER;
-use index_step::Step;
 use interval_read::Opened;
 use measures::Measures;
 
@@ -84,29 +80,9 @@ pub(crate) fn closed(ci: &[u8], m: Measures, opened: Opened, high: &[u8]) -> See
     }
 }
 
-// One entry's interval: above the bound before, whose separator are the first `before` bytes of buf, and at most its own. Afterwards buf
-// begins with its own separator.
-pub(crate) fn entry_seen(
-    ci: &[u8],
-    m: Measures,
-    first: bool,
-    buf: &mut [u8],
-    before: usize,
-    ib: &[u8],
-    s: Step,
-) -> Seen
-    requires { ⌜ EntryLies m (now ci) (now buf) before (now ib) s ⌝ }
-    ensures judged { λ r. ⌜ r .ok ≡ soundUsed m (lowIn m first before (now (buf .entry))) (highIn m (now (buf .entry)) (now (ib .entry)) s) (now (ci .entry)) ⌝ }
-    ensures counted { λ r. ⌜ (r .ok ≡ true → r .count ≡ length (recordsIn (now (ci .entry)))) × (r .count ≤ 32768) ⌝ }
-    ensures renewed { λ _. ⌜ now (buf .exit) ≡ splice (now (buf .entry)) (s .front) (part (now (ib .entry)) (s .at) (reach (s .len))) ⌝ }
-{
-    let opened = interval_read::opens(ci, m, first, &buf[..before]);
-    index_step::extend(buf, s.front, ib, s.at, s.len);
-    let end = s.front + s.len;
-    closed(ci, m, opened, &buf[..end])
-}
-
 // The lowest of the intervals in use that are unsound in their role, or `worst` where that is lower; and the records counted.
+// An entry's interval is judged above the bound before, with whose separator buf begins; then, when buf begins with its own separator,
+// by its own bound.
 pub(crate) fn used_worst(
     area: &[u8],
     ib: &[u8],
@@ -121,20 +97,23 @@ pub(crate) fn used_worst(
 {
     let w = measures::width_for(n);
     let mut buf = [0u8; BUFFER];
-    let mut right = ib.len() - 7;
-    let mut before: usize = 0;
+    let mut high = [0u8; BUFFER];
+    let mut p = index_step::start(ib);
     let mut i: usize = 0;
     let mut lowest = worst;
     let mut records: usize = 0;
     while i < entries {
-        let s = index_step::entry_at(ib, w, right);
+        let s = index_step::entry_at(ib, w, p);
         let a = (s.number + 1) * m.size;
         let e = a + m.size;
-        let seen = entry_seen(&area[a..e], m, i == 0, &mut buf, before, ib, s);
+        let before = p.len;
+        let opened = interval_read::opens(&area[a..e], m, i == 0, &buf[..before]);
+        index_step::renew(&mut buf, &mut high, ib, s);
+        p = index_step::past(ib, s, p);
+        let len = p.len;
+        let seen = closed(&area[a..e], m, opened, &buf[..len]);
         lowest = noted(lowest, s.number, seen.ok);
         records = records + seen.count;
-        right = s.at;
-        before = s.front + s.len;
         i += 1;
     }
     Tally {

@@ -1,4 +1,5 @@
--- Document 01's starred cases, S = 512, as one table of what the definitions give beside what the document says.
+-- Document 01's starred cases, S = 512, as one table of what the definitions give beside what the document says. Those of the index record are amended by
+-- document 02, L5: a field before each section's highest, whose F is counted against the highest of the section before.
 use Prim.Native.Nat.{ℕ, _-_}
 use mathlib.Core.Path.{_≡_, refl}
 use mathlib.Core.Bool.{Bool, true}
@@ -15,11 +16,12 @@ use Rattle.interval.specs.Layout.{groupBytes, groupsBytes, layout, form}
 use Rattle.interval.specs.Reading.{unusedField}
 use Rattle.index.specs.Bounds.{cutSeparator}
 use Rattle.index.specs.Meaning.{Entry, entry}
-use Rattle.index.specs.Pieces.{piecesSize, lastChars}
-use Rattle.index.specs.Layout.{pieceBytes, piecesBytes, freeBytes, header, trailer}
-use Rattle.index.specs.Form.{packed, entriesSize, entrySize, indexSize, indexBytes}
+use Rattle.index.specs.Layout.{pieceBytes, freeBytes, trailer}
 use Rattle.index.specs.Search.{leadsTo}
-use Rattle.index.proofs.Vectors.{meaning, has, counts as compressed}
+use Rattle.sections.specs.Parts.{Part, partsSize, sectionsIn}
+use Rattle.sections.specs.Layout.{ahead, partBytes, partsBytes, lastLong, header, layout as indexLayout}
+use Rattle.sections.specs.Form.{rootFrom, packedIn, packedAll, indexSize, indexBytes}
+use Rattle.sections.proofs.Vectors.{meaning, has}
 use Rattle.division.specs.Division.{difference, fitting, better, bestTo, bestCut, byCut, divisionOf, counts, parts}
 
 -- records of these lengths, of any content
@@ -50,6 +52,14 @@ cut = cutSeparator (0xC1 ∷ 0xF1 ∷ 0xF2 ∷ 0xF3 ∷ []) (0xC2 ∷ 0xF0 ∷ 0
 abbrev nested : List Entry
 nested = entry (0x41 ∷ 0x42 ∷ []) 0 ∷ entry (0x41 ∷ []) 1 ∷ entry [] 2 ∷ []
 
+abbrev fronted : List Entry
+fronted = entry (0x41 ∷ []) 0 ∷ entry (0x42 ∷ 0x43 ∷ []) 1 ∷ entry (0x42 ∷ []) 2 ∷ entry [] 3 ∷ []
+
+-- F and L of each entry
+abbrev compressed : List Part → List ℕ
+compressed [] = []
+compressed (p ∷ ps) = p .piece .front ∷ length (p .piece .chars) ∷ compressed ps
+
 pub table : Bool
 table =
     all
@@ -68,20 +78,28 @@ table =
     -- 400 between 250 and 240, and before both
     ∷ divides (inserted (250 ∷ 240 ∷ []) 1 400) 1 (1 ∷ 1 ∷ 1 ∷ [])
     ∷ divides (inserted (250 ∷ 240 ∷ []) 0 400) 0 (1 ∷ 2 ∷ [])
-    -- two intervals, the second free; and after a cut
+    -- two intervals, the second free; and after a cut: one section, whose field is zero
     ∷ has (meaning (1 ∷ []) (entry [] 0 ∷ [])) 18 (0x00 ∷ 0x19 ∷ 0x01 ∷ 0xF6 ∷ 0x01 ∷ 0xF6 ∷ 0x01 ∷ [])
+    ∷ has (meaning (1 ∷ []) (entry [] 0 ∷ [])) 500 (0x00 ∷ 0x00 ∷ [])
     ∷ has (meaning [] (entry cut 0 ∷ entry [] 1 ∷ [])) 18 (0x00 ∷ 0x18 ∷ 0x01 ∷ 0xF2 ∷ 0x01 ∷ 0xF2 ∷ [])
+    ∷ has (meaning [] (entry cut 0 ∷ entry [] 1 ∷ [])) 496 (0x00 ∷ 0x00 ∷ [])
     ∷ has (meaning [] (entry cut 0 ∷ entry [] 1 ∷ [])) 498 (0x00 ∷ 0x00 ∷ 0x01 ∷ 0xC1 ∷ 0x00 ∷ 0x01 ∷ 0x00 ∷ [])
-    -- separators 41 42, 41 and none: F and L of each, and where three keys go
-    ∷ sameList (compressed (packed [] nested)) (0 ∷ 2 ∷ 1 ∷ 0 ∷ 0 ∷ 0 ∷ [])
+    -- separators 41 42, 41 and none, in sections of 2 and 1: F and L of each, the header's fields, the entries, and where three keys go
+    ∷ sameList (compressed (packedAll nested)) (0 ∷ 2 ∷ 0 ∷ 1 ∷ 0 ∷ 0 ∷ [])
+    ∷ has (meaning [] nested) 18 (0x00 ∷ 0x18 ∷ 0x01 ∷ 0xEB ∷ 0x01 ∷ 0xF1 ∷ [])
+    ∷ has (meaning [] nested) 489 (0x00 ∷ 0x00 ∷ 0x00 ∷ 0x00 ∷ 0x02 ∷ 0x00 ∷ 0x06 ∷ 0x41 ∷ 0x00 ∷ 0x01 ∷ 0x01 ∷ 0x41 ∷ 0x42 ∷ 0x00 ∷ 0x02 ∷ 0x00 ∷ [])
     ∷ eqb (leadsTo (0x41 ∷ 0x42 ∷ 0x99 ∷ 0x99 ∷ []) nested) 0
     ∷ eqb (leadsTo (0x41 ∷ 0x43 ∷ 0x00 ∷ 0x00 ∷ []) nested) 1
     ∷ eqb (leadsTo (0x42 ∷ 0x00 ∷ 0x00 ∷ 0x00 ∷ []) nested) 2
+    -- separators 41, 42 43, 42 and none, in two sections of 2: the third has F = 1 and L = 0, and is not the last
+    ∷ sameList (compressed (packedAll fronted)) (0 ∷ 1 ∷ 0 ∷ 2 ∷ 1 ∷ 0 ∷ 0 ∷ 0 ∷ [])
+    ∷ has (meaning [] fronted) 18 (0x00 ∷ 0x18 ∷ 0x01 ∷ 0xE8 ∷ 0x01 ∷ 0xF2 ∷ [])
+    ∷ has (meaning [] fronted) 486 (0x00 ∷ 0x00 ∷ 0x00 ∷ 0x00 ∷ 0x03 ∷ 0x01 ∷ 0x00 ∷ 0x02 ∷ 0x00 ∷ 0x0A ∷ 0x42 ∷ 0x43 ∷ 0x00 ∷ 0x02 ∷ 0x01 ∷ 0x41 ∷ 0x00 ∷ 0x01 ∷ 0x00 ∷ [])
     ∷ [])
 
--- every case comes out as document 01 has it
+-- every case comes out as document 01 has it, with document 02's amendments
 pub cases : table ≡ true
-unfolding table number digits orderOf common sum rdfCount push groups need fits concat groupBytes groupsBytes layout form cutSeparator piecesSize lastChars
-    pieceBytes piecesBytes freeBytes header trailer packed entriesSize entrySize indexSize indexBytes Rattle.index.specs.Layout.layout leadsTo difference fitting
+unfolding table number digits orderOf common sum rdfCount push groups need fits concat groupBytes groupsBytes layout form cutSeparator partsSize sectionsIn
+    ahead pieceBytes partBytes partsBytes lastLong freeBytes header trailer rootFrom packedIn indexSize indexBytes indexLayout leadsTo difference fitting
     better bestTo bestCut byCut divisionOf counts parts swap
 cases = refl

@@ -16,9 +16,10 @@ use Rattle.room.specs.Room.{rdfCount, push, groups, need, fits}
 use Rattle.interval.specs.Records.{ascendFrom, ascending}
 use Rattle.index.specs.Bounds.{bound, cutSeparator}
 use Rattle.index.specs.Rules.{boundBefore}
-use Rattle.index.specs.Form.{entrySize, entriesSize, indexSize}
 use Rattle.index.specs.Divided.{partsOf, dividedAt}
 use Rattle.index.specs.Cuts.{separators}
+use Rattle.sections.specs.Parts.{partsSize}
+use Rattle.sections.specs.Form.{rootFrom, packedIn, indexSize}
 use Rattle.division.specs.Division.{difference, fitting, better, bestTo, bestCut, byCut, divisionOf, counts, parts, pieces}
 use Rattle.area.specs.Reading.{whole, readArea}
 use Rattle.area.specs.Layout.{Lent, AreaLaidOut}
@@ -104,7 +105,7 @@ some-divided = refl
 
 -- and it is made.
 pub some-made : planOf sizes held insertion ≡ stores (storesOf sizes held insertion (divided sizes (held .filled) insertion))
-unfolding separators partsOf dividedAt indexSize entriesSize entrySize common cutSeparator swap widthFor
+unfolding separators partsOf dividedAt indexSize partsSize rootFrom packedIn common cutSeparator swap widthFor
 some-made =
     make-stores sizes held insertion
     (rw some-divided (omega arith), λ (h : 1 < length (divided sizes (held .filled) insertion)). rw some-divided (omega arith))

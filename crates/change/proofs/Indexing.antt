@@ -1,32 +1,28 @@
--- The index record's meaning after a division: it is that of the new content, it keeps all rules, and it is written as bytes.
-use Prim.Native.Nat.{ℕ, zero, suc, _+_, _-_, _≤_, _<_, _^_}
+-- The index record's meaning after a division: it is that of the new content, it keeps all rules, and it is of bytes.
+use Prim.Native.Nat.{ℕ, zero, suc, _+_, _-_, _≤_, _<_}
 use mathlib.Core.Path.{_≡_, refl, _∙_, ap}
 use mathlib.Core.Bool.{true}
 use mathlib.Core.List.{List, [], _∷_, _++_, append-assoc}
-use lib.ListN.{length, getD, take, drop, replicate, length-drop}
+use lib.ListN.{length, getD, take, drop}
 use lib.Seq.{take-length, take-take, length-take-le, split-at}
 use native.Mathlib.Numerals.{add-one}
 use native.Mathlib.Omega.{arith}
 use native.Mathlib.Nat.{sub-zero}
-use Rattle.fields.specs.Bytes.{Octets, digits}
+use Rattle.fields.specs.Bytes.{Octets}
 use Rattle.fields.specs.Order.{common}
 use Rattle.fields.specs.Lists.{swap}
-use Rattle.fields.proofs.Fronts.{common-right}
-use Rattle.fields.proofs.Octets.{octets-nil, octets-cons, octets-append, octets-take, octets-drop, octets-part, octets-replicate, octets-digits}
+use Rattle.fields.proofs.Octets.{octets-take}
 use Rattle.measures.specs.declared.Measures.{Measures}
 use Rattle.interval.specs.Records.{keyOf}
 use Rattle.index.specs.Bounds.{bound, cutSeparator}
-use Rattle.index.specs.Meaning.{Entry, Meaning, numbers, entry}
-use Rattle.index.specs.Rules.{rises, keepsRules, boundBefore}
-use Rattle.index.specs.Layout.{pieceBytes, piecesBytes, freeBytes, unusedPlace, lastPlace, recordLength, header, trailer, layout}
-use Rattle.index.specs.Form.{pack, packed, indexSize, indexBytes}
-use Rattle.index.specs.Reading.{readIndex}
+use Rattle.index.specs.Meaning.{Entry, numbers, entry}
+use Rattle.index.specs.Rules.{keepsRules, boundBefore}
 use Rattle.index.specs.Divided.{beforeCut, afterCut, partsOf, dividedAt}
 use Rattle.index.specs.Cuts.{lastOf, firstOf, separators}
-use Rattle.index.proofs.Keeping.{separator-short, rises-apart}
-use Rattle.index.proofs.Closing.{SeparatorsOctets, read-octets}
+use Rattle.index.proofs.Closing.{SeparatorsOctets}
 use Rattle.index.proofs.Inserting.{before-snoc}
 use Rattle.index.proofs.DividedRules.{divided-keeps, rightmost}
+use Rattle.sections.proofs.Octets.{MeansBytes}
 use Rattle.area.specs.Content.{Filled, Content, entriesOf, meaningOf}
 use Rattle.area.proofs.Filled.{entriesOf-append, entries-take, entries-drop}
 use Rattle.change.specs.Parts.{entryAt, taken}
@@ -153,73 +149,6 @@ separators-append (x ∷ xs) ys o =
 pub separators-join : (xs ys : List Entry) → SeparatorsOctets xs → SeparatorsOctets ys → SeparatorsOctets (xs ++ ys)
 separators-join [] ys o p = p
 separators-join (x ∷ xs) ys o p = (o .0, separators-join xs ys (o .1) p)
-
-octets-free : (w : ℕ) (xs : List ℕ) → Octets (freeBytes w xs)
-unfolding freeBytes
-octets-free w [] = octets-nil
-octets-free w (x ∷ xs) = octets-append (digits w x) (freeBytes w xs) (octets-digits w x) (octets-free w xs)
-
-octets-pieces : (w K : ℕ) (low ref : List ℕ) (es : List Entry) → K ≤ 255 → rises K low es ≡ true → SeparatorsOctets es → Octets (piecesBytes w (packed ref es))
-unfolding piecesBytes packed pieceBytes
-octets-pieces w K low ref [] h r o = octets-nil
-octets-pieces w K low ref (e ∷ es) h r o =
-    let a = rises-apart K low e es r in
-    let c : ℕ = common ref (e .sep) in
-    let s = separator-short K (e .sep) (a .0) in
-    let f : c < 256 = omega (arith, common-right ref (e .sep)) in
-    let l : length (drop c (e .sep)) < 256 = omega (arith, length-drop c (e .sep)) in
-    octets-append (piecesBytes w (packed (e .sep) es)) (pieceBytes w (pack ref (e .sep) (e .num))) (octets-pieces w K (bound K (e .sep)) (e .sep) es h (a .2) (o .1))
-    (octets-append (drop c (e .sep)) (c ∷ length (drop c (e .sep)) ∷ digits w (e .num)) (octets-drop c (e .sep) (o .0))
-    (octets-cons c (length (drop c (e .sep)) ∷ digits w (e .num)) f (octets-cons (length (drop c (e .sep))) (digits w (e .num)) l (octets-digits w (e .num)))))
-
--- the pointer indicator is a byte
-indicator-small : (w : ℕ) → w ≤ 4 → 2 ^ w - 1 < 256
-indicator-small zero h = omega arith
-indicator-small (suc zero) h = omega arith
-indicator-small (suc (suc zero)) h = omega arith
-indicator-small (suc (suc (suc zero))) h = omega arith
-indicator-small (suc (suc (suc (suc zero)))) h = omega arith
-indicator-small (suc (suc (suc (suc (suc w))))) h = absurd (omega arith)
-
-octets-header : (w : ℕ) (m : Meaning) (R u e : ℕ) → w ≤ 4 → Octets (m .kept) → m .spare < 256 → Octets (header w m R u e)
-unfolding header
-octets-header w m R u e few o h =
-    let d : List ℕ = digits 2 u ++ (digits 2 e ++ digits 2 e) in
-    let t : Octets d = octets-append (digits 2 u) (digits 2 e ++ digits 2 e) (octets-digits 2 u) (octets-append (digits 2 e) (digits 2 e) (octets-digits 2 e) (octets-digits 2 e)) in
-    octets-append (digits 2 R) ((w + 2) ∷ (2 ^ w - 1) ∷ (m .kept ++ (1 ∷ m .spare ∷ d))) (octets-digits 2 R)
-    (octets-cons (w + 2) ((2 ^ w - 1) ∷ (m .kept ++ (1 ∷ m .spare ∷ d))) (omega arith)
-    (octets-cons (2 ^ w - 1) (m .kept ++ (1 ∷ m .spare ∷ d)) (indicator-small w few)
-    (octets-append (m .kept) (1 ∷ m .spare ∷ d) o (octets-cons 1 (m .spare ∷ d) (omega arith) (octets-cons (m .spare) d h t)))))
-
-octets-trailer : (R : ℕ) → Octets (trailer R)
-unfolding trailer
-octets-trailer R =
-    octets-cons 0 (digits 2 R ++ (digits 2 R ++ digits 2 0)) (omega arith)
-    (octets-append (digits 2 R) (digits 2 R ++ digits 2 0) (octets-digits 2 R) (octets-append (digits 2 R) (digits 2 0) (octets-digits 2 R) (octets-digits 2 0)))
-
--- What an index record keeps and its separators are bytes.
-pub record MeansBytes (m : Meaning) : Type 0 where
-  pub kept : Octets (m .kept)
-  pub spare : m .spare < 256
-  pub sep-bytes : SeparatorsOctets (m .entries)
-
--- So it is of what is read from bytes,
-pub read-bytes : (w n : ℕ) (ib : List ℕ) → Octets ib → MeansBytes (readIndex w n ib)
-unfolding readIndex
-read-bytes w n ib o = record { kept = octets-part ib 4 12 o; spare = o 17; sep-bytes = read-octets w n ib o }
-
--- and then the writer's index record is bytes.
-pub index-octets : (w S K : ℕ) (low : List ℕ) (m : Meaning) → w ≤ 4 → K ≤ 255 → rises K low (m .entries) ≡ true → MeansBytes m → Octets (indexBytes w S m)
-unfolding indexBytes layout
-index-octets w S K low m few h r b =
-    let unused : List ℕ = replicate (S - 7 - indexSize w m) 0 in
-    let R : ℕ = recordLength w m unused (packed [] (m .entries)) in
-    let x : List ℕ = piecesBytes w (packed [] (m .entries)) in
-    octets-append (header w m R (unusedPlace w m) (lastPlace w m unused (packed [] (m .entries)))) (freeBytes w (m .free) ++ (unused ++ (x ++ trailer R)))
-    (octets-header w m R (unusedPlace w m) (lastPlace w m unused (packed [] (m .entries))) few (b .kept) (b .spare))
-    (octets-append (freeBytes w (m .free)) (unused ++ (x ++ trailer R)) (octets-free w (m .free))
-    (octets-append unused (x ++ trailer R) (octets-replicate (S - 7 - indexSize w m) 0 (omega arith))
-    (octets-append x (trailer R) (octets-pieces w K low [] (m .entries) h r (b .sep-bytes)) (octets-trailer R))))
 
 cut-octets : (left right : List ℕ) → Octets left → Octets (cutSeparator left right)
 unfolding cutSeparator

@@ -13,10 +13,10 @@ use Rattle.interval.specs.Layout.{form}
 use Rattle.index.specs.Bounds.{bound, cutSeparator}
 use Rattle.index.specs.Meaning.{numbers, namedOnce}
 use Rattle.index.specs.Rules.{keepsRules, boundBefore}
-use Rattle.index.specs.Layout.{LaidOut}
 use Rattle.index.specs.Cuts.{lastOf, firstOf, separators}
 use Rattle.index.proofs.Naming.{numbers-append}
 use Rattle.index.proofs.Keeping.{rules-apart}
+use Rattle.sections.specs.Layout.{LaidOut}
 use Rattle.division.specs.Fewest.{Held}
 use Rattle.division.proofs.Intervals.{held-form}
 use Rattle.area.specs.Content.{Filled, Content, indexIn, dataIn, entriesOf, meaningOf}

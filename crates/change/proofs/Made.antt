@@ -12,7 +12,7 @@ use Rattle.fields.specs.Lists.{swap}
 use Rattle.measures.specs.declared.Measures.{Measures}
 use Rattle.measures.proofs.Fine.{fits-small}
 use Rattle.interval.specs.Layout.{form}
-use Rattle.index.specs.Form.{indexSize, indexBytes}
+use Rattle.sections.specs.Form.{indexSize, indexBytes}
 use Rattle.division.specs.Fewest.{AllHeld, Fewest}
 use Rattle.division.proofs.Intervals.{fewest-unique}
 use Rattle.measures.specs.Judgement.{widthFor}

@@ -15,11 +15,13 @@ use Rattle.interval.specs.Layout.{form}
 use Rattle.index.specs.Bounds.{bound}
 use Rattle.index.specs.Meaning.{Meaning, numbers}
 use Rattle.index.specs.Rules.{keepsRules, boundBefore}
-use Rattle.index.specs.Layout.{LaidOut}
-use Rattle.index.specs.Form.{indexSize, indexBytes}
 use Rattle.index.specs.Divided.{dividedAt}
 use Rattle.index.proofs.Keeping.{rules-apart}
-use Rattle.index.proofs.ReadsBack.{form-length, form-laid-out}
+use Rattle.sections.specs.Layout.{LaidOut}
+use Rattle.sections.specs.Form.{indexSize, indexBytes}
+use Rattle.sections.proofs.Forming.{form-length}
+use Rattle.sections.proofs.ReadsBack.{form-laid}
+use Rattle.sections.proofs.Octets.{MeansBytes, read-bytes, index-octets}
 use Rattle.area.specs.Content.{Filled, Content, indexIn, dataIn, entriesOf, meaningOf}
 use Rattle.area.specs.Layout.{Lent, AreaLaidOut}
 use Rattle.area.proofs.Parts.{octets-index}
@@ -33,7 +35,7 @@ use Rattle.change.specs.Places.{placesOf, Apart, AllThere, AllWritten, n
 use Rattle.change.proofs.Apart.{these-below, these-apart}
 use Rattle.change.proofs.Storing.{Sized, AllSized, sized-append, there-append, stored-other, stored-there}
 use Rattle.change.proofs.Parting.{Ordered}
-use Rattle.change.proofs.Indexing.{entryOf, entriesOf-at, length-cuts, length-taken, meaning-parted, entries-around, meaning-one, parts-keep, MeansBytes, read-bytes, index-octets, parted-bytes}
+use Rattle.change.proofs.Indexing.{entryOf, entriesOf-at, length-cuts, length-taken, meaning-parted, entries-around, meaning-one, parts-keep, parted-bytes}
 use Rattle.change.proofs.Laying.{parts-named}
 use Rattle.change.proofs.Taking.{places-append, taken-places, not-first, among-one, among-places, places-apart, AllBytes, parts-bytes, form-sized, taken-sized, taken-written}
 
@@ -118,12 +120,12 @@ module _ (m : Measures) (n : ℕ) (area : List ℕ) (lent : Lent m n area) (c : 
       index-sized =
           record {
             inside = omega arith;
-            size = form-length (widthFor n) (m .size) ix twelve room;
+            size = form-length (widthFor n) (m .size) ix room twelve;
             octets = index-octets (widthFor n) (m .size) (m .key) [] ix (width-most n) (lent .fits .key-most) (rules-apart (m .size) (m .key) n [] [] ix new-rules .rising) new-bytes;
           }
 
       index-laid : LaidOut (widthFor n) (m .size) ix (indexBytes (widthFor n) (m .size) ix)
-      index-laid = form-laid-out (widthFor n) (m .size) ix twelve room (m .key) n [] [] (lent .fits .key-most) new-rules
+      index-laid = form-laid (widthFor n) (m .size) (m .key) n [] [] ix (lent .fits .key-most) twelve room new-rules
 
   -- ---- one part
 

@@ -10,7 +10,7 @@ use native.Mathlib.Omega.{arith}
 use borrow.Author.Tests.{ltb-true, ltb-false, lt-ltb, le-ltb}
 use Rattle.fields.specs.Choice.{pick, both}
 use Rattle.measures.specs.declared.Measures.{Measures}
-use Rattle.index.specs.Form.{indexSize}
+use Rattle.sections.specs.Form.{indexSize}
 use Rattle.area.specs.Content.{Content, widthIn}
 use Rattle.change.specs.Stores.{Store}
 use Rattle.change.specs.Parts.{Edit, divided}

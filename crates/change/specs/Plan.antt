@@ -1,4 +1,5 @@
--- What a change comes to: refusal 6, refusal 7, or the stores that make it: document 01, 'Dividing an interval' and 'What each number tells the depot'.
+-- What a change comes to: refusal 6, refusal 7, or the stores that make it: document 01, 'Dividing an interval' and 'What each number tells the depot'; document 02,
+-- L5, for the index record's sections.
 use Prim.Native.Nat.{ℕ, _+_, _-_}
 use mathlib.Core.List.{List, [], _∷_, _++_}
 use lib.ListN.{length}
@@ -7,9 +8,9 @@ use Rattle.fields.specs.Choice.{pick, both}
 use Rattle.measures.specs.declared.Measures.{Measures}
 use Rattle.interval.specs.Layout.{form}
 use Rattle.index.specs.Meaning.{Meaning}
-use Rattle.index.specs.Form.{indexSize, indexBytes}
 use Rattle.index.specs.Divided.{dividedAt}
 use Rattle.index.specs.Cuts.{separators}
+use Rattle.sections.specs.Form.{indexSize, indexBytes}
 use Rattle.area.specs.Content.{Content, meaningOf, widthIn}
 use Rattle.change.specs.Stores.{Store}
 use Rattle.change.specs.Parts.{Edit, entryAt, divided, taken}

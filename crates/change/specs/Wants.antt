@@ -2,7 +2,7 @@
 use Prim.Native.Nat.{ℕ, _-_, _≤_, _<_}
 use lib.ListN.{length}
 use Rattle.measures.specs.declared.Measures.{Measures}
-use Rattle.index.specs.Form.{indexSize}
+use Rattle.sections.specs.Form.{indexSize}
 use Rattle.area.specs.Content.{Content, widthIn}
 use Rattle.change.specs.Parts.{Edit, divided}
 use Rattle.change.specs.Plan.{indexAfter}

@@ -13,11 +13,12 @@ use Rattle.measures.specs.Judgement.{Fits, widthFor}
 use Rattle.measures.specs.declared.Measures.{Measures}
 use Rattle.measures.proofs.Fine.{fits-small, fits-large}
 use Rattle.index.specs.Meaning.{Meaning}
-use Rattle.index.specs.Form.{indexSize}
-use Rattle.index.specs.Reading.{readIndex}
-use Rattle.index.specs.Divided.{cuts, dividedAt, newMeaning}
+use Rattle.sections.specs.Form.{indexSize}
+use Rattle.sections.specs.Reading.{readIndex}
+use Rattle.index.specs.Divided.{cuts, dividedAt}
+use Rattle.sections.specs.Divided.{newMeaning}
 use Rattle.index.specs.Cuts.{lastOf, firstOf, separators}
-use Rattle.index_write.specs.AidStream.{Divisible}
+use Rattle.index_write.specs.AidDivided.{Divisible}
 use Rattle.division.specs.Division.{counts, divisionOf, parts, pieces}
 use Rattle.division.specs.declared.Division.{Division}
 use Rattle.division.specs.declared.Division.the-variants.{Stays, Two, Three}

@@ -9,8 +9,8 @@ use Rattle.measures.specs.declared.Measures.{Measures}
 use Rattle.measures.proofs.Width.{width-some, width-most}
 use Rattle.index.specs.Meaning.{Meaning}
 use Rattle.index.specs.Reading.{unusedAt, freeCount, numbersAt}
-use Rattle.index.proofs.Sounding.{sound-apart as record-apart}
-use Rattle.index.proofs.Free.{free-many, free-lie, free-below}
+use Rattle.sections.proofs.Sounding.{sound-apart as record-apart}
+use Rattle.sections.proofs.Free.{free-many, free-lie, free-below}
 use Rattle.index_write.specs.AidStream.{FreeLie}
 use Rattle.index_write.proofs.Taking.{taken-free}
 use Rattle.area.specs.Content.{Content, indexIn}

@@ -11,15 +11,17 @@ use Rattle.fields.specs.Choice.{pick}
 use Rattle.fields.proofs.Choices.{false-true}
 use Rattle.measures.specs.Judgement.{widthFor}
 use Rattle.measures.specs.declared.Measures.{Measures}
-use Rattle.index.specs.Form.{indexSize}
-use Rattle.index.specs.Divided.{cuts, newMeaning}
+use Rattle.sections.specs.Form.{indexSize}
+use Rattle.index.specs.Divided.{cuts}
+use Rattle.sections.specs.Divided.{newMeaning}
 use Rattle.interval_edit.specs.declared.Site.{Site}
 use Rattle.area.specs.Content.{Content, widthIn}
 use Rattle.area.specs.Reading.{readArea, whole}
 use Rattle.change.specs.Parts.{Edit, divided, taken}
 use Rattle.change.specs.Plan.{Plan, indexAfter}
 use Rattle.change.proofs.Planning.{refuse-interval, refuse-room, make-stores}
-use Rattle.index_write.specs.AidStream.{Divisible, CutsLie, cutsIn, newRecord}
+use Rattle.index_write.specs.AidStream.{CutsLie, cutsIn}
+use Rattle.index_write.specs.AidDivided.{Divisible, newRecord}
 use Rattle.index_write.specs.declared.Cuts.{Cuts}
 use Rattle.change_plan.specs.AidEdited.{Entered}
 use Rattle.change_plan.specs.AidParts.{stretch, partsAt, threeOf, CutInside, leftKeyAt, separatorAt, leftKeys, cutsAt}

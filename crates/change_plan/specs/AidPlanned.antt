@@ -6,7 +6,7 @@ use lib.ListN.{length, getD}
 use lib.Dec.{ltb}
 use Rattle.fields.specs.Choice.{pick}
 use Rattle.measures.specs.declared.Measures.{Measures}
-use Rattle.index.specs.Form.{indexSize}
+use Rattle.sections.specs.Form.{indexSize}
 use Rattle.interval_edit.specs.declared.Site.{Site}
 use Rattle.area.specs.Content.{Content, widthIn}
 use Rattle.area.specs.Reading.{whole, readArea}

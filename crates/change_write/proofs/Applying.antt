@@ -16,9 +16,11 @@ use Rattle.measures.specs.Judgement.{widthFor}
 use Rattle.measures.specs.declared.Measures.{Measures}
 use Rattle.room.specs.Room.{need}
 use Rattle.interval.specs.Layout.{form}
-use Rattle.index.specs.Form.{indexSize, indexBytes}
-use Rattle.index.specs.Divided.{cuts, newMeaning}
-use Rattle.index_write.specs.AidStream.{Divisible, CutsLie, cutsIn, newRecord}
+use Rattle.sections.specs.Form.{indexSize, indexBytes}
+use Rattle.index.specs.Divided.{cuts}
+use Rattle.sections.specs.Divided.{newMeaning}
+use Rattle.index_write.specs.AidStream.{CutsLie, cutsIn}
+use Rattle.index_write.specs.AidDivided.{Divisible, newRecord}
 use Rattle.index_write.specs.declared.Cuts.{Cuts}
 use Rattle.area.specs.Content.{dataIn}
 use Rattle.area.proofs.Places.{index-ends}

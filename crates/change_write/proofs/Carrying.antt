@@ -13,7 +13,7 @@ use Rattle.measures.specs.Judgement.{widthFor}
 use Rattle.measures.specs.declared.Measures.{Measures}
 use Rattle.measures.proofs.Fine.{fits-small}
 use Rattle.interval.specs.Layout.{form}
-use Rattle.index.specs.Form.{indexSize, indexBytes}
+use Rattle.sections.specs.Form.{indexSize, indexBytes}
 use Rattle.index.specs.Divided.{cuts}
 use Rattle.index.specs.Cuts.{separators}
 use Rattle.interval_edit.specs.AidChanged.{freshIn}

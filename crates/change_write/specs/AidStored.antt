@@ -14,8 +14,9 @@ use Rattle.room.specs.Room.{need}
 use Rattle.interval.specs.Layout.{form}
 use Rattle.interval.specs.Reading.{Readable}
 use Rattle.index.specs.Meaning.{Meaning}
-use Rattle.index.specs.Form.{indexSize, indexBytes}
-use Rattle.index.specs.Divided.{cuts, newMeaning}
+use Rattle.sections.specs.Form.{indexSize, indexBytes}
+use Rattle.index.specs.Divided.{cuts}
+use Rattle.sections.specs.Divided.{newMeaning}
 use Rattle.interval_edit.specs.declared.Site.{Site}
 use Rattle.area.specs.Content.{dataIn}
 use Rattle.change_plan.specs.AidEdited.{Entered, editedRecords, Seen}

@@ -1,19 +1,16 @@
--- Bytes taken apart from the left: what lies at a place, and what follows it; free numbers and pieces that are read lie there.
+-- Bytes taken apart from the left: what lies at a place, and what follows it; free numbers and an entry that are read lie there.
 use Prim.Native.Nat.{ℕ, zero, suc, _+_, _-_, _*_, _≤_, _<_}
 use mathlib.Core.Path.{_≡_, refl, _∙_, sym, ap}
-use mathlib.Core.Bool.{true}
 use mathlib.Core.List.{List, _∷_, _++_, append-assoc, [], append-nil}
 use lib.ListN.{length, getD, drop, length-take, length-drop, take-append-drop}
 use lib.Seq.{drop-drop, drop-cons, drop-length}
 use native.Mathlib.Omega.{arith}
 use native.Mathlib.Nat.{mul-suc}
-use borrow.Author.Tests.{lt-ltb}
 use Rattle.fields.specs.Bytes.{Octets, part, number, digits}
-use Rattle.fields.specs.Lists.{every}
 use Rattle.fields.proofs.Numbers.{digits-number}
-use Rattle.index.specs.Pieces.{Piece, oneByteEach, pieceSize, piecesSize, spell}
-use Rattle.index.specs.Layout.{pieceBytes, piecesBytes, freeBytes, trailer}
-use Rattle.index.specs.Reading.{numbersAt, lengthAt, pieceAt, piecesAt, freeCount, piecesIn, readIndex}
+use Rattle.index.specs.Pieces.{pieceSize}
+use Rattle.index.specs.Layout.{pieceBytes, freeBytes, trailer}
+use Rattle.index.specs.Reading.{numbersAt, lengthAt, pieceAt}
 use Rattle.index.proofs.Sounding.{Framed}
 
 -- l bytes at a, and what follows them
@@ -45,20 +42,6 @@ number-at w ib a (suc c) (suc i) h =
     let z : a + w * suc i ≡ a + w + w * i = omega (arith, mul-suc w i) in
     rw z (number-at w ib (a + w) c i (omega arith))
 
-pub length-piecesAt : (w : ℕ) (b : List ℕ) (r k : ℕ) → length (piecesAt w b r k) ≡ k
-unfolding piecesAt
-length-piecesAt w b r zero = refl
-length-piecesAt w b r (suc k) = rw (length-piecesAt w b (r - pieceSize w (pieceAt w b r)) k)
-
--- what the reading takes for free numbers, and for entries
-pub free-are : (w n : ℕ) (ib : List ℕ) → readIndex w n ib .free ≡ numbersAt w ib 24 (freeCount w ib)
-unfolding readIndex
-free-are w n ib = refl
-
-pub entries-are : (w n : ℕ) (ib : List ℕ) → readIndex w n ib .entries ≡ spell [] (piecesIn w n ib)
-unfolding readIndex
-entries-are w n ib = refl
-
 -- c free numbers that are read from a on
 pub free-at : (w : ℕ) (b : List ℕ) (a c z : ℕ) (t : List ℕ) → Octets b → a + w * c ≡ z → z ≤ length b → drop z b ≡ t
     → drop a b ≡ freeBytes w (numbersAt w b a c) ++ t
@@ -74,12 +57,6 @@ chars-long w b r h k =
     let n : ℕ = lengthAt w b r in
     omega (arith, length-take n (drop (r - (w + 2 + n)) b), length-drop (r - (w + 2 + n)) b)
 
--- In an interval of at least 255 bytes that is so of whatever is read, in its room or not.
-pub chars-read : (w : ℕ) (b : List ℕ) (r : ℕ) → Octets b → 255 ≤ length b → r ≤ length b → length (pieceAt w b r .chars) ≡ lengthAt w b r
-chars-read w b r o h k =
-    let n : ℕ = lengthAt w b r in
-    omega (arith, o (r - (w + 1)), length-take n (drop (r - (w + 2 + n)) b), length-drop (r - (w + 2 + n)) b)
-
 -- the piece that is read as ending at r
 pub piece-at : (w : ℕ) (b : List ℕ) (r : ℕ) (t : List ℕ) → Octets b → r ≤ length b → pieceSize w (pieceAt w b r) ≤ r → drop r b ≡ t
     → drop (r - pieceSize w (pieceAt w b r)) b ≡ pieceBytes w (pieceAt w b r) ++ t
@@ -94,30 +71,6 @@ piece-at w b r t o h k q =
     let d4 : drop (r - (w + 2 + n)) b ≡ pieceAt w b r .chars ++ (getD b (r - (w + 2)) 0 ∷ n ∷ (digits w (number w b (r - w)) ++ t)) =
     part-at b (r - (w + 2 + n)) n (r - (w + 2)) _ (omega arith) d3 in
     rw l (d4 ∙ sym (append-assoc (pieceAt w b r .chars) _ t))
-
--- all pieces that are read as ending at r
-pub pieces-at : (w : ℕ) (b : List ℕ) (r e : ℕ) (t : List ℕ) → Octets b → r ≤ length b → piecesSize w (piecesAt w b r e) ≤ r → drop r b ≡ t
-    → drop (r - piecesSize w (piecesAt w b r e)) b ≡ piecesBytes w (piecesAt w b r e) ++ t
-unfolding piecesBytes piecesSize piecesAt
-pieces-at w b r zero t o h k q = let d : r - 0 ≡ r = omega arith in rw d q
-pieces-at w b r (suc e) t o h k q =
-    let p : Piece = pieceAt w b r in
-    let z : ℕ = r - pieceSize w p in
-    let i : drop z b ≡ pieceBytes w p ++ t = piece-at w b r t o h (omega arith) q in
-    let j : drop (z - piecesSize w (piecesAt w b z e)) b ≡ piecesBytes w (piecesAt w b z e) ++ (pieceBytes w p ++ t) =
-    pieces-at w b z e (pieceBytes w p ++ t) o (omega arith) (omega arith) i in
-    let g : r - (pieceSize w p + piecesSize w (piecesAt w b z e)) ≡ z - piecesSize w (piecesAt w b z e) = omega arith in
-    rw g (j ∙ sym (append-assoc (piecesBytes w (piecesAt w b z e)) (pieceBytes w p) t))
-
--- F and L of what is read are bytes
-pub small-at : (w : ℕ) (b : List ℕ) (r e : ℕ) → Octets b → oneByteEach (piecesAt w b r e) ≡ true
-unfolding every piecesAt
-small-at w b r zero o = refl
-small-at w b r (suc e) o =
-    let n : ℕ = lengthAt w b r in
-    let f : getD b (r - (w + 2)) 0 < 256 = o (r - (w + 2)) in
-    let l : length (pieceAt w b r .chars) < 256 = omega (arith, o (r - (w + 1)), length-take n (drop (r - (w + 2 + n)) b)) in
-    rw (lt-ltb _ _ f, lt-ltb _ _ l, small-at w b (r - pieceSize w (pieceAt w b r)) e o)
 
 -- RDF and CIDF of a framed record hold what they must
 pub trailer-at : (w : ℕ) (b : List ℕ) → Octets b → 31 ≤ length b → Framed w b → drop (length b - 7) b ≡ trailer (length b - 7)

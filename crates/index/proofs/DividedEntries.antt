@@ -1,19 +1,18 @@
 -- Laws of the meaning after a division.
-use Prim.Native.Nat.{ℕ, suc, _+_, _-_, _≤_, _<_}
+use Prim.Native.Nat.{ℕ, _+_, _-_, _≤_}
 use mathlib.Core.Path.{_≡_, refl, _∙_, sym, ap}
 use mathlib.Core.Bool.{true, false}
-use mathlib.Core.List.{List, [], _∷_, _++_, append-assoc}
+use mathlib.Core.List.{List, [], _∷_, _++_}
 use lib.ListN.{length, getD, take, drop}
-use lib.Seq.{take-at, getD-at, drop-append-add, split-at, length-take-le, take-take}
+use lib.Seq.{take-at, getD-at, drop-append-add, length-take-le, take-take}
 use native.Mathlib.Omega.{arith}
 use Rattle.fields.specs.Bytes.{Octets}
 use Rattle.fields.specs.Order.{less}
 use Rattle.fields.specs.Lists.{swap}
 use Rattle.index.specs.Meaning.{Entry, Meaning, entry}
 use Rattle.index.specs.Bounds.{bound, cutSeparator}
-use Rattle.index.specs.Rules.{closed, keepsRules, boundBefore}
+use Rattle.index.specs.Rules.{keepsRules, boundBefore}
 use Rattle.index.specs.Divided.{beforeCut, afterCut, partsOf, dividedAt}
-use Rattle.index.proofs.Inserting.{closed-insert}
 use Rattle.index.proofs.DividedRules.{divided-keeps, divided-twice-keeps, rightmost}
 
 -- There is one part more than there are cuts.
@@ -29,31 +28,6 @@ unfolding dividedAt swap
 divided-entries m pre e post i seps split h =
     let d : drop (i + 1) (pre ++ (e ∷ post)) ≡ post = rw (← h) (drop-append-add pre (e ∷ post) 1) in
     rw (split, take-at pre (e ∷ post) i h, getD-at pre e post (record { sep = []; num = 0 }) i h, d)
-
--- ---- the last entry
-
--- The last entry keeps its separator, whichever entry is afterCut.
-pub parts-closed : (end : List ℕ) (seps : List (List ℕ)) (free : List ℕ) (pre : List Entry) (e : Entry) (post : List Entry) → closed end (pre ++ (e ∷ post)) ≡ true
-    → closed end (pre ++ (partsOf seps free e ++ post)) ≡ true
-unfolding partsOf
-parts-closed end [] free pre e post h = h
-parts-closed end (s ∷ seps) free pre e post h =
-    let a : ℕ = getD free (length free - 1) 0 in
-    let f : Entry = entry (e .sep) a in
-    let p : pre ++ (entry s (e .num) ∷ f ∷ post) ≡ (pre ++ (entry s (e .num) ∷ [])) ++ (f ∷ post) = simp append-assoc in
-    let k : closed end ((pre ++ (entry s (e .num) ∷ [])) ++ (f ∷ post)) ≡ true = rw p at (closed-insert end pre s (e .num) a e post h) in
-    rw append-assoc at (parts-closed end seps (take (length free - 1) free) (pre ++ (entry s (e .num) ∷ [])) f post k)
-
-pub divided-closed : (end : List ℕ) (m : Meaning) (i : ℕ) (seps : List (List ℕ)) → i < length (m .entries) → closed end (m .entries) ≡ true
-    → closed end (dividedAt m i seps .entries) ≡ true
-divided-closed end m i seps h k =
-    let none : Entry = record { sep = []; num = 0 } in
-    let pre : List Entry = take i (m .entries) in
-    let e : Entry = getD (m .entries) i none in
-    let post : List Entry = drop (suc i) (m .entries) in
-    let s : m .entries ≡ pre ++ (e ∷ post) = split-at (m .entries) i none h in
-    rw (divided-entries m pre e post i seps s (length-take-le i (m .entries) (omega arith)))
-    (parts-closed end seps (m .free) pre e post (rw s at k))
 
 -- ---- all rules
 
@@ -80,7 +54,7 @@ module _ (m : Meaning) (pre : List Entry) (e : Entry) (post : List Entry) (i : �
   after : drop (i + 1) (pre ++ (e ∷ post)) ≡ post
   after = rw (← place) (drop-append-add pre (e ∷ post) 1)
 
-  -- One cut is the division into two of index/proofs/DividedRules.antt.
+  -- One cut is the division into two of proofs/DividedRules.antt.
   divided-one : (s : List ℕ) → dividedAt m i (s ∷ []) ≡ afterCut (m .kept) (m .spare) f1 a1 pre e post s
   unfolding dividedAt partsOf swap
   divided-one s = rw (split, take-at pre (e ∷ post) i place, getD-at pre e post (record { sep = []; num = 0 }) i place, after)

@@ -1,6 +1,6 @@
--- What lies at a place of bytes that were laid: free numbers and pieces are read back.
-use Prim.Native.Nat.{ℕ, suc, _+_, _-_, _^_, _≤_, _<_}
-use mathlib.Core.Path.{_≡_, refl, _∙_, ap}
+-- What lies at a place of bytes that were laid: free numbers and an entry are read back.
+use Prim.Native.Nat.{ℕ, _+_, _-_, _^_, _≤_, _<_}
+use mathlib.Core.Path.{_≡_, refl, _∙_}
 use mathlib.Core.Bool.{true}
 use mathlib.Core.List.{List, [], _∷_, _++_, append-assoc}
 use lib.ListN.{length, getD, length-append}
@@ -11,11 +11,10 @@ use Rattle.fields.specs.Bytes.{part, number, digits}
 use Rattle.fields.specs.Lists.{every}
 use Rattle.fields.proofs.Choices.{both-split}
 use Rattle.fields.proofs.Numbers.{length-digits, at-seam, part-seam, number-seam}
-use Rattle.index.specs.Meaning.{numbers, below}
-use Rattle.index.specs.Pieces.{Piece, spelt, spell, pieceSize, piecesSize}
-use Rattle.index.specs.Layout.{pieceBytes, piecesBytes, freeBytes}
-use Rattle.index.specs.Reading.{numbersAt, pieceAt, piecesAt}
-use Rattle.index.proofs.Compressing.{length-piecesBytes}
+use Rattle.index.specs.Meaning.{below}
+use Rattle.index.specs.Pieces.{Piece, pieceSize}
+use Rattle.index.specs.Layout.{pieceBytes, freeBytes}
+use Rattle.index.specs.Reading.{numbersAt, pieceAt}
 
 -- Free numbers that were laid are read, if they are below what w bytes hold.
 pub free-there : (w n : ℕ) (b p xs t : List ℕ) (i : ℕ) → n ≤ 256 ^ w → below n xs ≡ true → b ≡ p ++ (freeBytes w xs ++ t) → length p ≡ i → numbersAt w b i (length xs) ≡ xs
@@ -41,21 +40,3 @@ piece-there w b p t x r l q h =
     let e4 : number w b (r - w) ≡ x .num =
     number-seam w b (p ++ (c ++ (f ∷ n ∷ []))) t (x .num) _ l (q ∙ simp append-assoc) (simp length-append (omega arith)) in
     rw (e2, e1, e3, e4)
-
-pub pieces-cons : (w : ℕ) (b : List ℕ) (r e : ℕ) (x : Piece) → pieceAt w b r ≡ x → piecesAt w b r (suc e) ≡ x ∷ piecesAt w b (r - pieceSize w x) e
-unfolding piecesAt
-pieces-cons w b r e x q = ap (λ (y : Piece). y ∷ piecesAt w b (r - pieceSize w y) e) q
-
--- All pieces that were laid up to r are read from there, each from the right edge that the one before left.
-pub pieces-there : (w n : ℕ) (b p t ref : List ℕ) (ps : List Piece) (r : ℕ) → n ≤ 256 ^ w → below n (numbers (spell ref ps)) ≡ true
-    → b ≡ p ++ (piecesBytes w ps ++ t) → length p + piecesSize w ps ≡ r → piecesAt w b r (length ps) ≡ ps
-unfolding piecesAt piecesBytes piecesSize spell every
-pieces-there w n b p t ref [] r h l q e = refl
-pieces-there w n b p t ref (x ∷ ps) r h l q e =
-    let s = both-split (ltb (x .num) n) (below n (numbers (spell (spelt ref x) ps))) l in
-    let k : length (piecesBytes w ps) ≡ piecesSize w ps = length-piecesBytes w ps in
-    let e1 : pieceAt w b r ≡ x =
-    piece-there w b (p ++ piecesBytes w ps) t x r (omega (arith, ltb-true (x .num) n (s .0))) (q ∙ simp append-assoc) (simp length-append (omega arith)) in
-    let e2 : r - pieceSize w x ≡ length p + piecesSize w ps = omega arith in
-    pieces-cons w b r (length ps) x e1
-    ∙ rw (e2, pieces-there w n b p (pieceBytes w x ++ t) (spelt ref x) ps (length p + piecesSize w ps) h (s .1) (q ∙ simp append-assoc) refl)

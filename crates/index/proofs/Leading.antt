@@ -92,8 +92,3 @@ module _ (K : ℕ) (key : List ℕ) (long : length key ≡ K) (o : Octets key) w
 pub belongs-inside : (K : ℕ) (low key : List ℕ) (es : List Entry) (i : ℕ) → Belongs K low key es i → i < length es
 belongs-inside K low key es i b =
     omega (arith, ap (λ (x : List Entry). length x) (b .split), length-append (b .pre) (b .entry ∷ b .post), b .place)
-
--- So where a key leads is below the number of entries.
-pub lead-inside : (K : ℕ) (key low end : List ℕ) (es : List Entry) → length key ≡ K → Octets key → less low key ≡ true → less (bound K end) key ≡ false
-    → rises K low es ≡ true → closed end es ≡ true → leadsTo key es < length es
-lead-inside K key low end es l o a b r c = belongs-inside K low key es (leadsTo key es) (lead-belongs K key l o low end es a b r c)

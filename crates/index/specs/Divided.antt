@@ -6,7 +6,6 @@ use lib.ListN.{length, getD, take}
 use Rattle.fields.specs.Choice.{pick}
 use Rattle.fields.specs.Lists.{swap}
 use Rattle.index.specs.Meaning.{Entry, Meaning, entry}
-use Rattle.index.specs.Reading.{readIndex}
 
 -- The separators of the cuts: one where there are two parts, two where there are three.
 abbrev pub cuts : Bool → List ℕ → List ℕ → List (List ℕ)
@@ -33,10 +32,6 @@ dividedAt m i seps =
       free = freeAfter (length seps) (m .free);
       entries = swap i 1 (partsOf seps (m .free) (getD (m .entries) i (record { sep = []; num = 0 }))) (m .entries);
     }
-
--- What an index record ib of n intervals means after that. w is the width of a pointer.
-abbrev pub newMeaning : ℕ → ℕ → List ℕ → ℕ → List (List ℕ) → Meaning
-newMeaning w n ib i seps = dividedAt (readIndex w n ib) i seps
 
 -- a meaning in which an entry and the rightmost free number stand out, and what a cut makes of it
 abbrev pub beforeCut : List ℕ → ℕ → List ℕ → ℕ → List Entry → Entry → List Entry → Meaning

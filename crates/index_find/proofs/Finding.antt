@@ -13,15 +13,17 @@ use Rattle.fields.specs.declared.Order.{Order}
 use Rattle.measures.specs.Judgement.{widthFor}
 use Rattle.measures.proofs.Width.{width-most}
 use Rattle.index.specs.Meaning.{Entry, entry, numbers}
-use Rattle.index.specs.Pieces.{spelt}
-use Rattle.index.specs.Reading.{lengthAt, pieceAt, readIndex}
 use Rattle.index.specs.Search.{leadsTo}
-use Rattle.index.proofs.Sounding.{sound-apart}
 use Rattle.index.proofs.Keeping.{Keeps, rules-apart}
 use Rattle.index.proofs.Leading.{lead-base, belongs-inside}
+use Rattle.sections.specs.Reading.{readIndex}
+use Rattle.sections.proofs.Sounding.{sound-apart}
 use Rattle.index_step.specs.declared.Step.{Step}
-use Rattle.index_step.specs.AidStep.{frontAt, charsAt, stepAt, Lies, reach}
-use Rattle.index_step.proofs.Stepping.{Standing, Stepped, standing-start, standing-step, entries-count, reach-most, extended-front, extended-length}
+use Rattle.index_step.specs.declared.Place.{Place}
+use Rattle.index_step.specs.AidStep.{stepAt, placeStart, placePast, Lies, reach, Renewed}
+use Rattle.index_step.specs.AidEntries.{Here, hereFirst, sepHere, entryHere, hereNext, Held}
+use Rattle.index_step.proofs.Passing.{held-lies, held-step, step-few, step-long, step-past, step-renews, held-on}
+use Rattle.index_step.proofs.Stepping.{Standing, Stepped, standing-start, standing-step, held-start, entries-count}
 use Rattle.index_find.specs.AidLocate.{Searchable, Leads}
 
 -- the answer of a comparison
@@ -36,23 +38,24 @@ leads-inside ib n key g o =
     let es : List Entry = readIndex (widthFor n) n ib .entries in
     belongs-inside (length key) [] key es (leadsTo key es) (lead-base (length key) key refl o es (g .some) (k .rising) (k .closing))
 
--- How far the search has come: it stands before entry i, and buf begins with the separator before.
-pub record State (ib : List ℕ) (n : ℕ) (key buf : List ℕ) (r i : ℕ) : Type 0 where
-  pub len : ℕ
-  pub ref : List ℕ
-  pub standing : Standing (widthFor n) (length key) n ib i r len ref
+-- How far the search has come: it stands before entry i, and the buffers begin with the separator before and the highest of the section before.
+pub record State (ib : List ℕ) (n : ℕ) (key buf high : List ℕ) (p : Place) (i : ℕ) : Type 0 where
+  pub here : Here
+  pub standing : Standing (widthFor n) (length key) n ib i here
+  pub held : Held here p buf high
   pub whole : length buf ≡ 263
-  pub front : take len buf ≡ ref
+  pub whole' : length high ≡ 263
   pub same : leadsTo key (readIndex (widthFor n) n ib .entries) ≡ i + leadsTo key (drop i (readIndex (widthFor n) n ib .entries))
 
-pub start : (ib : List ℕ) (n : ℕ) (key : List ℕ) → Searchable ib n key → State ib n key (replicate 263 0) (length ib - 7) 0
-start ib n key g =
+pub start : (ib : List ℕ) (n : ℕ) (key : List ℕ) (p : Place) → Searchable ib n key → p ≡ placeStart ib → State ib n key (replicate 263 0) (replicate 263 0) p 0
+start ib n key p g is =
+    let z : length {A = ℕ} (replicate 263 0) ≡ 263 = length-replicate {A = ℕ} 263 0 in
     record {
-      len = 0;
-      ref = [];
+      here = hereFirst ib;
       standing = standing-start (widthFor n) (length key) n ib (omega (arith, g .least)) (g .short) (g .sound);
-      whole = length-replicate {A = ℕ} 263 0;
-      front = refl;
+      held = rw is (held-start ib (replicate 263 0) (replicate 263 0) (omega (arith, z)) (omega (arith, z)));
+      whole = z;
+      whole' = z;
       same = omega arith;
     }
 
@@ -62,81 +65,84 @@ number-there [] (suc i) x ys h = absurd (let z : _≡_ {A = ℕ} 0 1 = cc in ome
 number-there (e ∷ es) zero x ys h = let a : e ≡ x = cc in rw a
 number-there (e ∷ es) (suc i) x ys h = number-there es i x ys h
 
-module _ (ib : List ℕ) (n : ℕ) (key buf : List ℕ) (r i : ℕ) (g : Searchable ib n key) (o : Octets key) (st : State ib n key buf r i) where
+module _ (ib : List ℕ) (n : ℕ) (key buf high : List ℕ) (p : Place) (i : ℕ) (g : Searchable ib n key) (o : Octets key) (st : State ib n key buf high p i) where
   abbrev w : ℕ
   w = widthFor n
 
   abbrev es : List Entry
   es = readIndex (widthFor n) n ib .entries
 
+  abbrev h : Here
+  h = st .here
+
   more : i < length es
   more = omega (arith, leads-inside ib n key g o, st .same)
 
   -- it never runs out
   pub not-past : n ≤ i → ⊥
-  not-past h = omega (arith, more, entries-count w n ib)
+  not-past l = omega (arith, more, entries-count w n ib)
 
-  step : Stepped w (length key) n ib i r (st .len) (st .ref)
-  step = standing-step w (length key) n ib i r (st .len) (st .ref) (st .standing) more
-
-  abbrev F : ℕ
-  F = frontAt (widthFor n) ib r
-
-  abbrev L : ℕ
-  L = lengthAt (widthFor n) ib r
-
-  abbrev sep : List ℕ
-  sep = spelt (st .ref) (pieceAt (widthFor n) ib r)
-
-  fits : F + reach L ≤ length buf
-  fits = omega (arith, step .fits, g .short, st .whole, reach-most L)
+  step : Stepped w (length key) n ib i h
+  step = standing-step w (length key) n ib i h (st .standing) more
 
   -- for the calls
-  pub entry-lies : Lies (widthFor n) ib r
-  entry-lies = (width-most n, omega (arith, st .standing .lie .inside), step .room)
+  pub entry-lies : Lies (widthFor n) ib (p .right)
+  entry-lies = held-lies w ib h p buf high (st .held) (st .standing .inside) (step .lies) (width-most n)
 
-  pub extend-fits : (s : Step) → s ≡ stepAt (widthFor n) ib r → (s .front + reach (s .len) ≤ length buf) × (s .at + reach (s .len) ≤ length ib)
-  extend-fits s e = rw e (fits, step .inside)
+  module _ (s : Step) (e : s ≡ stepAt (widthFor n) ib (p .right) (p .end)) where
+    is : s ≡ stepAt (widthFor n) ib (h .right) (h .end)
+    is = held-step w ib h p buf high (st .held) (st .standing .inside) (step .lies) s e
 
-  pub below-fits : (s : Step) → s ≡ stepAt (widthFor n) ib r → s .front + s .len ≤ length key
-  below-fits s e = rw e (step .fits)
+    pub renew-fits : (s .front + s .len + 8 ≤ length high) × (s .front + s .len + 8 ≤ length buf) × (s .at + reach (s .len) ≤ length ib)
+    renew-fits = step-renews w ib h p buf high (st .held) (st .standing .inside) (step .lies) s is
 
-  module _ (s : Step) (e : s ≡ stepAt (widthFor n) ib r) (new : List ℕ) (is : new ≡ splice buf (s .front) (part ib (s .at) (reach (s .len)))) where
-    is' : new ≡ splice buf F (part ib (charsAt w ib r) (reach L))
-    is' = rw e at is
+    pub past-fits : (s .front + s .len ≤ 510) × (s .at ≤ length ib) × (pick (s .closes) 2 0 ≤ s .at)
+    past-fits = step-past w ib h p buf high (st .held) (st .standing .inside) (step .lies) s is
 
-    pub whole-on : length new ≡ 263
-    whole-on = extended-length ib buf new F L (charsAt w ib r) fits (step .inside) is' ∙ st .whole
+    long : length (sepHere w ib h) ≡ s .front + s .len
+    long = step-long w ib h p buf high (st .held) (st .standing .inside) (step .lies) s is
 
-    front-on : take (F + L) new ≡ sep
-    front-on = extended-front ib buf new F L (charsAt w ib r) fits (step .inside) is' (st .ref) (st .len) (st .front) (step .front)
+    pub below-fits : s .front + s .len ≤ length key
+    below-fits = omega (arith, step .fits, long)
 
-    -- the test, in the definition's words
-    tested : leadsTo key es ≡ i + pick (less (take (F + L) new) (take (F + L) key)) (suc (leadsTo key (drop (suc i) es))) 0
-    unfolding leadsTo
-    tested = st .same ∙ rw (step .here, step .next .long, front-on)
+    module _ (buf' high' : List ℕ) (new : Renewed ib s buf high buf' high') where
+      on : Held (hereNext w ib h) (placePast ib s p) buf' high'
+      on = held-on w ib h p buf high (st .held) (st .standing .inside) (step .lies) s is buf' high' new
 
-    pub found : false ≡ less (take (s .front + s .len) new) (take (s .front + s .len) key) → Leads ib n key (record { ordinal = i; number = s .number })
-    found h =
-        let h' : false ≡ less (take (F + L) new) (take (F + L) key) = rw e at h in
-        let z : leadsTo key es ≡ i = tested ∙ rw (← h') (omega arith) in
-        rw e
-        (record {
-          ordinal = sym z;
-          number = rw z (sym (number-there es i (entry sep (number w ib (r - w))) (drop (suc i) es) (step .here)));
-          inside = more;
-          within = step .within;
-        })
+      -- past any entry the separator has F + L bytes
+      front-on : take (s .front + s .len) buf' ≡ sepHere w ib h
+      front-on = front (s .closes) refl
+        where
+          front : (t : Bool) → s .closes ≡ t → take (s .front + s .len) buf' ≡ sepHere w ib h
+          front true c = let q : placePast ib s p .len ≡ s .front + s .len = rw c in rw q at (on .ref)
+          front false c = let q : placePast ib s p .len ≡ s .front + s .len = rw c in rw q at (on .ref)
 
-    pub onward : true ≡ less (take (s .front + s .len) new) (take (s .front + s .len) key) → State ib n key new (s .at) (i + 1)
-    onward h =
-        let h' : true ≡ less (take (F + L) new) (take (F + L) key) = rw e at h in
-        rw (e, add-one i)
-        (record {
-          len = F + L;
-          ref = sep;
-          standing = step .next;
-          whole = whole-on;
-          front = front-on;
-          same = tested ∙ rw (← h') (omega arith);
-        })
+      -- the test, in the definition's words
+      tested : leadsTo key es ≡ i + pick (less (take (s .front + s .len) buf') (take (s .front + s .len) key)) (suc (leadsTo key (drop (suc i) es))) 0
+      unfolding leadsTo
+      tested = st .same ∙ rw (step .here, long, front-on)
+
+      pub found : false ≡ less (take (s .front + s .len) buf') (take (s .front + s .len) key) → Leads ib n key (record { ordinal = i; number = s .number })
+      found f =
+          let z : leadsTo key es ≡ i = tested ∙ rw (← f) (omega arith) in
+          let m : s .number ≡ entryHere w ib h .num = ap (λ (x : Step). x .number) is in
+          rw m
+          (record {
+            ordinal = sym z;
+            number = rw z (sym (number-there es i (entryHere w ib h) (drop (suc i) es) (step .here)));
+            inside = more;
+            within = step .within;
+          })
+
+      pub onward : true ≡ less (take (s .front + s .len) buf') (take (s .front + s .len) key) → (q : Place) → q ≡ placePast ib s p
+          → length buf' ≡ 263 → length high' ≡ 263 → State ib n key buf' high' q (i + 1)
+      onward f q e' wh wh' =
+          rw (e', add-one i)
+          (record {
+            here = hereNext w ib h;
+            standing = step .next;
+            held = on;
+            whole = wh;
+            whole' = wh';
+            same = tested ∙ rw (← f) (omega arith);
+          })

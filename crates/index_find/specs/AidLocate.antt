@@ -6,7 +6,7 @@ use mathlib.Core.List.{List, []}
 use lib.ListN.{length, getD}
 use Rattle.measures.specs.Judgement.{widthFor}
 use Rattle.index.specs.Meaning.{numbers}
-use Rattle.index.specs.Reading.{readIndex, soundIndex}
+use Rattle.sections.specs.Reading.{readIndex, soundIndex}
 use Rattle.index.specs.Search.{leadsTo}
 use Rattle.index_find.specs.declared.Located.{Located}
 

@@ -32,18 +32,19 @@ pub fn locate(ib: &[u8], n: usize, key: &[u8]) -> Located
 {
     let w = measures::width_for(n);
     let mut buf = [0u8; BUFFER];
-    let mut r = ib.len() - 7;
+    let mut high = [0u8; BUFFER];
+    let mut p = index_step::start(ib);
     let mut i = 0;
     while i < n {
-        let s = index_step::entry_at(ib, w, r);
-        index_step::extend(&mut buf, s.front, ib, s.at, s.len);
+        let s = index_step::entry_at(ib, w, p);
+        index_step::renew(&mut buf, &mut high, ib, s);
         if !is_below(&buf, key, s.front + s.len) {
             return Located {
                 ordinal: i,
                 number: s.number,
             };
         }
-        r = s.at;
+        p = index_step::past(ib, s, p);
         i += 1;
     }
     Located {

@@ -7,7 +7,7 @@ use lib.ListN.{length}
 use native.Mathlib.Omega.{arith}
 use Rattle.fields.specs.Choice.{pick}
 use Rattle.measures.specs.Judgement.{widthFor}
-use Rattle.index.specs.Reading.{readIndex, soundIndex}
+use Rattle.sections.specs.Reading.{readIndex, soundIndex}
 use Rattle.index_read.specs.Check.{indexBy, indexOf}
 use Rattle.index_read.specs.declared.Index.the-variants.{Sound, Unsound}
 

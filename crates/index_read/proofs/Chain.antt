@@ -8,28 +8,39 @@ use lib.Dec.{eqb, leb}
 use native.Mathlib.Omega.{arith}
 use borrow.Author.Tests.{eqb-true, eqb-false, leb-true, leb-false, eq-eqb, ne-eqb}
 use Rattle.fields.specs.Choice.{both}
+use Rattle.fields.specs.Bytes.{number}
 use Rattle.fields.specs.Order.{less}
 use Rattle.fields.specs.Table.{sameList}
-use Rattle.fields.proofs.Choices.{both-false, false-true, both-none}
+use Rattle.fields.proofs.Choices.{false-true, both-split, both-join, both-false, both-none}
 use Rattle.index.specs.Bounds.{empty, bound, separator}
 use Rattle.index.specs.Meaning.{numbers}
 use Rattle.index.specs.Rules.{rises, closed}
-use Rattle.index.specs.Pieces.{Piece, spelt, spell, frontsFit, pieceSize, piecesSize}
-use Rattle.index_read.specs.AidWalk.{chain, pieceNumbers}
+use Rattle.sections.specs.Parts.{Part, against, sepOf, highAfter, spellAll, frontsIn, partSize, partsSize, endsClosed}
+use Rattle.index_read.specs.AidWalk.{chain, partNumbers}
 
 -- the last separator is empty
-unfoldable closedAfter : List ℕ → List Piece → Bool
-closedAfter ref [] = empty ref
-closedAfter ref (p ∷ ps) = closedAfter (spelt ref p) ps
+unfoldable closedAfter : List ℕ → List ℕ → List Part → Bool
+closedAfter high ref [] = empty ref
+closedAfter high ref (p ∷ ps) = closedAfter (highAfter high ref p) (sepOf high ref p) ps
+
+-- the last entry closes a section
+unfoldable closesAfter : Bool → List Part → Bool
+closesAfter t [] = t
+closesAfter t (p ∷ ps) = closesAfter (p .closes) ps
 
 alike-none : (xs : List ℕ) → sameList xs [] ≡ empty xs
 alike-none [] = refl
 alike-none (x ∷ xs) = refl
 
-closed-after : (ref : List ℕ) (p : Piece) (ps : List Piece) → closed [] (spell ref (p ∷ ps)) ≡ closedAfter ref (p ∷ ps)
-unfolding closed spell closedAfter
-closed-after ref p [] = alike-none (spelt ref p)
-closed-after ref p (q ∷ ps) = closed-after (spelt ref p) q ps
+closed-after : (high ref : List ℕ) (p : Part) (ps : List Part) → closed [] (spellAll high ref (p ∷ ps)) ≡ closedAfter high ref (p ∷ ps)
+unfolding closed spellAll closedAfter
+closed-after high ref p [] = alike-none (sepOf high ref p)
+closed-after high ref p (q ∷ ps) = closed-after (highAfter high ref p) (sepOf high ref p) q ps
+
+closes-after : (t : Bool) (p : Part) (ps : List Part) → endsClosed (p ∷ ps) ≡ closesAfter t (p ∷ ps)
+unfolding endsClosed closesAfter
+closes-after t p [] = refl
+closes-after t p (q ∷ ps) = closes-after (p .closes) q ps
 
 -- the same tests in another order
 shuffle : (a b c p f r l : Bool) → both a (both b (both c (both p (both f (both r l))))) ≡ both p (both (both a f) (both (both b (both c r)) l))
@@ -56,35 +67,61 @@ join e r z q A B C F R L next false h i =
     let l : r < e + z = leb-false (e + z) r h in
     rw (ne-eqb (e + (z + q)) r (omega arith))
 
-chain-rules : (w K e r : ℕ) (low ref : List ℕ) (ps : List Piece)
-    → chain w K e r low ref ps ≡ both (eqb (e + piecesSize w ps) r) (both (frontsFit ref ps) (both (rises K low (spell ref ps)) (closedAfter ref ps)))
-unfolding chain piecesSize frontsFit spell rises closedAfter
-chain-rules w K e r low ref [] =
-    let a : e + 0 ≡ e = omega arith in
-    rw a (ap (λ (t : Bool). both t (empty ref)) (same-eqb r e e r sym sym))
-chain-rules w K e r low ref (p ∷ ps) =
-    join e r (pieceSize w p) (piecesSize w ps) (leb (p .front) (length ref)) (separator K (spelt ref p)) (less low (bound K (spelt ref p))) (frontsFit (spelt ref p) ps)
-    (rises K (bound K (spelt ref p)) (spell (spelt ref p) ps)) (closedAfter (spelt ref p) ps) (chain w K e (r - pieceSize w p) (bound K (spelt ref p)) (spelt ref p) ps)
-    (leb (e + pieceSize w p) r) refl (chain-rules w K e (r - pieceSize w p) (bound K (spelt ref p)) (spelt ref p) ps)
+module _ (w K e : ℕ) (ib : List ℕ) where
+  -- what is asked of the last entry
+  abbrev lastFine : Bool → List ℕ → List ℕ → List Part → Bool
+  lastFine t high ref ps = both (closedAfter high ref ps) (both (eqb (number 2 ib e) 0) (closesAfter t ps))
 
-pub chain-is : (w K e r : ℕ) (low ref : List ℕ) (p : Piece) (ps : List Piece)
-    → chain w K e r low ref (p ∷ ps)
-    ≡ both (eqb (e + piecesSize w (p ∷ ps)) r) (both (frontsFit ref (p ∷ ps)) (both (rises K low (spell ref (p ∷ ps))) (closed [] (spell ref (p ∷ ps)))))
-chain-is w K e r low ref p ps = rw (closed-after ref p ps) (chain-rules w K e r low ref (p ∷ ps))
+  chain-rules : (r : ℕ) (t : Bool) (low high ref : List ℕ) (ps : List Part)
+      → chain w K e ib r t low high ref ps
+      ≡ both (eqb (e + partsSize w ps) r) (both (frontsIn high ref ps) (both (rises K low (spellAll high ref ps)) (lastFine t high ref ps)))
+  unfolding chain partsSize frontsIn spellAll rises closedAfter closesAfter
+  chain-rules r t low high ref [] =
+      let a : e + 0 ≡ e = omega arith in
+      rw a (ap (λ (u : Bool). both u (both (empty ref) (both (eqb (number 2 ib e) 0) t))) (same-eqb r e e r sym sym))
+  chain-rules r t low high ref (p ∷ ps) =
+      let sep : List ℕ = sepOf high ref p in
+      let top : List ℕ = highAfter high ref p in
+      join e r (partSize w p) (partsSize w ps) (leb (p .piece .front) (length (against high ref p))) (separator K sep) (less low (bound K sep)) (frontsIn top sep ps)
+      (rises K (bound K sep) (spellAll top sep ps)) (lastFine (p .closes) top sep ps) (chain w K e ib (r - partSize w p) (p .closes) (bound K sep) top sep ps)
+      (leb (e + partSize w p) r) refl (chain-rules (r - partSize w p) (p .closes) (bound K sep) top sep ps)
 
-pub chain-all : (w K e r : ℕ) (low : List ℕ) (ps : List Piece) → e + piecesSize w ps ≡ r → frontsFit [] ps ≡ true → rises K low (spell [] ps) ≡ true → closed [] (spell [] ps) ≡ true
-    → chain w K e r low [] ps ≡ true
-unfolding spell closed
-chain-all w K e r low [] h1 h2 h3 h4 = absurd (false-true h4)
-chain-all w K e r low (p ∷ ps) h1 h2 h3 h4 = chain-is w K e r low [] p ps ∙ rw (eq-eqb (e + piecesSize w (p ∷ ps)) r h1, h2, h3, h4)
+  chain-is : (r : ℕ) (t : Bool) (low high ref : List ℕ) (p : Part) (ps : List Part)
+      → chain w K e ib r t low high ref (p ∷ ps)
+      ≡ both (eqb (e + partsSize w (p ∷ ps)) r)
+      (both (frontsIn high ref (p ∷ ps))
+      (both (rises K low (spellAll high ref (p ∷ ps))) (both (closed [] (spellAll high ref (p ∷ ps))) (both (eqb (number 2 ib e) 0) (endsClosed (p ∷ ps))))))
+  chain-is r t low high ref p ps = rw (closed-after high ref p ps, closes-after t p ps) (chain-rules r t low high ref (p ∷ ps))
 
--- the numbers of the pieces are those of the entries
-pub numbers-spelt : (ref : List ℕ) (ps : List Piece) → numbers (spell ref ps) ≡ pieceNumbers ps
-unfolding spell
-numbers-spelt ref [] = refl
-numbers-spelt ref (p ∷ ps) = rw (numbers-spelt (spelt ref p) ps)
+  -- what a chain of entries keeps
+  pub record Links (r : ℕ) (low high ref : List ℕ) (ps : List Part) : Type 0 where
+    pub size : e + partsSize w ps ≡ r
+    pub fronts : frontsIn high ref ps ≡ true
+    pub rising : rises K low (spellAll high ref ps) ≡ true
+    pub closing : closed [] (spellAll high ref ps) ≡ true
+    pub zeroes : number 2 ib e ≡ 0
+    pub ends : endsClosed ps ≡ true
 
-pub length-spelt : (ref : List ℕ) (ps : List Piece) → length (spell ref ps) ≡ length (pieceNumbers ps)
-unfolding spell
-length-spelt ref [] = refl
-length-spelt ref (p ∷ ps) = rw (length-spelt (spelt ref p) ps)
+  pub chain-apart : (r : ℕ) (t : Bool) (low high ref : List ℕ) (ps : List Part) → 0 < length ps → chain w K e ib r t low high ref ps ≡ true → Links r low high ref ps
+  chain-apart r t low high ref [] some h = absurd (omega arith)
+  chain-apart r t low high ref (p ∷ ps) some h =
+      let a = both-split _ _ (sym (chain-is r t low high ref p ps) ∙ h) in
+      let b = both-split _ _ (a .1) in
+      let c = both-split _ _ (b .1) in
+      let d = both-split _ _ (c .1) in
+      let f = both-split _ _ (d .1) in
+      record { size = eqb-true _ _ (a .0); fronts = b .0; rising = c .0; closing = d .0; zeroes = eqb-true _ _ (f .0); ends = f .1 }
+
+  pub chain-joined : (r : ℕ) (t : Bool) (low high ref : List ℕ) (ps : List Part) → Links r low high ref ps → chain w K e ib r t low high ref ps ≡ true
+  unfolding endsClosed
+  chain-joined r t low high ref [] l = absurd (false-true (l .ends))
+  chain-joined r t low high ref (p ∷ ps) l =
+      chain-is r t low high ref p ps
+      ∙ both-join _ _ (eq-eqb _ _ (l .size))
+      (both-join _ _ (l .fronts) (both-join _ _ (l .rising) (both-join _ _ (l .closing) (both-join _ _ (eq-eqb _ _ (l .zeroes)) (l .ends)))))
+
+-- the numbers of the parts are those of the entries
+pub numbers-spelt : (high ref : List ℕ) (ps : List Part) → numbers (spellAll high ref ps) ≡ partNumbers ps
+unfolding spellAll
+numbers-spelt high ref [] = refl
+numbers-spelt high ref (p ∷ ps) = rw (numbers-spelt (highAfter high ref p) (sepOf high ref p) ps)

@@ -1,136 +1,147 @@
 -- Laws of one entry: how it is taken apart, and how far the copy of its characters reaches.
-use Prim.Native.Nat.{ℕ, _+_, _-_, _≤_, _<_, min}
+use Prim.Native.Nat.{ℕ, _+_, _-_, _≤_, _<_}
 use mathlib.Core.Path.{_≡_, refl, _∙_, sym, ap}
 use mathlib.Core.Bool.{Bool, true, false}
 use mathlib.Core.List.{List}
-use lib.ListN.{length, getD, take, drop, length-take, length-drop}
+use mathlib.Core.Logic.{_⊎_, ⊎-elim}
+use lib.ListN.{length, getD, take}
 use lib.Seq.{getD-take}
 use lib.Dec.{leb}
 use native.Mathlib.Omega.{arith}
-use borrow.Author.Tests.{le-leb, lt-leb, leb-true, leb-false}
+use borrow.Author.Tests.{le-leb, leb-true}
 use Rattle.fields.specs.Choice.{pick, both}
-use Rattle.fields.specs.Bytes.{part, number}
 use Rattle.fields.proofs.Choices.{both-split, off}
-use Rattle.fields.proofs.Splices.{length-mid}
-use Rattle.index.specs.Pieces.{Piece, pieceSize}
-use Rattle.index.specs.Reading.{lengthAt, pieceAt}
+use Rattle.index.specs.Reading.{lengthAt}
+use Rattle.index_step.specs.declared.Place.{Place}
 use Rattle.index_step.specs.declared.Step.{Step}
 use Rattle.index_step.specs.AidStep.{frontAt, charsAt, stepAt, reach}
-use Rattle.index_step.proofs.Stepping.{reach-most}
-use Rattle.index_read.specs.AidParsing.{parses, parsedOf}
+use Rattle.index_step.proofs.Reaching.{reach-most}
+use Rattle.index_read.specs.AidParsing.{closesAt, parses, parsedOf}
+use Rattle.index_read.specs.declared.Limits.{Limits}
 use Rattle.index_read.specs.declared.Parsed.the-variants.{Of, Bad}
 
 -- ---- an entry taken apart
 
--- What it means that the entry which ends at place r was taken apart.
-pub record Good (w : ℕ) (ib : List ℕ) (r edge len K f l at num : ℕ) : Type 0 where
-  pub front-is : f ≡ frontAt w ib r
-  pub len-is : l ≡ lengthAt w ib r
-  pub at-is : at ≡ charsAt w ib r
-  pub num-is : num ≡ number w ib (r - w)
-  pub room : edge + (w + 2 + l) ≤ r
-  pub front : f ≤ len
-  pub fits : f + l ≤ K
+-- What it means that the next entry was taken apart.
+pub record Good (ib : List ℕ) (p : Place) (by : Limits) (s : Step) : Type 0 where
+  pub is : s ≡ stepAt (by .width) ib (p .right) (p .end)
+  pub room : by .edge + (by .width + 2 + s .len + pick (s .closes) 2 0) ≤ p .right
+  pub at-is : s .at + (by .width + 2 + s .len) ≡ p .right
+  pub front : s .front ≤ pick (s .closes) (p .high) (p .len)
+  pub fits : s .front + s .len ≤ by .key
 
-pub of-bad : {f l at num : ℕ} → Of f l at num ≡ Bad → ⊥
+pub of-bad : {s : Step} → Of s ≡ Bad → ⊥
 of-bad e = let z : _≡_ {A = ℕ} 0 1 = cc in omega arith
 
-pub bad-of : {f l at num : ℕ} → Bad ≡ Of f l at num → ⊥
+pub bad-of : {s : Step} → Bad ≡ Of s → ⊥
 bad-of e = of-bad (sym e)
 
-module _ (w : ℕ) (ib : List ℕ) (r edge len K : ℕ) where
+module _ (ib : List ℕ) (p : Place) (by : Limits) where
+  abbrev w : ℕ
+  w = by .width
+
+  abbrev r : ℕ
+  r = p .right
+
   abbrev L : ℕ
   L = lengthAt w ib r
 
   abbrev F : ℕ
   F = frontAt w ib r
 
-  parses-apart : parses w ib r edge len K ≡ true → (edge + (w + 2 + L) ≤ r) × (F ≤ len) × (F + L ≤ K)
+  -- the field before it, and what F may reach
+  abbrev field : ℕ
+  field = pick (closesAt w p) 2 0
+
+  abbrev most : ℕ
+  most = pick (closesAt w p) (p .high) (p .len)
+
+  parses-apart : parses ib p by ≡ true → (by .edge + (w + 2 + L + field) ≤ r) × (F ≤ most) × (F + L ≤ by .key)
   unfolding parses
   parses-apart h =
-      let a = both-split (leb (edge + (w + 2 + L)) r) (both (leb F len) (leb (F + L) K)) h in
-      let b = both-split (leb F len) (leb (F + L) K) (a .1) in
-      (leb-true (edge + (w + 2 + L)) r (a .0), leb-true F len (b .0), leb-true (F + L) K (b .1))
+      let a = both-split (leb (by .edge + (w + 2 + L + field)) r) (both (leb F most) (leb (F + L) (by .key))) h in
+      let b = both-split (leb F most) (leb (F + L) (by .key)) (a .1) in
+      (leb-true (by .edge + (w + 2 + L + field)) r (a .0), leb-true F most (b .0), leb-true (F + L) (by .key) (b .1))
 
-  pub parses-joined : edge + (w + 2 + L) ≤ r → F ≤ len → F + L ≤ K → parses w ib r edge len K ≡ true
+  pub parses-joined : by .edge + (w + 2 + L + field) ≤ r → F ≤ most → F + L ≤ by .key → parses ib p by ≡ true
   unfolding parses
-  parses-joined h i j = rw (le-leb (edge + (w + 2 + L)) r h, le-leb F len i, le-leb (F + L) K j)
+  parses-joined h i j = rw (le-leb (by .edge + (w + 2 + L + field)) r h, le-leb F most i, le-leb (F + L) (by .key) j)
 
-  parsed-off : (parses w ib r edge len K ≡ true → ⊥) → Bad ≡ parsedOf w ib r edge len K
+  pub parsed-is : parses ib p by ≡ true → parsedOf ib p by ≡ Of (stepAt w ib r (p .end))
   unfolding parsedOf
-  parsed-off h = sym (rw (off (parses w ib r edge len K) h))
+  parsed-is h = rw h
+
+  parsed-off : (parses ib p by ≡ true → ⊥) → Bad ≡ parsedOf ib p by
+  unfolding parsedOf
+  parsed-off h = sym (rw (off (parses ib p by) h))
 
   -- the ways out
-  pub no-room : (l : ℕ) → l ≡ L → r < edge + (w + 2 + l) → Bad ≡ parsedOf w ib r edge len K
-  no-room l e h = parsed-off (λ p. omega (arith, parses-apart p .0))
+  pub no-room-at-all : r < by .edge + (w + 2) → Bad ≡ parsedOf ib p by
+  no-room-at-all h = parsed-off (λ q. omega (arith, parses-apart q .0))
 
-  pub no-room-at-all : r < edge + (w + 2) → Bad ≡ parsedOf w ib r edge len K
-  no-room-at-all h = parsed-off (λ p. omega (arith, parses-apart p .0))
+  pub no-room : (l : ℕ) → l ≡ L → r < by .edge + (w + 2 + l) → Bad ≡ parsedOf ib p by
+  no-room l e h = parsed-off (λ q. omega (arith, parses-apart q .0))
 
-  pub no-front : (f : ℕ) → f ≡ F → len < f → Bad ≡ parsedOf w ib r edge len K
-  no-front f e h = parsed-off (λ p. omega (arith, parses-apart p .1))
+  module _ (s : Step) (e : s ≡ stepAt w ib r (p .end)) where
+    pub no-field : (x : ℕ) → x ≡ pick (s .closes) 2 0 → s .at < by .edge + x → Bad ≡ parsedOf ib p by
+    no-field x q h =
+        let q' : x ≡ field = q ∙ rw e in
+        let h' : charsAt w ib r < by .edge + x = rw e at h in
+        parsed-off (λ z. omega (arith, parses-apart z .0, q', h'))
 
-  pub no-fit : (f l : ℕ) → f ≡ F → l ≡ L → K < f + l → Bad ≡ parsedOf w ib r edge len K
-  no-fit f l e g h = parsed-off (λ p. omega (arith, parses-apart p .2))
+    pub no-front : (x : ℕ) → x ≡ pick (s .closes) (p .high) (p .len) → x < s .front → Bad ≡ parsedOf ib p by
+    no-front x q h =
+        let q' : x ≡ most = q ∙ rw e in
+        let h' : x < F = rw e at h in
+        parsed-off (λ z. omega (arith, parses-apart z .1, q', h'))
 
-  -- and the way on
-  pub parsed-on : (st : Step) → st ≡ stepAt w ib r → edge + (w + 2 + L) ≤ r → st .front ≤ len → st .front + st .len ≤ K
-      → Of (st .front) (st .len) (st .at) (st .number) ≡ parsedOf w ib r edge len K
-  unfolding parsedOf
-  parsed-on st e h i j = rw e (sym (rw (parses-joined h (rw e at i) (rw e at j))))
+    pub no-fit : by .key < s .front + s .len → Bad ≡ parsedOf ib p by
+    no-fit h =
+        let h' : by .key < F + L = rw e at h in
+        parsed-off (λ z. omega (arith, parses-apart z .2, h'))
+
+    -- and the way on
+    pub parsed-on : (l x y : ℕ) → l ≡ L → by .edge + (w + 2 + l) ≤ r → x ≡ pick (s .closes) 2 0 → by .edge + x ≤ s .at
+        → y ≡ pick (s .closes) (p .high) (p .len) → s .front ≤ y → s .front + s .len ≤ by .key → Of s ≡ parsedOf ib p by
+    parsed-on l x y l-is h x-is i y-is j k =
+        let x' : x ≡ field = x-is ∙ rw e in
+        let y' : y ≡ most = y-is ∙ rw e in
+        let i' : by .edge + x ≤ charsAt w ib r = rw e at i in
+        let j' : F ≤ y = rw e at j in
+        let k' : F + L ≤ by .key = rw e at k in
+        ap Of e ∙ sym (parsed-is (parses-joined (omega (arith, h, l-is, x', i')) (omega (arith, y', j')) k'))
 
   -- what a good answer says
-  pub good : (f l at num : ℕ) → parsedOf w ib r edge len K ≡ Of f l at num → Good w ib r edge len K f l at num
+  pub good : (s : Step) → parsedOf ib p by ≡ Of s → Good ib p by s
   unfolding parsedOf
-  good f l at num = go (parses w ib r edge len K) refl
+  good s = go (parses ib p by) refl
     where
-      go : (t : Bool) → parses w ib r edge len K ≡ t → pick t (Of F L (charsAt w ib r) (number w ib (r - w))) Bad ≡ Of f l at num → Good w ib r edge len K f l at num
-      go true p h =
-          let a1 : f ≡ F = cc in
-          let a2 : l ≡ L = cc in
-          let a3 : at ≡ charsAt w ib r = cc in
-          let a4 : num ≡ number w ib (r - w) = cc in
-          let q = parses-apart p in
-          record { front-is = a1; len-is = a2; at-is = a3; num-is = a4; room = omega (arith, q .0); front = omega (arith, q .1); fits = omega (arith, q .2) }
-      go false p h = absurd (bad-of h)
+      go : (t : Bool) → parses ib p by ≡ t → pick t (Of (stepAt w ib r (p .end))) Bad ≡ Of s → Good ib p by s
+      go true q h =
+          let e : stepAt w ib r (p .end) ≡ s = cc in
+          let a = parses-apart q in
+          rw (← e) (record { is = refl; room = a .0; at-is = omega (arith, a .0); front = a .1; fits = a .2 })
+      go false q h = absurd (bad-of h)
 
--- ---- the bytes that a piece takes
+-- ---- the bytes that an entry takes
 
--- Whether a piece stays right of e shows from its L, also where its bytes aren't all there: it then reaches past the left end.
-pub size-test : (w : ℕ) (b : List ℕ) (r e : ℕ) → r ≤ length b → leb (e + pieceSize w (pieceAt w b r)) r ≡ leb (e + (w + 2 + lengthAt w b r)) r
-size-test w b r e h = go (leb (e + (w + 2 + n)) r) refl
-  where
-    n : ℕ
-    n = lengthAt w b r
+-- what is copied of its characters lies in the record
+pub reaches : (ib : List ℕ) (p : Place) (by : Limits) (s : Step) → Good ib p by s → p .right + 7 ≤ length ib → s .at + reach (s .len) ≤ length ib
+reaches ib p by s g inside = omega (arith, g .at-is, g .room, reach-most (s .len))
 
-    long : length (pieceAt w b r .chars) ≡ min n (length b - (r - (w + 2 + n)))
-    long = length-take n (drop (r - (w + 2 + n)) b) ∙ rw (length-drop (r - (w + 2 + n)) b)
+-- and where the pass goes on past it
+pub passes : (ib : List ℕ) (p : Place) (by : Limits) (s : Step) → Good ib p by s → p .right + 7 ≤ length ib → by .key ≤ 255
+    → (s .front + s .len ≤ 510) × (s .at ≤ length ib) × (pick (s .closes) 2 0 ≤ s .at)
+passes ib p by s g inside most = (omega (arith, g .fits), omega (arith, g .at-is), omega (arith, g .at-is, g .room))
 
-    go : (t : Bool) → leb (e + (w + 2 + n)) r ≡ t → leb (e + pieceSize w (pieceAt w b r)) r ≡ t
-    go true q = le-leb (e + pieceSize w (pieceAt w b r)) r (omega (arith, long, leb-true (e + (w + 2 + n)) r q))
-    go false q = lt-leb (e + pieceSize w (pieceAt w b r)) r (omega (arith, long, leb-false (e + (w + 2 + n)) r q))
+-- ---- a number that a test chose
 
-module _ (w : ℕ) (ib : List ℕ) (r edge len K f l at num : ℕ) (g : Good w ib r edge len K f l at num) (inside : r ≤ length ib) where
-  -- its bytes are there
-  pub chars-inside : at + l ≤ length ib
-  chars-inside = omega (arith, g .at-is, g .len-is, g .room)
+pub chosen : (t : Bool) (x a b : ℕ) → ((t ≡ true) × (x ≡ a)) ⊎ ((t ≡ false) × (x ≡ b)) → x ≡ pick t a b
+chosen t x a b h = ⊎-elim (λ (q : (t ≡ true) × (x ≡ a)). rw (q .0) (q .1)) (λ (q : (t ≡ false) × (x ≡ b)). rw (q .0) (q .1)) h
 
-  pub chars-length : length (part ib at l) ≡ l
-  chars-length = length-mid ib at l chars-inside
-
-  pub piece-is : pieceAt w ib r ≡ record { front = f; chars = part ib at l; num = num }
-  piece-is = rw (g .front-is, g .at-is, g .len-is, g .num-is)
-
-  pub size-is : pieceSize w (pieceAt w ib r) ≡ w + 2 + l
-  size-is = ap (λ (p : Piece). pieceSize w p) piece-is ∙ rw chars-length
-
-  pub place-is : r - pieceSize w (pieceAt w ib r) ≡ at
-  place-is = omega (arith, size-is, g .at-is, g .len-is)
-
--- what is copied of its characters lies in the record, and in a buffer that has room for a separator and eight bytes more
-pub reaches : (w : ℕ) (ib : List ℕ) (r edge len K f l at num n : ℕ) → Good w ib r edge len K f l at num → r + 7 ≤ length ib → K + 8 ≤ n
-    → (f + reach l ≤ n) × (at + reach l ≤ length ib)
-reaches w ib r edge len K f l at num n g inside whole = (omega (arith, g .fits, reach-most l), omega (arith, g .at-is, g .len-is, g .room, reach-most l))
+pub two-most : (t : Bool) → pick t 2 0 ≤ 2
+two-most true = omega arith
+two-most false = omega arith
 
 -- ---- the last byte
 

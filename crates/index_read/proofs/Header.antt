@@ -11,7 +11,7 @@ use native.Mathlib.Nat.{mul-le-mul, mul-div-le}
 use borrow.Author.Tests.{eq-eqb, lt-ltb, le-leb, eqb-true, ltb-true, leb-true}
 use Rattle.fields.specs.Choice.{pick}
 use Rattle.fields.specs.Bytes.{part, number}
-use Rattle.fields.proofs.Choices.{both-split, off}
+use Rattle.fields.proofs.Choices.{both-split, both-join, off}
 use Rattle.measures.specs.Judgement.{limit}
 use Rattle.index.specs.Rules.{baseFine}
 use Rattle.index.specs.Reading.{unusedAt, lastAt, sectionAt, freeCount, frame}
@@ -73,38 +73,48 @@ product-small n s h k = let m : n * s ≤ limit * 32768 = mul-le-mul h k in omeg
 -- ---- the displacements
 
 pub record Lies (w n : ℕ) (ib : List ℕ) : Type 0 where
-  pub section : sectionAt ib ≡ lastAt ib
   pub unused : 24 + w * freeCount w ib ≡ unusedAt ib
   pub some : freeCount w ib < n
-  pub order : unusedAt ib ≤ lastAt ib
+  pub order : unusedAt ib + 2 ≤ lastAt ib
   pub inside : lastAt ib ≤ length ib - 7
+  pub single : sectionAt ib ≡ lastAt ib → n - freeCount w ib ≤ 2
+
+-- a single section where it may be one
+abbrev singleFine : ℕ → ℕ → List ℕ → Bool
+singleFine w n ib = pick (eqb (sectionAt ib) (lastAt ib)) (leb (n - freeCount w ib) 2) true
+
+single-apart : (w n : ℕ) (ib : List ℕ) → singleFine w n ib ≡ true → sectionAt ib ≡ lastAt ib → n - freeCount w ib ≤ 2
+single-apart w n ib h e = leb-true (n - freeCount w ib) 2 (rw (eq-eqb (sectionAt ib) (lastAt ib) e) at h)
+
+single-joined : (w n : ℕ) (ib : List ℕ) → (sectionAt ib ≡ lastAt ib → n - freeCount w ib ≤ 2) → singleFine w n ib ≡ true
+single-joined w n ib h = go (eqb (sectionAt ib) (lastAt ib)) refl
+  where
+    go : (t : Bool) → eqb (sectionAt ib) (lastAt ib) ≡ t → pick t (leb (n - freeCount w ib) 2) true ≡ true
+    go true e = le-leb (n - freeCount w ib) 2 (h (eqb-true (sectionAt ib) (lastAt ib) e))
+    go false e = refl
 
 pub lies-apart : (w n : ℕ) (ib : List ℕ) → liesWell w n ib ≡ true → Lies w n ib
 unfolding liesWell
 lies-apart w n ib h =
-    let a = both-split (eqb (sectionAt ib) (lastAt ib)) _ h in
-    let b = both-split (eqb (24 + w * freeCount w ib) (unusedAt ib)) _ (a .1) in
-    let c = both-split (ltb (freeCount w ib) n) _ (b .1) in
-    let d = both-split (leb (unusedAt ib) (lastAt ib)) (leb (lastAt ib) (length ib - 7)) (c .1) in
+    let a = both-split (eqb (24 + w * freeCount w ib) (unusedAt ib)) _ h in
+    let b = both-split (ltb (freeCount w ib) n) _ (a .1) in
+    let c = both-split (leb (unusedAt ib + 2) (lastAt ib)) _ (b .1) in
+    let d = both-split (leb (lastAt ib) (length ib - 7)) (singleFine w n ib) (c .1) in
     record {
-      section = eqb-true _ _ (a .0);
-      unused = eqb-true _ _ (b .0);
-      some = ltb-true _ _ (c .0);
-      order = leb-true _ _ (d .0);
-      inside = leb-true _ _ (d .1);
+      unused = eqb-true _ _ (a .0);
+      some = ltb-true _ _ (b .0);
+      order = leb-true _ _ (c .0);
+      inside = leb-true _ _ (d .0);
+      single = single-apart w n ib (d .1);
     }
 
 pub lies-joined : (w n : ℕ) (ib : List ℕ) → Lies w n ib → liesWell w n ib ≡ true
 unfolding liesWell
 lies-joined w n ib l =
-    rw (
-      eq-eqb (sectionAt ib) (lastAt ib) (l .section),
-      eq-eqb (24 + w * freeCount w ib) (unusedAt ib) (l .unused),
-      lt-ltb (freeCount w ib) n (l .some),
-      le-leb (unusedAt ib)
-          (lastAt ib) (l .order),
-      le-leb (lastAt ib) (length ib - 7) (l .inside),
-    )
+    both-join _ _ (eq-eqb (24 + w * freeCount w ib) (unusedAt ib) (l .unused))
+    (both-join _ _ (lt-ltb (freeCount w ib) n (l .some))
+    (both-join _ _ (le-leb (unusedAt ib + 2) (lastAt ib) (l .order))
+    (both-join _ _ (le-leb (lastAt ib) (length ib - 7) (l .inside)) (single-joined w n ib (l .single)))))
 
 pub no-place : (w n : ℕ) (ib : List ℕ) → (Lies w n ib → ⊥) → Nowhere ≡ placesOf w n ib
 unfolding placesOf
@@ -116,9 +126,6 @@ count-small w ib f e = rw e (omega (arith, mul-div-le (unusedAt ib - 24) w))
 
 -- the tests that fail, each by what it says of the fields
 module _ (w n : ℕ) (ib : List ℕ) (u e : ℕ) (u-is : u ≡ unusedAt ib) (e-is : e ≡ lastAt ib) where
-  pub no-section : (x : ℕ) → x ≡ sectionAt ib → (x ≡ e → ⊥) → Nowhere ≡ placesOf w n ib
-  no-section x q h = no-place w n ib (λ l. h (q ∙ l .section ∙ sym e-is))
-
   pub no-header : u < 24 → Nowhere ≡ placesOf w n ib
   no-header h = no-place w n ib (λ l. omega (arith, l .unused))
 
@@ -128,34 +135,38 @@ module _ (w n : ℕ) (ib : List ℕ) (u e : ℕ) (u-is : u ≡ unusedAt ib) (e-i
   pub no-entry : (f : ℕ) → f ≡ freeCount w ib → n ≤ f → Nowhere ≡ placesOf w n ib
   no-entry f c-is h = no-place w n ib (λ l. omega (arith, l .some, c-is))
 
-  pub no-gap : e < u → Nowhere ≡ placesOf w n ib
+  pub no-gap : e < u + 2 → Nowhere ≡ placesOf w n ib
   no-gap h = no-place w n ib (λ l. omega (arith, l .order))
 
   pub no-space : length ib - 7 < e → Nowhere ≡ placesOf w n ib
   no-space h = no-place w n ib (λ l. omega (arith, l .inside))
 
-  pub some-place : (f : ℕ) → f ≡ freeCount w ib → (x : ℕ) → x ≡ sectionAt ib → x ≡ e → 24 + w * f ≡ u → f < n → u ≤ e → e ≤ length ib - 7
-      → At f e ≡ placesOf w n ib
-  unfolding placesOf
-  some-place f c-is x q a b c d g =
-      let l : Lies w n ib = record {
-        section = sym q ∙ a ∙ e-is;
-        unused = rw (c-is, u-is) at b;
-        some = omega (arith, c-is);
-        order = omega arith;
-        inside = omega arith;
-      } in
-      sym (rw (lies-joined w n ib l, c-is, e-is))
+  module _ (f : ℕ) (c-is : f ≡ freeCount w ib) (x : ℕ) (x-is : x ≡ sectionAt ib) where
+    -- a single section with three entries or more
+    pub no-spread : x ≡ e → 2 < n - f → Nowhere ≡ placesOf w n ib
+    no-spread h k = no-place w n ib (λ l. omega (arith, l .single (sym x-is ∙ h ∙ e-is), c-is))
+
+    pub some-place : 24 + w * f ≡ u → f < n → u + 2 ≤ e → e ≤ length ib - 7 → (x ≡ e → n - f ≤ 2) → At f (e - 2) ≡ placesOf w n ib
+    unfolding placesOf
+    some-place b c d g k =
+        let l : Lies w n ib = record {
+          unused = rw (c-is, u-is) at b;
+          some = omega (arith, c-is);
+          order = omega arith;
+          inside = omega arith;
+          single = λ (z : sectionAt ib ≡ lastAt ib). omega (arith, k (x-is ∙ z ∙ sym e-is), c-is);
+        } in
+        sym (rw (lies-joined w n ib l, c-is, e-is))
 
 -- and what a good answer says
-pub place-good : (w n : ℕ) (ib : List ℕ) (c e : ℕ) → placesOf w n ib ≡ At c e → Lies w n ib × (c ≡ freeCount w ib) × (e ≡ lastAt ib)
+pub place-good : (w n : ℕ) (ib : List ℕ) (c e : ℕ) → placesOf w n ib ≡ At c e → Lies w n ib × (c ≡ freeCount w ib) × (e ≡ lastAt ib - 2)
 unfolding placesOf
 place-good w n ib c e = go (liesWell w n ib) refl
   where
-    go : (t : Bool) → liesWell w n ib ≡ t → pick t (At (freeCount w ib) (lastAt ib)) Nowhere ≡ At c e → Lies w n ib × (c ≡ freeCount w ib) × (e ≡ lastAt ib)
+    go : (t : Bool) → liesWell w n ib ≡ t → pick t (At (freeCount w ib) (lastAt ib - 2)) Nowhere ≡ At c e → Lies w n ib × (c ≡ freeCount w ib) × (e ≡ lastAt ib - 2)
     go true p h =
         let a1 : c ≡ freeCount w ib = cc in
-        let a2 : e ≡ lastAt ib = cc in
+        let a2 : e ≡ lastAt ib - 2 = cc in
         (lies-apart w n ib p, a1, a2)
     go false p h = absurd (let z : _≡_ {A = ℕ} 0 1 = cc in omega arith)
 
@@ -163,5 +174,5 @@ pub place-bad : (w n : ℕ) (ib : List ℕ) → placesOf w n ib ≡ Nowhere → 
 unfolding placesOf
 place-bad w n ib h l = go (rw (lies-joined w n ib l) at h)
   where
-    go : At (freeCount w ib) (lastAt ib) ≡ Nowhere → ⊥
+    go : At (freeCount w ib) (lastAt ib - 2) ≡ Nowhere → ⊥
     go h = let z : _≡_ {A = ℕ} 0 1 = cc in omega arith

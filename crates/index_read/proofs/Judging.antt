@@ -4,39 +4,41 @@ use mathlib.Core.Path.{_≡_, refl, _∙_, sym, ap}
 use mathlib.Core.Bool.{Bool, true, false}
 use mathlib.Core.List.{List, [], _∷_, _++_}
 use lib.ListN.{length, replicate, length-append, length-map}
-use lib.Dec.{eqb}
 use native.Mathlib.Omega.{arith}
 use borrow.Author.Tests.{eq-eqb, le-leb}
 use Rattle.fields.specs.Choice.{both}
-use Rattle.fields.specs.Bytes.{part}
-use Rattle.fields.proofs.Choices.{false-true, both-false, both-split, off}
+use Rattle.fields.specs.Bytes.{part, number}
+use Rattle.fields.proofs.Choices.{false-true, both-split, both-join, off}
 use Rattle.measures.specs.Judgement.{limit}
-use Rattle.index.specs.Meaning.{Entry}
-use Rattle.index.specs.Rules.{rises, closed, baseFine, keepsRules}
-use Rattle.index.specs.Pieces.{Piece, spell, frontsFit, pieceSize, piecesSize, lastChars}
-use Rattle.index.specs.Reading.{unusedAt, lastAt, sectionAt, freeCount, numbersAt, pieceAt, piecesAt, piecesIn, readIndex, frame, soundIndex}
-use Rattle.index.proofs.Sounding.{sound-apart}
-use Rattle.index.proofs.Keeping.{Keeps, rules-apart}
-use Rattle.index.proofs.Closing.{closed-last, basePlaces, sound-base}
-use Rattle.index.proofs.Apart.{length-numbersAt, length-piecesAt, entries-are}
-use Rattle.index_read.specs.Check.{indexBy}
-use Rattle.index_read.specs.AidWalk.{placesOf, chain, pieceNumbers, marking, seenAfter, emptyMarks, freeAll, usedAll, fineFrom}
-use Rattle.index_read.specs.declared.Marks.{Marks}
-use Rattle.index_read.specs.declared.Index.the-variants.{Sound, Unsound}
-use Rattle.index_read.specs.declared.Places.the-variants.{At, Nowhere}
-use Rattle.index_step.proofs.Walking.{pieces-next}
-use Rattle.index_read.proofs.Header.{Lies, place-good, place-bad}
-use Rattle.index_read.proofs.Chain.{chain-is, numbers-spelt, length-spelt}
-use Rattle.index_read.proofs.Marking.{named-by-marks, marking-append}
+use Rattle.index.specs.Meaning.{Entry, named, namedOnce}
+use Rattle.index.specs.Rules.{closed, baseFine}
+use Rattle.index.specs.Reading.{unusedAt, lastAt, sectionAt, freeCount, numbersAt, frame}
+use Rattle.index.proofs.Keeping.{Keeps, rules-apart, rules-together}
+use Rattle.index.proofs.Apart.{length-numbersAt}
+use Rattle.sections.specs.Parts.{Part, spellAll, frontsIn, partsSize, spreadFine, endsClosed}
+use Rattle.sections.specs.Layout.{ahead, lastLong}
+use Rattle.sections.specs.Reading.{partsAt, partsIn, readIndex, places, soundIndex}
+use Rattle.sections.proofs.Sounding.{Sound, sound-apart}
+use Rattle.sections.proofs.Chains.{Followed, followed}
+use Rattle.sections.proofs.Laying.{ahead-some, ahead-most}
+use Rattle.sections.proofs.Sizes.{length-spellAll}
+use Rattle.sections.proofs.Apart.{length-partsAt, entries-are}
 use Rattle.index_step.proofs.Stepping.{entries-count}
+use Rattle.index_read.specs.Check.{indexBy}
+use Rattle.index_read.specs.AidWalk.{placesOf, chain, partNumbers, marking, seenAfter, emptyMarks, freeAll, usedAll, fineFrom}
+use Rattle.index_read.specs.declared.Limits.{Limits}
+use Rattle.index_read.specs.declared.Marks.{Marks}
+use Rattle.index_read.specs.declared.Index.the-variants.{Sound as SoundWith, Unsound}
+use Rattle.index_read.specs.declared.Places.the-variants.{At, Nowhere}
+use Rattle.index_read.proofs.Header.{Lies, place-good, place-bad}
+use Rattle.index_read.proofs.Ending.{closed-long, last-field, spread-apart, spread-joined}
+use Rattle.index_read.proofs.Chain.{Links, chain-apart, chain-joined, numbers-spelt}
+use Rattle.index_read.proofs.Marking.{named-by-marks, marking-append}
 
--- the tests in the walk's order
-arrange : (p f r c m₁ m₂ : Bool) → both p (both f (both r (both c (both m₁ m₂)))) ≡ both m₁ (both (both p (both f (both r c))) m₂)
-arrange true true true true m₁ m₂ = refl
-arrange true true true false m₁ m₂ = sym (both-false m₁)
-arrange true true false c m₁ m₂ = sym (both-false m₁)
-arrange true false r c m₁ m₂ = sym (both-false m₁)
-arrange false f r c m₁ m₂ = sym (both-false m₁)
+-- tests that hold of the same are the same
+same-bool : (a b : Bool) → (a ≡ true → b ≡ true) → (b ≡ true → a ≡ true) → a ≡ b
+same-bool true b f g = sym (f refl)
+same-bool false b f g = sym (off b (λ (z : b ≡ true). false-true (g z)))
 
 closed-some : (end : List ℕ) (es : List Entry) → closed end es ≡ true → 0 < length es
 unfolding closed
@@ -44,81 +46,168 @@ closed-some end [] h = absurd (false-true h)
 closed-some end (e ∷ es) h = omega arith
 
 module _ (w K n : ℕ) (ib : List ℕ) where
-  -- The displacements of a sound record are in order before any walk.
-  pub sound-lies : soundIndex w K n [] [] ib ≡ true → Lies w n ib
-  sound-lies h =
-      let s = sound-apart w K n [] [] ib h in
-      let k : Keeps (length ib) K n [] [] (readIndex w n ib) = rules-apart (length ib) K n [] [] (readIndex w n ib) (s .rules) in
-      let c : closed [] (spell [] (piecesIn w n ib)) ≡ true = rw (entries-are w n ib) at (k .closing) in
-      let z : length (lastChars (piecesIn w n ib)) ≡ 0 = ap length (closed-last [] (piecesIn w n ib) c) in
-      record {
-        section = s .placed .section;
-        unused = s .placed .unused;
-        some = omega (arith, entries-count w n ib, closed-some [] (readIndex w n ib .entries) (k .closing));
-        order = omega (arith, s .placed .apart, s .placed .last);
-        inside = omega (arith, s .placed .last);
-      }
+  abbrev R : ℕ
+  R = length ib - 7
+
+  abbrev cnt : ℕ
+  cnt = n - freeCount w ib
+
+  abbrev ps : List Part
+  ps = partsAt w ib R (sectionAt ib) cnt
+
+  abbrev E : ℕ
+  E = lastAt ib - 2
+
+  parts-are : partsIn w n ib ≡ ps
+  unfolding partsIn
+  parts-are = refl
+
+  ps-long : length ps ≡ cnt
+  ps-long = length-partsAt w ib R (sectionAt ib) cnt
+
+  -- ---- what a sound record says
+
+  module _ (h : soundIndex w K n [] [] ib ≡ true) where
+    s : Sound w K n [] [] ib
+    s = sound-apart w K n [] [] ib h
+
+    k : Keeps (length ib) K n [] [] (readIndex w n ib)
+    k = rules-apart (length ib) K n [] [] (readIndex w n ib) (s .rules)
+
+    entries-spelt : readIndex w n ib .entries ≡ spellAll [] [] ps
+    entries-spelt = entries-are w n ib ∙ rw parts-are
+
+    closing : closed [] (spellAll [] [] ps) ≡ true
+    closing = rw entries-spelt at (k .closing)
+
+    none : lastLong ps ≡ 0
+    none = closed-long [] [] ps closing
+
+    ends : endsClosed ps ≡ true
+    ends = rw parts-are at (s .placed .closed)
+
+    last : lastAt ib + partsSize w ps ≡ R + 2 + lastLong ps
+    last = rw parts-are at (s .placed .last)
+
+    apart : unusedAt ib + partsSize w ps ≤ R
+    apart = rw parts-are at (s .placed .apart)
+
+    section : sectionAt ib + ahead w ps ≡ R
+    section = rw parts-are at (s .placed .section)
+
+    -- The displacements are in order before any walk.
+    pub sound-lies : Lies w n ib
+    sound-lies =
+        record {
+          unused = s .placed .unused;
+          some = omega (arith, entries-count w n ib, closed-some [] (readIndex w n ib .entries) (k .closing));
+          order = omega (arith, apart, last, none);
+          inside = omega (arith, last, none, ahead-some w ps ends, ahead-most w ps);
+          single = λ (z : sectionAt ib ≡ lastAt ib).
+              let e : ahead w ps + lastLong ps + 2 ≡ partsSize w ps = omega (arith, z, section, last, none, apart) in
+              omega (arith, ps-long, spread-apart w ps ends (rw parts-are at (s .spread)) e);
+        }
+
+    -- Its entries pass the walk's tests.
+    sound-links : Links w K E ib R [] [] [] ps
+    sound-links =
+        let size : E + partsSize w ps ≡ R = omega (arith, apart, last, none) in
+        let z : number 2 ib (R - partsSize w ps) ≡ 0 = last-field w ib R ps ends (rw parts-are at (s .placed .fields)) in
+        let e : R - partsSize w ps ≡ E = omega (arith, size) in
+        record {
+          size = size;
+          fronts = rw parts-are at (s .fronts);
+          rising = rw entries-spelt at (k .rising);
+          closing = closing;
+          zeroes = rw e at z;
+          ends = ends;
+        }
+
+  -- ---- what the walks ask says
 
   module _ (f : frame w ib ≡ true) (b : baseFine (length ib) n (part ib 4 12) ≡ true) (l : Lies w n ib) (big : n ≤ limit) where
-    abbrev R : ℕ
-    R = length ib - 7
-
-    abbrev E : ℕ
-    E = lastAt ib
-
-    abbrev cnt : ℕ
-    cnt = n - freeCount w ib
-
-    abbrev ps : List Piece
-    ps = piecesAt w ib R cnt
-
     abbrev fr : List ℕ
     fr = numbersAt w ib 24 (freeCount w ib)
 
     abbrev zeros : List ℕ
     zeros = replicate limit 0
 
-    pieces-are : piecesIn w n ib ≡ ps
-    unfolding piecesIn
-    pieces-are = refl
-
-    places-are : basePlaces w n ib ≡ eqb (E + piecesSize w ps) R
-    unfolding basePlaces
-    places-are =
-        rw (
-          pieces-are,
-          eq-eqb (24 + w * freeCount w ib) (unusedAt ib) (l .unused),
-          le-leb (freeCount w ib) n (omega (arith, l .some)),
-          le-leb (unusedAt ib) (lastAt ib)
-              (l .order),
-          eq-eqb (sectionAt ib) (lastAt ib) (l .section),
-        )
-
-    chain-are : chain w K E R [] [] ps ≡ both (eqb (E + piecesSize w ps) R) (both (frontsFit [] ps) (both (rises K [] (spell [] ps)) (closed [] (spell [] ps))))
-    chain-are =
-        let q : ps ≡ pieceAt w ib R ∷ piecesAt w ib (R - pieceSize w (pieceAt w ib R)) (cnt - 1) = pieces-next w ib R cnt (omega (arith, l .some)) in
-        rw q (chain-is w K E R [] [] (pieceAt w ib R) (piecesAt w ib (R - pieceSize w (pieceAt w ib R)) (cnt - 1)))
-
     -- so many numbers stand there as there are intervals
-    many : length (fr ++ pieceNumbers ps) ≡ n
+    many : length (fr ++ partNumbers ps) ≡ n
     many =
         omega (
           arith,
-          length-append fr (pieceNumbers ps),
+          length-append fr (partNumbers ps),
           length-numbersAt w ib 24 (freeCount w ib),
-          length-map ps (λ (p : Piece). p .num),
-          length-piecesAt w ib R cnt,
+          length-map ps (λ (p : Part). p .piece .num),
+          ps-long,
           l .some,
         )
 
+    -- each number is named once where the marks say so
+    names : namedOnce n (named (readIndex w n ib)) ≡ both (marking n zeros fr) (marking n (seenAfter zeros fr) (partNumbers ps))
+    unfolding readIndex
+    names = rw (parts-are, numbers-spelt [] [] ps, ← named-by-marks n (fr ++ partNumbers ps) big many) (marking-append n zeros fr (partNumbers ps))
+
+    module _ (c : Links w K E ib R [] [] [] ps) where
+      none' : lastLong ps ≡ 0
+      none' = closed-long [] [] ps (c .closing)
+
+      follows : Followed w ib R (sectionAt ib) ps
+      follows =
+          let e : E ≡ R - partsSize w ps = omega (arith, c .size) in
+          followed w ib R (sectionAt ib) cnt (omega (arith, c .size, l .order, l .unused)) (c .ends) (rw e at (c .zeroes))
+
+      places-fine : places w n ib ≡ true
+      unfolding places
+      places-fine =
+          rw parts-are
+          (both-join _ _ (eq-eqb (24 + w * freeCount w ib) (unusedAt ib) (l .unused))
+          (both-join _ _ (le-leb (freeCount w ib) n (omega (arith, l .some)))
+          (both-join _ _ (le-leb (unusedAt ib + partsSize w ps) R (omega (arith, c .size, l .order)))
+          (both-join _ _ (c .ends)
+          (both-join _ _ (follows .fields)
+          (both-join _ _ (eq-eqb (lastAt ib + partsSize w ps) (R + 2 + lastLong ps) (omega (arith, c .size, l .order, none')))
+          (eq-eqb (sectionAt ib + ahead w ps) R (follows .met))))))))
+
+      spread-fine : spreadFine ps ≡ true
+      spread-fine =
+          spread-joined w ps (c .ends)
+          (λ (e : ahead w ps + lastLong ps + 2 ≡ partsSize w ps).
+          let z : sectionAt ib ≡ lastAt ib = omega (arith, e, follows .met, c .size, l .order, none') in
+          omega (arith, ps-long, l .single z))
+
+      linked-sound : both (marking n zeros fr) (marking n (seenAfter zeros fr) (partNumbers ps)) ≡ true → soundIndex w K n [] [] ib ≡ true
+      unfolding soundIndex
+      linked-sound m =
+          let es : readIndex w n ib .entries ≡ spellAll [] [] ps = entries-are w n ib ∙ rw parts-are in
+          let rules : Keeps (length ib) K n [] [] (readIndex w n ib) =
+          record { base = base-read; rising = rw es (c .rising); closing = rw es (c .closing); naming = names ∙ m } in
+          let sp : spreadFine (partsIn w n ib) ≡ true = rw parts-are spread-fine in
+          let fronts : frontsIn [] [] (partsIn w n ib) ≡ true = rw parts-are (c .fronts) in
+          both-join _ _ f (both-join _ _ places-fine (both-join _ _ sp (both-join _ _ fronts (rules-together (length ib) K n [] [] (readIndex w n ib) rules))))
+        where
+          base-read : baseFine (length ib) n (readIndex w n ib .kept) ≡ true
+          base-read = unfold readIndex in b
+
+    abbrev lim : Limits
+    lim = record { width = w; edge = E; n = n; key = K }
+
     -- Where frame, base and displacements are in order, the rest of the definition is what the two walks test.
-    pub sound-by : soundIndex w K n [] [] ib ≡ both (marking n zeros fr) (fineFrom w K n E ib (seenAfter zeros fr) [] [] R cnt)
-    unfolding keepsRules readIndex fineFrom
-    sound-by =
-        sound-base w K n [] ib
-        ∙ rw (f, places-are, pieces-are, b, numbers-spelt [] ps, ← named-by-marks n (fr ++ pieceNumbers ps) big many, marking-append, chain-are)
-        (arrange (eqb (E + piecesSize w ps) R) (frontsFit [] ps) (rises K [] (spell [] ps)) (closed [] (spell [] ps)) (marking n zeros fr)
-        (marking n (seenAfter zeros fr) (pieceNumbers ps)))
+    pub sound-by : soundIndex w K n [] [] ib ≡ both (marking n zeros fr) (fineFrom lim ib (seenAfter zeros fr) cnt)
+    unfolding fineFrom
+    sound-by = same-bool _ _ there back
+      where
+        there : soundIndex w K n [] [] ib ≡ true → both (marking n zeros fr) (both (chain w K E ib R false [] [] [] ps) (marking n (seenAfter zeros fr) (partNumbers ps))) ≡ true
+        there h =
+            let m = both-split (marking n zeros fr) (marking n (seenAfter zeros fr) (partNumbers ps)) (sym names ∙ k h .naming) in
+            both-join _ _ (m .0) (both-join _ _ (chain-joined w K E ib R false [] [] [] ps (sound-links h)) (m .1))
+
+        back : both (marking n zeros fr) (both (chain w K E ib R false [] [] [] ps) (marking n (seenAfter zeros fr) (partNumbers ps))) ≡ true → soundIndex w K n [] [] ib ≡ true
+        back h =
+            let x = both-split (marking n zeros fr) _ h in
+            let y = both-split (chain w K E ib R false [] [] [] ps) (marking n (seenAfter zeros fr) (partNumbers ps)) (x .1) in
+            linked-sound (chain-apart w K E ib R false [] [] [] ps (omega (arith, ps-long, l .some)) (y .0)) (both-join _ _ (x .0) (y .1))
 
 -- ---- the ways out
 
@@ -145,7 +234,7 @@ module _ (w K n : ℕ) (ib : List ℕ) where
     c-is : c ≡ freeCount w ib
     c-is = place-good w n ib c e at .1
 
-    e-is : e ≡ lastAt ib
+    e-is : e ≡ lastAt ib - 2
     e-is = place-good w n ib c e at .2
 
     -- for the calls
@@ -155,46 +244,53 @@ module _ (w K n : ℕ) (ib : List ℕ) where
     pub free-few : c ≤ n
     free-few = omega (arith, l .some, c-is)
 
-    pub last-small : length ib ≤ 32768 → e < 65536
-    last-small h = omega (arith, l .inside, e-is)
+    pub edge-inside : 31 ≤ length ib → e + 2 ≤ length ib
+    edge-inside h = omega (arith, l .inside, l .order, e-is)
+
+    pub edge-small : length ib ≤ 32768 → e < 65536
+    edge-small h = omega (arith, l .inside, e-is)
+
+    abbrev by : Limits
+    by = record { width = w; edge = e; n = n; key = K }
 
     abbrev free : List ℕ
     free = numbersAt w ib 24 c
 
     abbrev used : List ℕ
-    used = pieceNumbers (piecesAt w ib (length ib - 7) (n - c))
+    used = partNumbers (partsAt w ib (length ib - 7) (sectionAt ib) (n - c))
 
-    abbrev none : List ℕ
-    none = replicate limit 0
+    abbrev none-yet : List ℕ
+    none-yet = replicate limit 0
 
-    by : soundIndex w K n [] [] ib ≡ both (marking n none free) (fineFrom w K n e ib (seenAfter none free) [] [] (length ib - 7) (n - c))
-    by = rw (c-is, e-is) (sound-by w K n ib (sym f) (sym b) l big)
+    by-both : soundIndex w K n [] [] ib ≡ both (marking n none-yet free) (fineFrom by ib (seenAfter none-yet free) (n - c))
+    by-both = rw (c-is, e-is) (sound-by w K n ib (sym f) (sym b) l big)
 
     module _ (m₀ : Marks) (em : m₀ ≡ emptyMarks) where
       pub no-free : false ≡ marking n (m₀ .seen) free → Unsound ≡ indexBy w K n ib
-      no-free h = unsound (λ p. false-true (h ∙ ap (λ (m : Marks). marking n (m .seen) free) em ∙ both-split (marking n none free) _ (sym by ∙ p) .0))
+      no-free h = unsound (λ p. false-true (h ∙ ap (λ (m : Marks). marking n (m .seen) free) em ∙ both-split (marking n none-yet free) _ (sym by-both ∙ p) .0))
 
       module _ (ok₁ : true ≡ marking n (m₀ .seen) free) (m₁ : Marks) (fm : m₁ ≡ freeAll m₀ free) where
-        seen₁ : m₁ .seen ≡ seenAfter none free
+        seen₁ : m₁ .seen ≡ seenAfter none-yet free
         seen₁ = ap (λ (m : Marks). m .seen) fm ∙ ap (λ (m : Marks). seenAfter (m .seen) free) em
 
         pub counts : m₁ .used ≡ 0
         counts = ap (λ (m : Marks). m .used) fm ∙ ap (λ (m : Marks). m .used) em
 
-        marks-on : marking n none free ≡ true
+        marks-on : marking n none-yet free ≡ true
         marks-on = ap (λ (m : Marks). marking n (m .seen) free) (sym em) ∙ sym ok₁
 
-        by-walk : soundIndex w K n [] [] ib ≡ fineFrom w K n e ib (m₁ .seen) [] [] (length ib - 7) (n - c)
-        by-walk = by ∙ rw (marks-on, ← seen₁)
+        by-walk : soundIndex w K n [] [] ib ≡ fineFrom by ib (m₁ .seen) (n - c)
+        by-walk = by-both ∙ rw (marks-on, ← seen₁)
 
-        pub no-chain : false ≡ fineFrom w K n e ib (m₁ .seen) [] [] (length ib - 7) (n - c) → Unsound ≡ indexBy w K n ib
+        pub no-chain : false ≡ fineFrom by ib (m₁ .seen) (n - c) → Unsound ≡ indexBy w K n ib
         no-chain h = unsound (λ p. false-true (h ∙ sym by-walk ∙ p))
 
-        module _ (ok₂ : true ≡ fineFrom w K n e ib (m₁ .seen) [] [] (length ib - 7) (n - c)) (m₂ : Marks) (um : m₂ ≡ usedAll m₁ used) where
-          pub all-fine : Sound (m₂ .free) (m₂ .used) ≡ indexBy w K n ib
-          unfolding indexBy readIndex piecesIn
+        module _ (ok₂ : true ≡ fineFrom by ib (m₁ .seen) (n - c)) (m₂ : Marks) (um : m₂ ≡ usedAll m₁ used) where
+          pub all-fine : SoundWith (m₂ .free) (m₂ .used) ≡ indexBy w K n ib
+          unfolding indexBy readIndex partsIn
           all-fine =
               let s : soundIndex w K n [] [] ib ≡ true = by-walk ∙ sym ok₂ in
+              let ps' : List Part = partsAt w ib (length ib - 7) (sectionAt ib) (n - c) in
               let a : m₂ .free ≡ length free = ap (λ (m : Marks). m .free) um ∙ ap (λ (m : Marks). m .free) fm ∙ ap (λ (m : Marks). m .free + length free) em ∙ omega arith in
-              let d : m₂ .used ≡ length used = ap (λ (m : Marks). m .used) um ∙ rw counts (omega arith) in
-              rw (a, d) (sym (rw (s, ← c-is, length-spelt [] (piecesAt w ib (length ib - 7) (n - c)))))
+              let d : m₂ .used ≡ length ps' = ap (λ (m : Marks). m .used) um ∙ rw counts (omega (arith, length-map ps' (λ (p : Part). p .piece .num))) in
+              rw (a, d) (sym (rw (s, ← c-is, length-spellAll [] [] ps')))

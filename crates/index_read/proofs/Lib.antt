@@ -4,8 +4,8 @@ pub mod Header
 pub mod Next
 pub mod Chain
 pub mod Marking
-pub mod Linking
 pub mod Walking
+pub mod Ending
 pub mod Judging
 pub mod Answers
 pub mod Unique

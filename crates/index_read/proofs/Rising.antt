@@ -20,7 +20,10 @@ use Rattle.fields.proofs.Orders.{andThen, order-prefix, order-front, less-order
 use Rattle.fields.proofs.Octets.{octets-take, octets-drop, octets-append, octets-replicate}
 use Rattle.index.specs.Bounds.{bound, separator}
 use Rattle.index.proofs.Bounds.{top-not-less, less-then}
-use Rattle.index_read.specs.AidWalk.{boundRises}
+use Rattle.index_step.specs.declared.Step.{Step}
+use Rattle.index_step.specs.AidStep.{joinedOf, reach, extendedBy}
+use Rattle.index_step.proofs.Reaching.{reach-most, extended-chars}
+use Rattle.index_read.specs.AidWalk.{boundRises, Ascends, TopAscends}
 use Rattle.index_read.proofs.Marking.{le-or-lt}
 
 -- ---- what follows the bytes in common
@@ -208,3 +211,16 @@ module _ (buf ib : List ℕ) (f len at l : ℕ) (front : f ≤ len) (whole : len
             let y : isLess (orderOf (getD buf f 0 ∷ take (m - 1) (drop (suc f) buf)) (getD ib at 0 ∷ take (m - 1) (drop (suc at) ib))) ≡ true =
             less-lt (getD buf f 0) (getD ib at 0) (take (m - 1) (drop (suc f) buf)) (take (m - 1) (drop (suc at) ib)) x in
             above-less first no-first m e Less (sym (rw (e1, e2, d1, d2) (less-order _ y))) refl
+
+-- ---- a section's highest
+
+-- It was put into another buffer, and is compared with the separator before from the front on.
+module _ (first : Bool) (len : ℕ) (buf high high' ib : List ℕ) (s : Step) (is : high' ≡ extendedBy ib s high) (whole : s .front + s .len + 8 ≤ length high)
+    (inside : s .at + reach (s .len) ≤ length ib) where
+  top-spelt : part high' 0 (s .front + s .len) ≡ joinedOf (s .front) high ib (s .at) (s .len)
+  top-spelt = extended-chars ib high high' (s .front) (s .len) (s .at) (omega (arith, reach-most (s .len))) inside is
+
+  pub top-ascends : (r : Bool) → ((first ≡ true) × (r ≡ true)) ⊎ ((first ≡ false) × Ascends false 0 len buf high' 0 (s .front + s .len) r) → TopAscends first len buf high ib s r
+  top-ascends r h = λ (K : ℕ) (k1 : len ≤ K) (k2 : s .front + s .len ≤ K).
+      ⊎-elim (λ (q : (first ≡ true) × (r ≡ true)). rw (q .0) (q .1))
+      (λ (q : (first ≡ false) × Ascends false 0 len buf high' 0 (s .front + s .len) r). rw (q .0, ← top-spelt) (q .1 K k1 (omega arith))) h

@@ -7,26 +7,50 @@ use lib.ListN.{length, getD, take, set, replicate, length-append, length-replica
 use lib.Seq.{length-take-le, take-take}
 use lib.Dec.{eqb, leb, ltb}
 use native.Mathlib.Omega.{arith}
-use borrow.Author.Tests.{lt-ltb, eq-eqb, ne-eqb, le-leb, ltb-true, eqb-true}
+use borrow.Author.Tests.{lt-ltb, eq-eqb, ne-eqb, le-leb, ltb-true, eqb-true, leb-true}
 use Rattle.fields.specs.Choice.{pick, both, no}
-use Rattle.fields.specs.Bytes.{part, number, splice}
+use Rattle.fields.specs.Bytes.{number}
 use Rattle.fields.specs.Order.{orderOf, less}
 use Rattle.fields.proofs.Choices.{false-true, both-split, both-join, off, both-none, both-true}
+use Rattle.fields.proofs.Splices.{length-mid}
 use Rattle.index.specs.Bounds.{empty, bound, separator}
-use Rattle.index.specs.Pieces.{spelt, pieceSize}
-use Rattle.index.specs.Reading.{lengthAt, pieceAt, piecesAt}
-use Rattle.index_step.specs.AidStep.{frontAt, charsAt, reach}
-use Rattle.index_step.proofs.Stepping.{extended-chars, extended-length}
-use Rattle.index_read.specs.AidParsing.{parsedOf}
-use Rattle.index_read.specs.AidWalk.{boundRises, nextIn, entryOf, chain, pieceNumbers, marking, seenAfter, settled, usedAll, fineFrom}
+use Rattle.index.specs.Reading.{sectionAt, lengthAt}
+use Rattle.index.proofs.Keeping.{separator-short}
+use Rattle.index.proofs.Apart.{chars-long}
+use Rattle.sections.specs.Parts.{Part, against, partSize}
+use Rattle.sections.specs.Reading.{partsAt}
+use Rattle.index_step.specs.declared.Place.{Place}
+use Rattle.index_step.specs.declared.Step.{Step}
+use Rattle.index_step.specs.AidStep.{placeStart, frontAt, charsAt, stepAt, placePast, Renewed}
+use Rattle.index_step.specs.AidEntries.{Here, hereFirst, partHere, sepHere, hereNext, liesHere, Held}
+use Rattle.index_step.proofs.Passing.{held-on}
+use Rattle.index_step.proofs.Stepping.{held-start}
+use Rattle.index_read.specs.AidParsing.{closesAt, parses}
+use Rattle.index_read.specs.AidWalk.{boundRises, Before, nextIn, entryOf, chain, partNumbers, marking, seenAfter, settled, usedAll, fineFrom}
+use Rattle.index_read.specs.declared.Limits.{Limits}
 use Rattle.index_read.specs.declared.Marks.{Marks}
 use Rattle.index_read.specs.declared.Parsed.the-variants.{Of, Bad}
-use Rattle.index_read.proofs.Entry.{Good, good, parses-joined, size-is, place-is, chars-length, reaches}
+use Rattle.index_read.proofs.Entry.{Good, good, parses-joined}
 use Rattle.index_read.proofs.Next.{entry-good, entry-bad}
-use Rattle.index_step.proofs.Walking.{pieces-next}
-use Rattle.index_read.proofs.Linking.{Link, link}
 
 -- ---- the tests, entry by entry
+
+-- the entries that are left from a place on keep the rules, and their numbers are new
+unfoldable pub fineAt : Limits → List ℕ → List ℕ → Bool → List ℕ → Here → ℕ → Bool
+fineAt by ib seen closed low h left =
+    both (chain (by .width) (by .key) (by .edge) ib (h .right) closed low (h .high) (h .ref) (partsAt (by .width) ib (h .right) (h .end) left))
+    (marking (by .n) seen (partNumbers (partsAt (by .width) ib (h .right) (h .end) left)))
+
+fine-first : (by : Limits) (ib seen : List ℕ) (count : ℕ) → fineFrom by ib seen count ≡ fineAt by ib seen false [] (hereFirst ib) count
+unfolding fineFrom fineAt
+fine-first by ib seen count = refl
+
+parts-next : (w : ℕ) (ib : List ℕ) (h : Here) (left : ℕ) → 0 < left
+    → partsAt w ib (h .right) (h .end) left ≡ partHere w ib h ∷ partsAt w ib (hereNext w ib h .right) (hereNext w ib h .end) (left - 1)
+unfolding partsAt
+parts-next w ib h left more =
+    let e : left ≡ suc (left - 1) = omega arith in
+    ap (λ (z : ℕ). partsAt w ib (h .right) (h .end) z) e
 
 shuffle : (a b c d x p q y : Bool) → both (both a (both b (both c (both d x)))) (both p (both q y)) ≡ both a (both b (both c (both d (both p (both q (both x y))))))
 shuffle true true true true true p q y = refl
@@ -36,80 +60,124 @@ shuffle true true false d x p q y = refl
 shuffle true false c d x p q y = refl
 shuffle false b c d x p q y = refl
 
-fine-step : (w K n e : ℕ) (ib seen low ref : List ℕ) (r left : ℕ) → 0 < left
-    → fineFrom w K n e ib seen low ref r left
-    ≡ both (leb (e + pieceSize w (pieceAt w ib r)) r)
-    (both (leb (frontAt w ib r) (length ref))
-    (both (separator K (spelt ref (pieceAt w ib r)))
-    (both (less low (bound K (spelt ref (pieceAt w ib r))))
-    (both (ltb (number w ib (r - w)) n)
-    (both (eqb (getD seen (number w ib (r - w)) 0) 0)
-    (fineFrom w K n e ib (set seen (number w ib (r - w)) 1) (bound K (spelt ref (pieceAt w ib r))) (spelt ref (pieceAt w ib r)) (r - pieceSize w (pieceAt w ib r)) (left - 1)))))))
-unfolding fineFrom chain marking
-fine-step w K n e ib seen low ref r left h =
-    rw (pieces-next w ib r left h)
-    (shuffle (leb (e + pieceSize w (pieceAt w ib r)) r) (leb (frontAt w ib r) (length ref)) (separator K (spelt ref (pieceAt w ib r)))
-    (less low (bound K (spelt ref (pieceAt w ib r)))) _ (ltb (number w ib (r - w)) n) (eqb (getD seen (number w ib (r - w)) 0) 0) _)
+module _ (by : Limits) (ib seen low : List ℕ) (h : Here) where
+  abbrev w : ℕ
+  w = by .width
 
-fine-end : (w K n e : ℕ) (ib seen low ref : List ℕ) (r : ℕ) → fineFrom w K n e ib seen low ref r 0 ≡ both (eqb r e) (empty ref)
-unfolding fineFrom chain marking piecesAt
-fine-end w K n e ib seen low ref r = both-true (both (eqb r e) (empty ref))
+  abbrev next : Part
+  next = partHere w ib h
 
--- what entries that pass say: of their chain, and of the first number
-fine-apart : (w K n e : ℕ) (ib seen low ref : List ℕ) (r left : ℕ) → 0 < left → fineFrom w K n e ib seen low ref r left ≡ true
-    → (chain w K e r low ref (piecesAt w ib r left) ≡ true) × (number w ib (r - w) < n) × (getD seen (number w ib (r - w)) 0 ≡ 0)
-unfolding fineFrom marking
-fine-apart w K n e ib seen low ref r left more h =
-    let a = both-split (chain w K e r low ref (piecesAt w ib r left)) (marking n seen (pieceNumbers (piecesAt w ib r left))) h in
-    let x : ℕ = number w ib (r - w) in
-    let ys : List ℕ = pieceNumbers (piecesAt w ib (r - pieceSize w (pieceAt w ib r)) (left - 1)) in
-    let m : marking n seen (x ∷ ys) ≡ true = rw (pieces-next w ib r left more) at (a .1) in
-    let b = both-split (ltb x n) (both (eqb (getD seen x 0) 0) (marking n (set seen x 1) ys)) m in
-    let c = both-split (eqb (getD seen x 0) 0) (marking n (set seen x 1) ys) (b .1) in
-    (a .0, ltb-true x n (b .0), eqb-true (getD seen x 0) 0 (c .0))
+  abbrev sep : List ℕ
+  sep = sepHere w ib h
+
+  abbrev num : ℕ
+  num = next .piece .num
+
+  -- what is asked of the next entry
+  pub record Passed : Type 0 where
+    pub room : by .edge + partSize w next ≤ h .right
+    pub front : next .piece .front ≤ length (against (h .high) (h .ref) next)
+    pub fine : separator (by .key) sep ≡ true
+    pub rising : less low (bound (by .key) sep) ≡ true
+    pub small : num < by .n
+    pub new : getD seen num 0 ≡ 0
+
+  abbrev rest : ℕ → Bool
+  rest left = fineAt by ib (set seen num 1) (next .closes) (bound (by .key) sep) (hereNext w ib h) left
+
+  fine-step : (closed : Bool) (left : ℕ) → 0 < left
+      → fineAt by ib seen closed low h left
+      ≡ both (leb (by .edge + partSize w next) (h .right))
+      (both (leb (next .piece .front) (length (against (h .high) (h .ref) next)))
+      (both (separator (by .key) sep) (both (less low (bound (by .key) sep)) (both (ltb num (by .n)) (both (eqb (getD seen num 0) 0) (rest (left - 1)))))))
+  unfolding fineAt chain marking
+  fine-step closed left more =
+      rw (parts-next w ib h left more)
+      (shuffle (leb (by .edge + partSize w next) (h .right)) (leb (next .piece .front) (length (against (h .high) (h .ref) next))) (separator (by .key) sep)
+      (less low (bound (by .key) sep)) _ (ltb num (by .n)) (eqb (getD seen num 0) 0) _)
+
+  fine-apart : (closed : Bool) (left : ℕ) → 0 < left → fineAt by ib seen closed low h left ≡ true → Passed
+  fine-apart closed left more z =
+      let a = both-split _ _ (sym (fine-step closed left more) ∙ z) in
+      let b = both-split _ _ (a .1) in
+      let c = both-split _ _ (b .1) in
+      let d = both-split _ _ (c .1) in
+      let f = both-split _ _ (d .1) in
+      let g = both-split _ _ (f .1) in
+      record {
+        room = leb-true _ _ (a .0);
+        front = leb-true _ _ (b .0);
+        fine = c .0;
+        rising = d .0;
+        small = ltb-true _ _ (f .0);
+        new = eqb-true _ _ (g .0);
+      }
+
+  fine-on : (closed : Bool) (left : ℕ) → 0 < left → Passed → fineAt by ib seen closed low h left ≡ rest (left - 1)
+  fine-on closed left more x =
+      fine-step closed left more
+      ∙ rw (
+        le-leb (by .edge + partSize w next) (h .right) (x .room),
+        le-leb (next .piece .front) (length (against (h .high) (h .ref) next)) (x .front),
+        x .fine,
+        x .rising,
+        lt-ltb num (by .n) (x .small),
+        eq-eqb (getD seen num 0) 0 (x .new),
+      )
+
+  fine-end : (closed : Bool) → fineAt by ib seen closed low h 0 ≡ both (eqb (h .right) (by .edge)) (both (empty (h .ref)) (both (eqb (number 2 ib (by .edge)) 0) closed))
+  unfolding fineAt chain marking partsAt
+  fine-end closed = both-true _
+
+  fine-done : (closed : Bool) (left : ℕ) → left ≡ 0
+      → fineAt by ib seen closed low h left ≡ both (eqb (h .right) (by .edge)) (both (empty (h .ref)) (both (eqb (number 2 ib (by .edge)) 0) closed))
+  fine-done closed left done = rw done (fine-end closed)
 
 -- ---- how far the walk has come
 
 -- the bound before the next entry; there is none before the first
-abbrev lowOf : Bool → ℕ → List ℕ → List ℕ
+abbrev pub lowOf : Bool → ℕ → List ℕ → List ℕ
 lowOf first K ref = pick first [] (bound K ref)
 
-pub record State (w K n e : ℕ) (ib : List ℕ) (count : ℕ) (m₀ m : Marks) (buf : List ℕ) (len r left : ℕ) : Type 0 where
-  pub ref : List ℕ
-  pub long : length ref ≡ len
-  pub short : len ≤ K
+pub record State (by : Limits) (ib : List ℕ) (count : ℕ) (m₀ m : Marks) (buf high : List ℕ) (p : Place) (closed : Bool) (left : ℕ) : Type 0 where
+  pub h : Here
+  pub held : Held h p buf high
   pub whole : length buf ≡ 263
-  pub held : take len buf ≡ ref
-  pub fine : separator len ref ≡ true
-  pub inside : r + 7 ≤ length ib
+  pub whole' : length high ≡ 263
+  pub short : length (h .ref) ≤ by .key
+  pub low : length (h .high) ≤ by .key
+  pub fine : separator (length (h .ref)) (h .ref) ≡ true
+  pub inside : h .right + 7 ≤ length ib
   pub few : left ≤ count
   pub counts : m .used + left < 2 ^ 64
-  pub same : fineFrom w K n e ib (m₀ .seen) [] [] (length ib - 7) count ≡ fineFrom w K n e ib (m .seen) (lowOf (eqb left count) K ref) ref r left
-  pub marks : usedAll m₀ (pieceNumbers (piecesAt w ib (length ib - 7) count)) ≡ usedAll m (pieceNumbers (piecesAt w ib r left))
+  pub same : fineFrom by ib (m₀ .seen) count ≡ fineAt by ib (m .seen) closed (lowOf (eqb left count) (by .key) (h .ref)) h left
+  pub marks : usedAll m₀ (partNumbers (partsAt (by .width) ib (length ib - 7) (sectionAt ib) count)) ≡ usedAll m (partNumbers (partsAt (by .width) ib (h .right) (h .end) left))
 
-pub start : (w K n e : ℕ) (ib : List ℕ) (count : ℕ) (m₀ : Marks) → 7 ≤ length ib → K ≤ 255 → m₀ .used + count < 2 ^ 64
-    → State w K n e ib count m₀ m₀ (replicate 263 0) 0 (length ib - 7) count
-start w K n e ib count m₀ large h g =
+pub start : (by : Limits) (ib : List ℕ) (count : ℕ) (m₀ : Marks) (p : Place) → p ≡ placeStart ib → 31 ≤ length ib → m₀ .used + count < 2 ^ 64
+    → State by ib count m₀ m₀ (replicate 263 0) (replicate 263 0) p false count
+start by ib count m₀ p is large g =
+    let k : length {A = ℕ} (replicate 263 0) ≡ 263 = length-replicate {A = ℕ} 263 0 in
     record {
-      ref = [];
-      long = refl;
+      h = hereFirst ib;
+      held = rw is (held-start ib (replicate 263 0) (replicate 263 0) (omega (arith, k)) (omega (arith, k)));
+      whole = k;
+      whole' = k;
       short = omega arith;
-      whole = length-replicate {A = ℕ} 263 0;
-      held = refl;
+      low = omega arith;
       fine = unfold separator in refl;
       inside = omega arith;
       few = omega arith;
       counts = g;
-      same = rw (eq-eqb count count refl);
+      same = fine-first by ib (m₀ .seen) count ∙ rw (eq-eqb count count refl);
       marks = refl;
     }
 
 -- a separator for keys of one length is one for any length that it fits in
-separator-own : (K : ℕ) (s : List ℕ) (n : ℕ) → length s ≡ n → separator K s ≡ true → separator n s ≡ true
+separator-own : (K : ℕ) (s : List ℕ) → separator K s ≡ true → separator (length s) s ≡ true
 unfolding separator
-separator-own K s n e h =
+separator-own K s h =
     let b = both-split (leb (length s) K) (no (eqb (getD s (length s - 1) 0) 255)) h in
-    both-join (leb (length s) n) (no (eqb (getD s (length s - 1) 0) 255)) (le-leb (length s) n (omega arith)) (b .1)
+    both-join (leb (length s) (length s)) (no (eqb (getD s (length s - 1) 0) 255)) (le-leb (length s) (length s) (omega arith)) (b .1)
 
 -- a bound isn't empty, so it is above no bound at all
 less-low : (t : Bool) (K : ℕ) (ref sep : List ℕ) → 1 ≤ K → less (lowOf t K ref) (bound K sep) ≡ boundRises t K ref sep
@@ -121,149 +189,251 @@ less-low t K ref sep h = go t (bound K sep) (omega (arith, length-append sep (re
     go true (y ∷ ys) h = unfold orderOf in refl
     go false x h = refl
 
-module _ (w K n e : ℕ) (ib : List ℕ) (count : ℕ) (m₀ m : Marks) (buf : List ℕ) (len r left : ℕ)
-    (st : State w K n e ib count m₀ m buf len r left) (more : 0 < left) (least : 1 ≤ K) where
-  abbrev all : Bool
-  all = fineFrom w K n e ib (m₀ .seen) [] [] (length ib - 7) count
-
-  abbrev low : List ℕ
-  low = lowOf (eqb left count) K (st .ref)
-
-  abbrev here : Bool
-  here = fineFrom w K n e ib (m .seen) low (st .ref) r left
-
-  not-all : (here ≡ true → ⊥) → false ≡ all
-  not-all h = sym (st .same ∙ off here h)
-
-  apart : here ≡ true → (chain w K e r low (st .ref) (piecesAt w ib r left) ≡ true) × (number w ib (r - w) < n) × (getD (m .seen) (number w ib (r - w)) 0 ≡ 0)
-  apart = fine-apart w K n e ib (m .seen) low (st .ref) r left more
-
-  -- the buffer begins with ref, so a front of it is a front of ref
-  front-held : (f : ℕ) → f ≤ len → take f buf ≡ take f (st .ref)
-  front-held f h = sym (take-take f len buf h) ∙ ap (λ (x : List ℕ). take f x) (st .held)
-
-  -- the separator by the buffer is the one by ref
-  next-is : frontAt w ib r ≤ len → nextIn w ib r buf ≡ spelt (st .ref) (pieceAt w ib r)
-  next-is h = rw (front-held (frontAt w ib r) h)
-
-  pub bad-entry : entryOf w ib r e len K (eqb left count) buf ≡ Bad → false ≡ all
-  bad-entry h = not-all (λ p. no (link w K ib e r low (st .ref) left (omega (arith, st .inside)) more (apart p .0)))
-    where
-      no : Link w K ib e r low (st .ref) left → ⊥
-      no k =
-          let g : Good w ib r e (length (st .ref)) K (frontAt w ib r) (lengthAt w ib r) (charsAt w ib r) (number w ib (r - w)) =
-          good w ib r e (length (st .ref)) K (frontAt w ib r) (lengthAt w ib r) (charsAt w ib r) (number w ib (r - w)) (k .parsed) in
-          let f : frontAt w ib r ≤ len = omega (arith, g .front, st .long) in
-          let a : boundRises (eqb left count) K (take len buf) (nextIn w ib r buf) ≡ true =
-          rw (next-is f, st .held) (sym (less-low (eqb left count) K (st .ref) (spelt (st .ref) (pieceAt w ib r)) least) ∙ k .rising) in
-          let b : separator K (nextIn w ib r buf) ≡ true = rw (next-is f) (k .fine) in
-          false-true (sym (entry-bad w ib r e len K (eqb left count) buf h (parses-joined w ib r e len K (g .room) f (g .fits))) ∙ both-join
-          (boundRises (eqb left count) K (take len buf) (nextIn w ib r buf)) (separator K (nextIn w ib r buf)) a b)
-
-  module _ (f l at num : ℕ) (entry : entryOf w ib r e len K (eqb left count) buf ≡ Of f l at num) where
-    told : (parsedOf w ib r e len K ≡ Of f l at num) × (boundRises (eqb left count) K (take len buf) (nextIn w ib r buf) ≡ true) × (separator K (nextIn w ib r buf) ≡ true)
-    told = entry-good w ib r e len K (eqb left count) buf f l at num entry
-
-    pub fits : Good w ib r e len K f l at num
-    fits = good w ib r e len K f l at num (told .0)
-
-    pub too-big : n ≤ num → false ≡ all
-    too-big h = not-all (λ p. omega (arith, apart p .1, fits .num-is))
-
-    pub again : (getD (m .seen) num 0 ≡ 0 → ⊥) → false ≡ all
-    again h = not-all (λ p. h (rw (fits .num-is) (apart p .2)))
-
-    abbrev sep : List ℕ
-    sep = take f (st .ref) ++ part ib at l
-
-    sep-is : spelt (st .ref) (pieceAt w ib r) ≡ sep
-    sep-is = rw (fits .front-is, fits .at-is, fits .len-is)
-
-    next-sep : nextIn w ib r buf ≡ sep
-    next-sep = next-is (omega (arith, fits .front, fits .front-is)) ∙ sep-is
-
-    place : r - pieceSize w (pieceAt w ib r) ≡ at
-    place = place-is w ib r e len K f l at num fits (omega (arith, st .inside))
-
-    t1 : leb (e + pieceSize w (pieceAt w ib r)) r ≡ true
-    t1 = le-leb (e + pieceSize w (pieceAt w ib r)) r (omega (arith, size-is w ib r e len K f l at num fits (omega (arith, st .inside)), fits .room))
-
-    t2 : leb (frontAt w ib r) (length (st .ref)) ≡ true
-    t2 = le-leb (frontAt w ib r) (length (st .ref)) (omega (arith, fits .front, fits .front-is, st .long))
-
-    t3 : separator K sep ≡ true
-    t3 = ap (λ (x : List ℕ). separator K x) (sym next-sep) ∙ told .2
-
-    t4 : less low (bound K sep) ≡ true
-    t4 = less-low (eqb left count) K (st .ref) sep least ∙ rw (← next-sep, ← st .held) (told .1)
-
-    same-on : num < n → getD (m .seen) num 0 ≡ 0 → all ≡ fineFrom w K n e ib (set (m .seen) num 1) (bound K sep) sep at (left - 1)
-    same-on h z =
-        st .same ∙ fine-step w K n e ib (m .seen) low (st .ref) r left more
-        ∙ rw (t1, t2, sep-is, t3, t4, ← fits .num-is, lt-ltb num n h, eq-eqb (getD (m .seen) num 0) 0 z, place)
-
-    sep-long : length sep ≡ f + l
-    sep-long =
-        let a = length-take-le f (st .ref) (omega (arith, fits .front, st .long)) in
-        let b = chars-length w ib r e len K f l at num fits (omega (arith, st .inside)) in
-        omega (arith, length-append (take f (st .ref)) (part ib at l), a, b)
-
-    abbrev m' : Marks
-    m' = record { seen = set (m .seen) num 1; used = m .used + 1; free = m .free; ok = m .ok }
-
-    marks-on : usedAll m (pieceNumbers (piecesAt w ib r left)) ≡ usedAll m' (pieceNumbers (piecesAt w ib at (left - 1)))
-    unfolding seenAfter
-    marks-on =
-        let xs : List ℕ = pieceNumbers (piecesAt w ib at (left - 1)) in
-        let a : m .used + suc (length xs) ≡ m .used + 1 + length xs = omega arith in
-        rw (pieces-next w ib r left more, place, ← fits .num-is, a)
-
-    module _ (new : List ℕ) (is : new ≡ splice buf f (part ib at (reach l))) (most : K ≤ 255) where
-      reach-in : (f + reach l ≤ length buf) × (at + reach l ≤ length ib)
-      reach-in = reaches w ib r e len K f l at num (length buf) fits (st .inside) (omega (arith, st .whole))
-
-      held-on : take (f + l) new ≡ sep
-      held-on = extended-chars ib buf new f l at (reach-in .0) (reach-in .1) is ∙ rw (front-held f (fits .front))
-
-      pub onward : num < n → getD (m .seen) num 0 ≡ 0 → State w K n e ib count m₀ m' new (f + l) at (left - 1)
-      onward h z =
-          let k : eqb (left - 1) count ≡ false = ne-eqb (left - 1) count (omega (arith, st .few)) in
-          record {
-            ref = sep;
-            long = sep-long;
-            short = fits .fits;
-            whole = extended-length ib buf new f l at (reach-in .0) (reach-in .1) is ∙ st .whole;
-            held = held-on;
-            fine = separator-own K sep (f + l) sep-long t3;
-            inside = omega (arith, fits .at-is, st .inside);
-            few = omega (arith, st .few);
-            counts = omega (arith, st .counts);
-            same = same-on h z ∙ rw k;
-            marks = st .marks ∙ marks-on;
-          }
-
--- ---- the end
-
 empty-is : (xs : List ℕ) → empty xs ≡ eqb (length xs) 0
 empty-is [] = refl
 empty-is (x ∷ xs) = sym (ne-eqb (suc (length xs)) 0 (omega arith))
 
-module _ (w K n e : ℕ) (ib : List ℕ) (count : ℕ) (m₀ m : Marks) (buf : List ℕ) (len r left : ℕ)
-    (st : State w K n e ib count m₀ m buf len r left) (done : left ≡ 0) where
-  last : fineFrom w K n e ib (m₀ .seen) [] [] (length ib - 7) count ≡ both (eqb r e) (eqb len 0)
-  last =
-      let a : fineFrom w K n e ib (m .seen) (lowOf (eqb left count) K (st .ref)) (st .ref) r left ≡ both (eqb r e) (empty (st .ref)) =
-      rw done (fine-end w K n e ib (m .seen) (lowOf (eqb 0 count) K (st .ref)) (st .ref) r) in
-      st .same ∙ a ∙ rw (empty-is (st .ref), st .long)
+pick-length : (t : Bool) (a b : List ℕ) → length (pick t a b) ≡ pick t (length a) (length b)
+pick-length true a b = refl
+pick-length false a b = refl
 
-  pub not-there : (r ≡ e → ⊥) → false ≡ fineFrom w K n e ib (m₀ .seen) [] [] (length ib - 7) count
-  not-there h = sym (last ∙ rw (ne-eqb r e h))
+pick-short : (t : Bool) (a b : List ℕ) (K : ℕ) → length a ≤ K → length b ≤ K → length (pick t a b) ≤ K
+pick-short true a b K x y = x
+pick-short false a b K x y = y
 
-  pub there : r ≡ e → eqb len 0 ≡ fineFrom w K n e ib (m₀ .seen) [] [] (length ib - 7) count
-  there h = sym (last ∙ rw (eq-eqb r e h))
+-- ---- the next entry, by the place and the buffers and by the entries
 
-  pub marks-end : settled true m ≡ usedAll m₀ (pieceNumbers (piecesAt w ib (length ib - 7) count))
-  unfolding piecesAt seenAfter
-  marks-end =
-      let z : m .used + 0 ≡ m .used = omega arith in
-      sym (st .marks ∙ rw (done, z))
+module _ (by : Limits) (ib : List ℕ) (h : Here) (p : Place) (buf high : List ℕ) (held : Held h p buf high) where
+  abbrev r : ℕ
+  r = h .right
+
+  abbrev entry-part : Part
+  entry-part = partHere (by .width) ib h
+
+  abbrev F : ℕ
+  F = frontAt (by .width) ib r
+
+  abbrev L : ℕ
+  L = lengthAt (by .width) ib r
+
+  abbrev former : List ℕ
+  former = against (h .high) (h .ref) entry-part
+
+  -- the buffers begin with what F refers to, so the separator is the same
+  next-is : F ≤ length former → nextIn ib p by buf high ≡ sepHere (by .width) ib h
+  next-is f = rw (held .right, held .end) (go (entry-part .closes) f)
+    where
+      go : (t : Bool) → F ≤ length (pick t (h .high) (h .ref)) → take F (pick t high buf) ++ entry-part .piece .chars ≡ take F (pick t (h .high) (h .ref)) ++ entry-part .piece .chars
+      go true f = let z : take F high ≡ take F (h .high) = sym (take-take F (p .high) high (omega (arith, f, held .tall))) ∙ rw (held .top) in rw z
+      go false f = let z : take F buf ≡ take F (h .ref) = sym (take-take F (p .len) buf (omega (arith, f, held .long))) ∙ rw (held .ref) in rw z
+
+  step-is : (s : Step) → Good ib p by s → s ≡ stepAt (by .width) ib r (h .end)
+  step-is s g = g .is ∙ rw (held .right, held .end)
+
+  front-is : F ≤ length former → frontAt (by .width) ib (p .right) ≤ pick (closesAt (by .width) p) (p .high) (p .len)
+  front-is f = rw (held .right, held .end, ← held .tall, ← held .long) (omega (arith, f, pick-length (entry-part .closes) (h .high) (h .ref)))
+
+  is-front : F ≤ pick (entry-part .closes) (p .high) (p .len) → F ≤ length former
+  is-front f =
+      let y : pick (entry-part .closes) (p .high) (p .len) ≡ pick (entry-part .closes) (length (h .high)) (length (h .ref)) = rw (held .tall, held .long) in
+      omega (arith, f, y, pick-length (entry-part .closes) (h .high) (h .ref))
+
+  sep-size : F ≤ length former → length (entry-part .piece .chars) ≡ L → length (sepHere (by .width) ib h) ≡ F + L
+  sep-size f c = omega (arith, length-append (take F former) (entry-part .piece .chars), length-take-le F former f, c)
+
+  parses-here : h .right + 7 ≤ length ib → by .edge + partSize (by .width) entry-part ≤ r → F ≤ length former → separator (by .key) (sepHere (by .width) ib h) ≡ true
+      → parses ib p by ≡ true
+  parses-here inside room f fine =
+      let long : length (entry-part .piece .chars) ≡ L = chars-long (by .width) ib r (omega (arith, inside)) (omega (arith, room)) in
+      let a : by .edge + (by .width + 2 + lengthAt (by .width) ib (p .right) + pick (closesAt (by .width) p) 2 0) ≤ p .right =
+      rw (held .right, held .end) (omega (arith, room, long)) in
+      let c : frontAt (by .width) ib (p .right) + lengthAt (by .width) ib (p .right) ≤ by .key =
+      rw (held .right) (omega (arith, sep-size f long, separator-short (by .key) (sepHere (by .width) ib h) fine)) in
+      parses-joined ib p by a (front-is f) c
+
+  -- the end
+  same-end : (x y : Bool) → both (eqb r (by .edge)) (both (empty (h .ref)) (both x y)) ≡ both (eqb (p .right) (by .edge)) (both (eqb (p .len) 0) (both x y))
+  same-end x y = rw (empty-is (h .ref), held .long, held .right)
+
+module _ (by : Limits) (ib : List ℕ) (count : ℕ) (m₀ m : Marks) (buf high : List ℕ) (p : Place) (closed : Bool) (left : ℕ)
+    (st : State by ib count m₀ m buf high p closed left) where
+  -- for the call
+  pub ready : 1 ≤ by .width → by .width ≤ 4 → by .edge < 65536 → by .key ≤ 255 → Before ib p by buf high
+  ready some few edge most =
+      record {
+        some = some;
+        few = few;
+        inside = omega (arith, st .inside, st .held .right);
+        edge = edge;
+        whole = omega (arith, st .whole);
+        whole' = omega (arith, st .whole');
+        short = omega (arith, st .short, st .held .long);
+        low = omega (arith, st .low, st .held .tall);
+        held = rw (st .held .ref, ← st .held .long) (st .fine);
+      }
+
+  abbrev all : Bool
+  all = fineFrom by ib (m₀ .seen) count
+
+  abbrev h' : Here
+  h' = st .h
+
+  abbrev w' : ℕ
+  w' = by .width
+
+  abbrev K : ℕ
+  K = by .key
+
+  abbrev part' : Part
+  part' = partHere w' ib h'
+
+  abbrev sep' : List ℕ
+  sep' = sepHere w' ib h'
+
+  abbrev F' : ℕ
+  F' = frontAt w' ib (h' .right)
+
+  abbrev L' : ℕ
+  L' = lengthAt w' ib (h' .right)
+
+  abbrev former' : List ℕ
+  former' = against (h' .high) (h' .ref) part'
+
+  abbrev low : List ℕ
+  low = lowOf (eqb left count) K (h' .ref)
+
+  module _ (more : 0 < left) (least : 1 ≤ K) where
+    abbrev here : Bool
+    here = fineAt by ib (m .seen) closed low h' left
+
+    abbrev Fine : Type 0
+    Fine = Passed by ib (m .seen) low h'
+
+    not-all : (Fine → ⊥) → false ≡ all
+    not-all f = sym (st .same ∙ off here (λ z. f (fine-apart by ib (m .seen) low h' closed left more z)))
+
+    nexts : F' ≤ length former' → nextIn ib p by buf high ≡ sep'
+    nexts = next-is by ib h' p buf high (st .held)
+
+    pub bad-entry : entryOf ib p by (eqb left count) buf high ≡ Bad → false ≡ all
+    bad-entry z = not-all no
+      where
+        no : Fine → ⊥
+        no x =
+            let a : boundRises (eqb left count) K (take (p .len) buf) (nextIn ib p by buf high) ≡ true =
+            rw (nexts (x .front), st .held .ref) (sym (less-low (eqb left count) K (h' .ref) sep' least) ∙ x .rising) in
+            let b : separator K (nextIn ib p by buf high) ≡ true = rw (nexts (x .front)) (x .fine) in
+            false-true (sym (entry-bad ib p by (eqb left count) buf high z (parses-here by ib h' p buf high (st .held) (st .inside) (x .room) (x .front) (x .fine))) ∙ both-join
+            (boundRises (eqb left count) K (take (p .len) buf) (nextIn ib p by buf high)) (separator K (nextIn ib p by buf high)) a b)
+
+    module _ (s : Step) (entry : entryOf ib p by (eqb left count) buf high ≡ Of s) where
+      pub fits : Good ib p by s
+      fits = good ib p by s (entry-good ib p by (eqb left count) buf high s entry .0)
+
+      steps : s ≡ stepAt w' ib (h' .right) (h' .end)
+      steps = step-is by ib h' p buf high (st .held) s fits
+
+      num-is : s .number ≡ part' .piece .num
+      num-is = ap (λ (x : Step). x .number) steps
+
+      pub too-big : by .n ≤ s .number → false ≡ all
+      too-big z = not-all (λ x. omega (arith, x .small, num-is))
+
+      pub again : (getD (m .seen) (s .number) 0 ≡ 0 → ⊥) → false ≡ all
+      again z = not-all (λ x. z (rw num-is (x .new)))
+
+      room : by .edge + (w' + 2 + L' + pick (part' .closes) 2 0) ≤ h' .right
+      room =
+          let z : by .edge + (w' + 2 + L' + pick (part' .closes) 2 0) ≤ p .right = rw steps at (fits .room) in
+          omega (arith, z, st .held .right)
+
+      front : F' ≤ length former'
+      front = is-front by ib h' p buf high (st .held) (rw steps at (fits .front))
+
+      few : F' + L' ≤ K
+      few = rw steps at (fits .fits)
+
+      chars : length (part' .piece .chars) ≡ L'
+      chars = length-mid ib (charsAt w' ib (h' .right)) L' (omega (arith, room, st .inside))
+
+      sep-long : length sep' ≡ F' + L'
+      sep-long = sep-size by ib h' p buf high (st .held) front chars
+
+      fine : separator K sep' ≡ true
+      fine = ap (λ (x : List ℕ). separator K x) (sym (nexts front)) ∙ entry-good ib p by (eqb left count) buf high s entry .2
+
+      rising : less low (bound K sep') ≡ true
+      rising = less-low (eqb left count) K (h' .ref) sep' least ∙ rw (← nexts front, ← st .held .ref) (entry-good ib p by (eqb left count) buf high s entry .1)
+
+      size : by .edge + partSize w' part' ≤ h' .right
+      size = omega (arith, room, chars)
+
+      lies : K ≤ 255 → liesHere w' ib h' ≡ true
+      lies most =
+          both-join _ _ (le-leb (partSize w' part') (h' .right) (omega (arith, size)))
+          (both-join _ _ (le-leb F' (length former') front) (le-leb (length sep') 255 (omega (arith, sep-long, few))))
+
+      abbrev m' : Marks
+      m' = record { seen = set (m .seen) (s .number) 1; used = m .used + 1; free = m .free; ok = m .ok }
+
+      marks-on : usedAll m (partNumbers (partsAt w' ib (h' .right) (h' .end) left))
+          ≡ usedAll m' (partNumbers (partsAt w' ib (hereNext w' ib h' .right) (hereNext w' ib h' .end) (left - 1)))
+      unfolding seenAfter
+      marks-on =
+          let xs : List ℕ = partNumbers (partsAt w' ib (hereNext w' ib h' .right) (hereNext w' ib h' .end) (left - 1)) in
+          let a : m .used + suc (length xs) ≡ m .used + 1 + length xs = omega arith in
+          rw (parts-next w' ib h' left more, num-is, a)
+
+      same-on : s .number < by .n → getD (m .seen) (s .number) 0 ≡ 0
+          → all ≡ fineAt by ib (set (m .seen) (s .number) 1) (s .closes) (bound K sep') (hereNext w' ib h') (left - 1)
+      same-on k z =
+          let x : Fine = record { room = size; front = front; fine = fine; rising = rising; small = omega (arith, k, num-is); new = rw (← num-is) z } in
+          let c : s .closes ≡ part' .closes = ap (λ (y : Step). y .closes) steps in
+          st .same ∙ fine-on by ib (m .seen) low h' closed left more x ∙ rw (← num-is, ← c)
+
+      module _ (buf' high' : List ℕ) (renewed : Renewed ib s buf high buf' high') (long : length buf' ≡ length buf) (long' : length high' ≡ length high) (p' : Place)
+          (past : p' ≡ placePast ib s p) (most : K ≤ 255) where
+        pub onward : s .number < by .n → getD (m .seen) (s .number) 0 ≡ 0 → State by ib count m₀ m' buf' high' p' (s .closes) (left - 1)
+        onward k z =
+            let u : eqb (left - 1) count ≡ false = ne-eqb (left - 1) count (omega (arith, st .few)) in
+            let short : length sep' ≤ K = separator-short K sep' fine in
+            record {
+              h = hereNext w' ib h';
+              held = rw past (held-on w' ib h' p buf high (st .held) (st .inside) (lies most) s steps buf' high' renewed);
+              whole = long ∙ st .whole;
+              whole' = long' ∙ st .whole';
+              short = short;
+              low = pick-short (part' .closes) sep' (h' .high) K short (st .low);
+              fine = separator-own K sep' fine;
+              inside = omega (arith, st .inside);
+              few = omega (arith, st .few);
+              counts = omega (arith, st .counts);
+              same = same-on k z ∙ rw u;
+              marks = st .marks ∙ marks-on;
+            }
+
+  -- ---- the end
+
+  module _ (done : left ≡ 0) where
+    last : all ≡ both (eqb (p .right) (by .edge)) (both (eqb (p .len) 0) (both (eqb (number 2 ib (by .edge)) 0) closed))
+    last = st .same ∙ fine-done by ib (m .seen) low h' closed left done ∙ same-end by ib h' p buf high (st .held) (eqb (number 2 ib (by .edge)) 0) closed
+
+    pub not-there : (p .right ≡ by .edge → ⊥) → false ≡ all
+    not-there z = sym (last ∙ rw (ne-eqb (p .right) (by .edge) z))
+
+    module _ (there : p .right ≡ by .edge) where
+      pub not-empty : (p .len ≡ 0 → ⊥) → false ≡ all
+      not-empty z = sym (last ∙ rw (eq-eqb (p .right) (by .edge) there, ne-eqb (p .len) 0 z))
+
+      module _ (none : p .len ≡ 0) (x : ℕ) (x-is : x ≡ number 2 ib (by .edge)) where
+        pub not-zero : (x ≡ 0 → ⊥) → false ≡ all
+        not-zero z = sym (last ∙ rw (eq-eqb (p .right) (by .edge) there, eq-eqb (p .len) 0 none, ← x-is, ne-eqb x 0 z))
+
+        pub at-end : x ≡ 0 → closed ≡ all
+        at-end z = sym (last ∙ rw (eq-eqb (p .right) (by .edge) there, eq-eqb (p .len) 0 none, ← x-is, eq-eqb x 0 z))
+
+    pub marks-end : settled true m ≡ usedAll m₀ (partNumbers (partsAt w' ib (length ib - 7) (sectionAt ib) count))
+    unfolding partsAt seenAfter
+    marks-end =
+        let z : m .used + 0 ≡ m .used = omega arith in
+        sym (st .marks ∙ rw (done, z))

@@ -2,19 +2,26 @@
 use Prim.Native.Nat.{ℕ, _+_, _-_}
 use mathlib.Core.Bool.{Bool}
 use mathlib.Core.List.{List}
-use lib.Dec.{leb}
+use lib.Dec.{eqb, leb}
 use Rattle.fields.specs.Choice.{pick, both}
-use Rattle.fields.specs.Bytes.{number}
 use Rattle.index.specs.Reading.{lengthAt}
-use Rattle.index_step.specs.AidStep.{frontAt, charsAt}
+use Rattle.index_step.specs.declared.Place.{Place}
+use Rattle.index_step.specs.AidStep.{frontAt, stepAt}
+use Rattle.index_read.specs.declared.Limits.{Limits}
 use Rattle.index_read.specs.declared.Parsed.{Parsed}
 use Rattle.index_read.specs.declared.Parsed.the-variants.{Of, Bad}
 
--- it doesn't begin left of edge, its F is at most len, and F and L make at most K
-unfoldable pub parses : ℕ → List ℕ → ℕ → ℕ → ℕ → ℕ → Bool
-parses w ib r edge len K =
-    both (leb (edge + (w + 2 + lengthAt w ib r)) r) (both (leb (frontAt w ib r) len) (leb (frontAt w ib r + lengthAt w ib r) K))
+-- whether it is the highest of its section
+abbrev pub closesAt : ℕ → Place → Bool
+closesAt w p = eqb (p .right - (w + 2)) (p .end)
 
-unfoldable pub parsedOf : ℕ → List ℕ → ℕ → ℕ → ℕ → ℕ → Parsed
-parsedOf w ib r edge len K =
-    pick (parses w ib r edge len K) (Of (frontAt w ib r) (lengthAt w ib r) (charsAt w ib r) (number w ib (r - w))) Bad
+-- it doesn't begin left of the edge, nor does the field before it; its F is at most the length of what it refers to, and F and L make at most K
+unfoldable pub parses : List ℕ → Place → Limits → Bool
+parses ib p by =
+    let w = by .width in
+    let r = p .right in
+    both (leb (by .edge + (w + 2 + lengthAt w ib r + pick (closesAt w p) 2 0)) r)
+    (both (leb (frontAt w ib r) (pick (closesAt w p) (p .high) (p .len))) (leb (frontAt w ib r + lengthAt w ib r) (by .key)))
+
+unfoldable pub parsedOf : List ℕ → Place → Limits → Parsed
+parsedOf ib p by = pick (parses ib p by) (Of (stepAt (by .width) ib (p .right) (p .end))) Bad

@@ -2,19 +2,22 @@
 -- check's contract cites only specs/Check.antt, and proofs/ shows that the two are the same.
 use Prim.Native.Nat.{ℕ, _+_, _-_, _*_, _≤_, _<_, _^_}
 use mathlib.Core.Path.{_≡_}
-use mathlib.Core.Bool.{Bool, true}
+use mathlib.Core.Bool.{Bool, true, false}
 use mathlib.Core.List.{List, [], _∷_, _++_, map}
 use lib.ListN.{length, getD, take, set, replicate}
 use lib.Dec.{eqb, leb, ltb}
 use Rattle.fields.specs.Choice.{pick, both}
-use Rattle.fields.specs.Bytes.{part, splice}
+use Rattle.fields.specs.Bytes.{part, number}
 use Rattle.fields.specs.Order.{less}
 use Rattle.measures.specs.Judgement.{limit}
 use Rattle.index.specs.Bounds.{empty, bound, separator}
-use Rattle.index.specs.Pieces.{Piece, spelt, pieceSize}
-use Rattle.index.specs.Reading.{unusedAt, lastAt, sectionAt, freeCount, lengthAt, piecesAt}
-use Rattle.index_step.specs.AidStep.{frontAt, charsAt, joinedOf, reach}
-use Rattle.index_read.specs.AidParsing.{parsedOf}
+use Rattle.index.specs.Reading.{unusedAt, lastAt, sectionAt, freeCount, lengthAt}
+use Rattle.sections.specs.Parts.{Part, against, sepOf, highAfter, partSize}
+use Rattle.sections.specs.Reading.{partsAt}
+use Rattle.index_step.specs.declared.Place.{Place}
+use Rattle.index_step.specs.declared.Step.{Step}
+use Rattle.index_step.specs.AidStep.{frontAt, charsAt, joinedOf, Renewed}
+use Rattle.index_read.specs.AidParsing.{closesAt, parsedOf}
 use Rattle.index_read.specs.declared.Marks.{Marks}
 use Rattle.index_read.specs.declared.Parsed.{Parsed}
 use Rattle.index_read.specs.declared.Parsed.the-variants.{Of, Bad}
@@ -26,12 +29,12 @@ use Rattle.index_read.specs.declared.Limits.{Limits}
 
 unfoldable pub liesWell : ℕ → ℕ → List ℕ → Bool
 liesWell w n ib =
-    both (eqb (sectionAt ib) (lastAt ib))
-    (both (eqb (24 + w * freeCount w ib) (unusedAt ib))
-    (both (ltb (freeCount w ib) n) (both (leb (unusedAt ib) (lastAt ib)) (leb (lastAt ib) (length ib - 7)))))
+    both (eqb (24 + w * freeCount w ib) (unusedAt ib))
+    (both (ltb (freeCount w ib) n)
+    (both (leb (unusedAt ib + 2) (lastAt ib)) (both (leb (lastAt ib) (length ib - 7)) (pick (eqb (sectionAt ib) (lastAt ib)) (leb (n - freeCount w ib) 2) true))))
 
 unfoldable pub placesOf : ℕ → ℕ → List ℕ → Places
-placesOf w n ib = pick (liesWell w n ib) (At (freeCount w ib) (lastAt ib)) Nowhere
+placesOf w n ib = pick (liesWell w n ib) (At (freeCount w ib) (lastAt ib - 2)) Nowhere
 
 -- ---- one entry
 
@@ -43,32 +46,53 @@ boundRises first K ref sep = pick first true (less (bound K ref) (bound K sep))
 abbrev pub Ascends : Bool → ℕ → ℕ → List ℕ → List ℕ → ℕ → ℕ → Bool → Type 0
 Ascends first front len buf ib at l r = (K : ℕ) → len ≤ K → front + l ≤ K → r ≡ boundRises first K (take len buf) (joinedOf front buf ib at l)
 
--- the separator of the entry that ends at place r, if buf begins with the separator before
-abbrev pub nextIn : ℕ → List ℕ → ℕ → List ℕ → List ℕ
-nextIn w ib r buf = take (frontAt w ib r) buf ++ part ib (charsAt w ib r) (lengthAt w ib r)
+-- and for a section's highest, whose F refers to what another buffer begins with
+abbrev pub TopAscends : Bool → ℕ → List ℕ → List ℕ → List ℕ → Step → Bool → Type 0
+TopAscends first len buf high ib s r = (K : ℕ) → len ≤ K → s .front + s .len ≤ K → r ≡ boundRises first K (take len buf) (joinedOf (s .front) high ib (s .at) (s .len))
 
-unfoldable pub entryOf : ℕ → List ℕ → ℕ → ℕ → ℕ → ℕ → Bool → List ℕ → Parsed
-entryOf w ib r edge len K first buf =
-    pick (both (boundRises first K (take len buf) (nextIn w ib r buf)) (separator K (nextIn w ib r buf))) (parsedOf w ib r edge len K) Bad
+-- a pass that can go on: a width and a key that were judged, a place in the record, buffers that are long enough, and a separator before that keeps the rules
+pub record Before (ib : List ℕ) (p : Place) (by : Limits) (buf high : List ℕ) : Type 0 where
+  pub some : 1 ≤ by .width
+  pub few : by .width ≤ 4
+  pub inside : p .right + 7 ≤ length ib
+  pub edge : by .edge < 65536
+  pub whole : by .key + 8 ≤ length buf
+  pub whole' : by .key + 8 ≤ length high
+  pub short : p .len ≤ by .key
+  pub low : p .high ≤ by .key
+  pub held : separator (p .len) (take (p .len) buf) ≡ true
 
--- after a good entry the buffer begins with its separator
-abbrev pub Renewed : List ℕ → List ℕ → List ℕ → Parsed → Type 0
-Renewed ib old new Bad = Unit {0}
-Renewed ib old new (Of f l at number) = new ≡ splice old f (part ib at (reach l))
+-- the next entry's separator, if the buffers begin with the separator before and the highest of the section before
+abbrev pub nextIn : List ℕ → Place → Limits → List ℕ → List ℕ → List ℕ
+nextIn ib p by buf high =
+    let w = by .width in
+    let r = p .right in
+    take (frontAt w ib r) (pick (closesAt w p) high buf) ++ part ib (charsAt w ib r) (lengthAt w ib r)
+
+unfoldable pub entryOf : List ℕ → Place → Limits → Bool → List ℕ → List ℕ → Parsed
+entryOf ib p by first buf high =
+    pick (both (boundRises first (by .key) (take (p .len) buf) (nextIn ib p by buf high)) (separator (by .key) (nextIn ib p by buf high))) (parsedOf ib p by) Bad
+
+-- after a good entry the buffers begin with its separator, and with the highest of the section before the next one
+abbrev pub Taken : List ℕ → List ℕ → List ℕ → List ℕ → List ℕ → Parsed → Type 0
+Taken ib buf high buf' high' Bad = Unit {0}
+Taken ib buf high buf' high' (Of s) = Renewed ib s buf high buf' high'
 
 -- ---- all entries
 
--- the entries that end at place r and must begin at place e; low and ref are bound and separator of the one before
-unfoldable pub chain : ℕ → ℕ → ℕ → ℕ → List ℕ → List ℕ → List Piece → Bool
-chain w K e r low ref [] = both (eqb r e) (empty ref)
-chain w K e r low ref (p ∷ ps) =
-    both (leb (e + pieceSize w p) r)
-    (both (leb (p .front) (length ref))
-    (both (separator K (spelt ref p))
-    (both (less low (bound K (spelt ref p))) (chain w K e (r - pieceSize w p) (bound K (spelt ref p)) (spelt ref p) ps))))
+-- the entries that end at place r and must begin at place e, with a field that is zero; low, high and ref are the bound before, the highest of the section before
+-- and the separator before; `closed` tells whether the entry before closed a section
+unfoldable pub chain : ℕ → ℕ → ℕ → List ℕ → ℕ → Bool → List ℕ → List ℕ → List ℕ → List Part → Bool
+chain w K e ib r closed low high ref [] = both (eqb r e) (both (empty ref) (both (eqb (number 2 ib e) 0) closed))
+chain w K e ib r closed low high ref (p ∷ ps) =
+    both (leb (e + partSize w p) r)
+    (both (leb (p .piece .front) (length (against high ref p)))
+    (both (separator K (sepOf high ref p))
+    (both (less low (bound K (sepOf high ref p)))
+    (chain w K e ib (r - partSize w p) (p .closes) (bound K (sepOf high ref p)) (highAfter high ref p) (sepOf high ref p) ps))))
 
-abbrev pub pieceNumbers : List Piece → List ℕ
-pieceNumbers ps = map (λ (p : Piece). p .num) ps
+abbrev pub partNumbers : List Part → List ℕ
+partNumbers ps = map (λ (p : Part). p .piece .num) ps
 
 -- ---- marks
 
@@ -95,13 +119,13 @@ freeAll m xs = record { seen = seenAfter (m .seen) xs; used = m .used; free = m 
 abbrev pub usedAll : Marks → List ℕ → Marks
 usedAll m xs = record { seen = seenAfter (m .seen) xs; used = m .used + length xs; free = m .free; ok = true }
 
--- the entries from place r on keep the rules, and their numbers are new
-unfoldable pub fineFrom : ℕ → ℕ → ℕ → ℕ → List ℕ → List ℕ → List ℕ → List ℕ → ℕ → ℕ → Bool
-fineFrom w K n e ib seen low ref r left =
-    let ps = piecesAt w ib r left in
-    both (chain w K e r low ref ps) (marking n seen (pieceNumbers ps))
+-- the entries keep the rules, and their numbers are new
+unfoldable pub fineFrom : Limits → List ℕ → List ℕ → ℕ → Bool
+fineFrom by ib seen count =
+    let ps = partsAt (by .width) ib (length ib - 7) (sectionAt ib) count in
+    both (chain (by .width) (by .key) (by .edge) ib (length ib - 7) false [] [] [] ps) (marking (by .n) seen (partNumbers ps))
 
 -- ---- what the walk asks: a width and a key that were judged, an edge that two bytes tell, marks that can still count so many
 abbrev pub Walkable : List ℕ → Limits → Marks → ℕ → Type 0
 Walkable ib by marks count =
-    (1 ≤ by .width) × (by .width ≤ 4) × (7 ≤ length ib) × (by .edge < 65536) × (1 ≤ by .key) × (by .key ≤ 255) × (by .n ≤ limit) × (marks .used + count < 2 ^ 64)
+    (1 ≤ by .width) × (by .width ≤ 4) × (31 ≤ length ib) × (by .edge + 2 ≤ length ib) × (by .edge < 65536) × (1 ≤ by .key) × (by .key ≤ 255) × (by .n ≤ limit) × (marks .used + count < 2 ^ 64)

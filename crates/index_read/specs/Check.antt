@@ -1,10 +1,10 @@
--- What the check of an index record answers: document 01, 'Index record'. K is the key's length, n the number of data intervals.
+-- What the check of an index record answers: document 01, 'Index record', and document 02, L5. K is the key's length, n the number of data intervals.
 use Prim.Native.Nat.{ℕ}
 use mathlib.Core.List.{List, []}
 use lib.ListN.{length}
 use Rattle.fields.specs.Choice.{pick}
 use Rattle.measures.specs.Judgement.{widthFor}
-use Rattle.index.specs.Reading.{readIndex, soundIndex}
+use Rattle.sections.specs.Reading.{readIndex, soundIndex}
 use Rattle.index_read.specs.declared.Index.{Index}
 use Rattle.index_read.specs.declared.Index.the-variants.{Sound, Unsound}
 

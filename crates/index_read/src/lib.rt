@@ -8,13 +8,17 @@ ghost use Rattle.fields.specs.Bytes.{part, number};
 ghost use Rattle.measures.specs.Judgement.{limit};
 ghost use Rattle.index.specs.Bounds.{bound, separator};
 ghost use Rattle.index.specs.Rules.{baseFine};
-ghost use Rattle.index.specs.Reading.{numbersAt, piecesAt, frame};
+ghost use Rattle.index.specs.Reading.{sectionAt, numbersAt, frame};
+ghost use Rattle.sections.specs.Reading.{partsAt};
+ghost use Rattle.index_step.specs.AidStep.{reach, extendedBy, copiedFrom};
 ghost use Rattle.index_read.specs.Check.{indexBy, indexOf};
 ghost use Rattle.index_read.specs.AidParsing.{parsedOf};
-ghost use Rattle.index_read.specs.AidWalk.{Ascends, placesOf, entryOf, Renewed, marking};
-ghost use Rattle.index_read.specs.AidWalk.{fineFrom, pieceNumbers, emptyMarks, settled, freeAll, usedAll, Walkable};
+ghost use Rattle.index_read.specs.AidWalk.{Ascends, TopAscends, placesOf, Before, entryOf, Taken, marking};
+ghost use Rattle.index_read.specs.AidWalk.{fineFrom, partNumbers, emptyMarks, settled, freeAll, usedAll, Walkable};
 use fields::Order;
 use index_step::BUFFER;
+use index_step::Place;
+use index_step::Step;
 use measures::LIMIT;
 
 // Which interval numbers were met, how many of them as free and by entries, and whether all that was met kept the rules. One struct goes through
@@ -26,24 +30,19 @@ pub(crate) struct Marks {
     pub ok: bool,
 }
 
-// One entry taken apart: F, L, the place of its characters, its pointer.
+// One entry taken apart.
 pub(crate) enum Parsed {
-    Of {
-        front: usize,
-        len: usize,
-        at: usize,
-        number: usize,
-    },
+    Of(Step),
     Bad,
 }
 
-// What the displacements say: how many free numbers there are, and where the entries begin.
+// What the displacements say: how many free numbers there are, and where the entries begin, the last of them with its section's field.
 pub(crate) enum Places {
-    At { free: usize, last: usize },
+    At { free: usize, edge: usize },
     Nowhere,
 }
 
-// What the entries are judged by: the bytes of a pointer, where the last of them must begin, how many intervals there
+// What the entries are judged by: the bytes of a pointer, where the last of them must begin with its section's field, how many intervals there
 // are, the key's length.
 pub(crate) struct Limits {
     pub width: usize,
@@ -58,32 +57,34 @@ pub enum Index {
     Unsound,
 }
 
-// The entry that ends at place r. It must not begin left of `edge`; F is at most the `len` bytes of the separator
-// before it, and the separator that F and L make has at most `key` bytes. F and L are bytes, so their sum may reach 510.
-pub(crate) fn piece_at(ib: &[u8], w: usize, r: usize, edge: usize, len: usize, key: usize) -> Parsed
-    requires { ⌜ (1 ≤ w) × (w ≤ 4) × (r ≤ length (now ib)) × (edge < 65536) ⌝ }
-    ensures { λ x. ⌜ x ≡ parsedOf w (now (ib .entry)) r edge len key ⌝ }
+// The next entry. It must not begin left of `edge`, nor must the field before it, if it is the highest of its section; F is at most the length of the separator
+// that it refers to, and the separator that F and L make has at most `key` bytes. F and L are bytes, so their sum may reach 510.
+pub(crate) fn piece_at(ib: &[u8], p: Place, by: Limits) -> Parsed
+    requires { ⌜ (1 ≤ by .width) × (by .width ≤ 4) × (p .right ≤ length (now ib)) × (by .edge < 65536) ⌝ }
+    ensures { λ x. ⌜ x ≡ parsedOf (now (ib .entry)) p by ⌝ }
 {
-    if r < edge + (w + 2) {
+    let w = by.width;
+    let r = p.right;
+    if r < by.edge + (w + 2) {
         return Parsed::Bad;
     }
     let l = fields::wide(ib[r - (w + 1)]);
-    if r < edge + (w + 2 + l) {
+    if r < by.edge + (w + 2 + l) {
         return Parsed::Bad;
     }
-    let s = index_step::entry_at(ib, w, r);
-    if len < s.front {
+    let s = index_step::entry_at(ib, w, p);
+    let field = if s.closes { 2 } else { 0 };
+    if s.at < by.edge + field {
         return Parsed::Bad;
     }
-    if key < s.front + s.len {
+    let most = if s.closes { p.high } else { p.len };
+    if most < s.front {
         return Parsed::Bad;
     }
-    Parsed::Of {
-        front: s.front,
-        len: s.len,
-        at: s.at,
-        number: s.number,
+    if by.key < s.front + s.len {
+        return Parsed::Bad;
     }
+    Parsed::Of(s)
 }
 
 // Whether the bound of the next separator is above that of the one before, the first `len` bytes of buf. Both begin with the same F
@@ -145,43 +146,73 @@ pub(crate) fn last_of(buf: &[u8], len: usize) -> u8
     buf[len - 1]
 }
 
-// The entry that ends at place r, with every rule on its separator: the place, F, the length, the order of the bounds, the
-// last byte. buf begins with the separator before it, and then with its own.
-pub(crate) fn next_entry(
+// Whether the bound of an entry that is no section's highest is above that of the one before, the first `len` bytes of buf, which then begins with its separator.
+pub(crate) fn inner(buf: &mut [u8], first: bool, len: usize, ib: &[u8], s: Step) -> bool
+    requires { ⌜ (s .front ≤ len) × (len + 8 ≤ length (now buf)) × (s .front + s .len + 8 ≤ length (now buf)) × (s .at + reach (s .len) ≤ length (now ib)) ⌝ }
+    requires held { ⌜ separator len (take len (now buf)) ≡ true ⌝ }
+    ensures rises { λ r. ⌜ Ascends first (s .front) len (now (buf .entry)) (now (ib .entry)) (s .at) (s .len) r ⌝ }
+    ensures renewed { λ _. ⌜ now (buf .exit) ≡ extendedBy (now (ib .entry)) s (now (buf .entry)) ⌝ }
+{
+    let r = ascends(buf, first, s.front, len, ib, s.at, s.len);
+    index_step::extend(buf, s.front, ib, s.at, s.len);
+    r
+}
+
+// The same of a section's highest. It is compressed against the highest of the section before, with which `high` begins, so that its F tells nothing of the one
+// before it, and all bytes are compared. Then both buffers begin with its separator.
+pub(crate) fn topmost(
     buf: &mut [u8],
     first: bool,
-    ib: &[u8],
-    r: usize,
     len: usize,
+    high: &mut [u8],
+    ib: &[u8],
+    s: Step,
+) -> bool
+    requires { ⌜ (len + 8 ≤ length (now buf)) × (s .front + s .len + 8 ≤ length (now buf)) × (s .front + s .len + 8 ≤ length (now high)) × (s .at + reach (s .len) ≤ length (now ib)) ⌝ }
+    requires held { ⌜ separator len (take len (now buf)) ≡ true ⌝ }
+    ensures rises { λ r. ⌜ TopAscends first len (now (buf .entry)) (now (high .entry)) (now (ib .entry)) s r ⌝ }
+    ensures renewed { λ _. ⌜ (now (buf .exit) ≡ copiedFrom (extendedBy (now (ib .entry)) s (now (high .entry))) (s .front + s .len) (now (buf .entry))) × (now (high .exit) ≡ extendedBy (now (ib .entry)) s (now (high .entry))) ⌝ }
+{
+    index_step::extend(high, s.front, ib, s.at, s.len);
+    let z = s.front + s.len;
+    let r = if first {
+        true
+    } else {
+        compares(buf, 0, len, high, 0, z)
+    };
+    index_step::extend(buf, 0, high, 0, z);
+    r
+}
+
+// The next entry, with every rule on its separator: the place, F, the length, the order of the bounds, the last byte. The buffers begin with the separator before
+// it and with the highest of the section before, and afterwards with those before the entry after it.
+pub(crate) fn next_entry(
+    buf: &mut [u8],
+    high: &mut [u8],
+    first: bool,
+    ib: &[u8],
+    p: Place,
     by: Limits,
 ) -> Parsed
-    requires { ⌜ (1 ≤ by .width) × (by .width ≤ 4) × (r + 7 ≤ length (now ib)) × (by .edge < 65536) × (by .key + 8 ≤ length (now buf)) ⌝ }
-    requires held { ⌜ (len ≤ by .key) × (separator len (take len (now buf)) ≡ true) ⌝ }
-    ensures is { λ x. ⌜ x ≡ entryOf (by .width) (now (ib .entry)) r (by .edge) len (by .key) first (now (buf .entry)) ⌝ }
-    ensures renewed { λ x. ⌜ Renewed (now (ib .entry)) (now (buf .entry)) (now (buf .exit)) x ⌝ }
+    requires { ⌜ Before (now ib) p by (now buf) (now high) ⌝ }
+    ensures is { λ x. ⌜ x ≡ entryOf (now (ib .entry)) p by first (now (buf .entry)) (now (high .entry)) ⌝ }
+    ensures renewed { λ x. ⌜ Taken (now (ib .entry)) (now (buf .entry)) (now (high .entry)) (now (buf .exit)) (now (high .exit)) x ⌝ }
 {
-    let Parsed::Of {
-        front,
-        len: l,
-        at,
-        number,
-    } = piece_at(ib, by.width, r, by.edge, len, by.key)
-    else {
+    let Parsed::Of(s) = piece_at(ib, p, by) else {
         return Parsed::Bad;
     };
-    if !ascends(buf, first, front, len, ib, at, l) {
+    let rises = if s.closes {
+        topmost(buf, first, p.len, high, ib, s)
+    } else {
+        inner(buf, first, p.len, ib, s)
+    };
+    if !rises {
         return Parsed::Bad;
     }
-    index_step::extend(buf, front, ib, at, l);
-    if last_of(buf, front + l) == 255 {
+    if last_of(buf, s.front + s.len) == 255 {
         return Parsed::Bad;
     }
-    Parsed::Of {
-        front: front,
-        len: l,
-        at: at,
-        number: number,
-    }
+    Parsed::Of(s)
 }
 
 // No number met yet: a mark for each that an area of the most intervals has.
@@ -230,28 +261,24 @@ pub(crate) fn walk_free(marks: Marks, ib: &[u8], w: usize, count: usize, n: usiz
     judged(true, m)
 }
 
-// Walks `count` entries from the RDF leftwards and marks their numbers. The last must begin at the edge and have an
-// empty separator.
+// Walks `count` entries from the RDF leftwards and marks their numbers. The last must close a section, begin at the edge with that section's field, which must be
+// zero, and have an empty separator. The fields are followed as they are met: one that leads nowhere leaves the last entry without a section that it closes.
 pub(crate) fn walk_entries(marks: Marks, ib: &[u8], count: usize, by: Limits) -> Marks
     requires { ⌜ Walkable (now ib) by marks count ⌝ }
-    ensures sound { λ r. ⌜ r .ok ≡ fineFrom (by .width) (by .key) (by .n) (by .edge) (now (ib .entry)) (marks .seen) [] [] (length (now (ib .entry)) - 7) count ⌝ }
-    ensures marks { λ r. ⌜ (r .ok ≡ true → r ≡ usedAll marks (pieceNumbers (piecesAt (by .width) (now (ib .entry)) (length (now (ib .entry)) - 7) count))) ⌝ }
+    ensures sound { λ r. ⌜ r .ok ≡ fineFrom by (now (ib .entry)) (marks .seen) count ⌝ }
+    ensures marks { λ r. ⌜ (r .ok ≡ true → r ≡ usedAll marks (partNumbers (partsAt (by .width) (now (ib .entry)) (length (now (ib .entry)) - 7) (sectionAt (now (ib .entry))) count))) ⌝ }
 {
     let mut m = marks;
     let mut buf = [0u8; BUFFER];
-    let mut len = 0;
-    let mut r = ib.len() - 7;
+    let mut high = [0u8; BUFFER];
+    let mut p = index_step::start(ib);
+    let mut closed = false;
     let mut left = count;
     while 0 < left {
-        let Parsed::Of {
-            front,
-            len: l,
-            at,
-            number,
-        } = next_entry(&mut buf, left == count, ib, r, len, by)
-        else {
+        let Parsed::Of(s) = next_entry(&mut buf, &mut high, left == count, ib, p, by) else {
             return judged(false, m);
         };
+        let number = s.number;
         if by.n <= number {
             return judged(false, m);
         }
@@ -260,14 +287,20 @@ pub(crate) fn walk_entries(marks: Marks, ib: &[u8], count: usize, by: Limits) ->
         }
         m.seen[number] = 1;
         m.used = m.used + 1;
-        len = front + l;
-        r = at;
+        closed = s.closes;
+        p = index_step::past(ib, s, p);
         left -= 1;
     }
-    if r != by.edge {
+    if p.right != by.edge {
         return judged(false, m);
     }
-    judged(len == 0, m)
+    if p.len != 0 {
+        return judged(false, m);
+    }
+    if fields::read_two(ib, by.edge) != 0 {
+        return judged(false, m);
+    }
+    judged(closed, m)
 }
 
 // Whether header values, RDF and CIDF are as they must be. The pointer indicator has a bit for each byte of a pointer.
@@ -317,16 +350,14 @@ pub(crate) fn base_fine(ib: &[u8], n: usize) -> bool
 }
 
 // Whether the displacements are in order, as far as that shows before the walk: the unused space begins past the free numbers,
-// which leave one interval at least to an entry, and ends where the entries begin.
+// which leave one interval at least to an entry, and ends where the entries begin. The last entry's separator is empty, so that its field stands right before its
+// control information. Where the first section's highest is the last entry there is a single section, and it has at most two entries.
 pub(crate) fn placed(ib: &[u8], w: usize, n: usize) -> Places
     requires { ⌜ (31 ≤ length (now ib)) × (1 ≤ w) × (w ≤ 4) ⌝ }
     ensures { λ r. ⌜ r ≡ placesOf w n (now (ib .entry)) ⌝ }
 {
     let unused = fields::read_two(ib, 18);
     let last = fields::read_two(ib, 20);
-    if fields::read_two(ib, 22) != last {
-        return Places::Nowhere;
-    }
     if unused < 24 {
         return Places::Nowhere;
     }
@@ -337,15 +368,20 @@ pub(crate) fn placed(ib: &[u8], w: usize, n: usize) -> Places
     if n <= free {
         return Places::Nowhere;
     }
-    if last < unused {
+    if last < unused + 2 {
         return Places::Nowhere;
     }
     if ib.len() - 7 < last {
         return Places::Nowhere;
     }
+    if fields::read_two(ib, 22) == last {
+        if 2 < n - free {
+            return Places::Nowhere;
+        }
+    }
     Places::At {
         free: free,
-        last: last,
+        edge: last - 2,
     }
 }
 
@@ -361,7 +397,7 @@ pub(crate) fn check_with(ib: &[u8], key: usize, n: usize, w: usize) -> Index
     if !base_fine(ib, n) {
         return Index::Unsound;
     }
-    let Places::At { free, last } = placed(ib, w, n) else {
+    let Places::At { free, edge } = placed(ib, w, n) else {
         return Index::Unsound;
     };
     let f = walk_free(fresh(), ib, w, free, n);
@@ -370,7 +406,7 @@ pub(crate) fn check_with(ib: &[u8], key: usize, n: usize, w: usize) -> Index
     }
     let by = Limits {
         width: w,
-        edge: last,
+        edge: edge,
         n: n,
         key: key,
     };

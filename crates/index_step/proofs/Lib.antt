@@ -1,3 +1,4 @@
-pub mod Walking
+pub mod Reaching
+pub mod Passing
 pub mod Stepping
 pub mod Unique

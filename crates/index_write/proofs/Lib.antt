@@ -1,10 +1,10 @@
 pub mod Cutting
-pub mod Streaming
 pub mod Taking
-pub mod PartSizes
+pub mod Renewed
+pub mod Drafting
+pub mod Running
 pub mod Dividing
-pub mod Putting
-pub mod Storing
-pub mod PartsStored
+pub mod Passes
 pub mod Renewing
+pub mod CutsPut
 pub mod Unique

@@ -6,8 +6,10 @@ use lib.ListN.{length, getD, take}
 use native.Mathlib.Nat.{mul-add, mul-le-mul-left, mul-le-mul-right}
 use native.Mathlib.Omega.{arith}
 use Rattle.fields.specs.Bytes.{number}
-use Rattle.index.specs.Reading.{unusedAt, freeCount, numbersAt, readIndex}
-use Rattle.index.proofs.Apart.{length-numbersAt, number-at, free-are}
+use Rattle.index.specs.Reading.{unusedAt, freeCount, numbersAt}
+use Rattle.sections.specs.Reading.{readIndex}
+use Rattle.index.proofs.Apart.{length-numbersAt, number-at}
+use Rattle.sections.proofs.Apart.{free-are}
 use Rattle.index_write.specs.AidStream.{FreeLie}
 
 -- The first c' of them.

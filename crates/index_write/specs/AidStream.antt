@@ -1,22 +1,29 @@
--- Aids: where the writer's passes stand, what they count and what they store; and what a division asks for. `newMeaning`, `indexSize` and
--- `indexBytes` of crate index are what is believed: document 01, 'Dividing an interval'.
+-- Aids: where the writer's passes stand, and what they put. `newMeaning`, `indexSize` and `indexBytes` of crate sections are what is believed: document 02, L5, and
+-- document 01, 'Dividing an interval'.
 use Prim.Native.Nat.{ℕ, _+_, _-_, _*_, _≤_, _<_}
 use mathlib.Core.Path.{_≡_}
 use mathlib.Core.Bool.{true}
-use mathlib.Core.List.{List, []}
+use mathlib.Core.List.{List, [], _∷_, _++_}
 use lib.ListN.{length, take}
-use Rattle.fields.specs.Bytes.{part, splice}
-use Rattle.measures.specs.Judgement.{limit, widthFor}
+use Rattle.fields.specs.Choice.{pick}
+use Rattle.fields.specs.Bytes.{part}
 use Rattle.index.specs.Bounds.{cutSeparator}
-use Rattle.index.specs.Meaning.{Entry, Meaning, entry, separatorBefore}
-use Rattle.index.specs.Layout.{pieceBytes}
-use Rattle.index.specs.Pieces.{spelt, spell, piecesSize}
-use Rattle.index.specs.Reading.{unusedAt, freeCount, pieceAt, piecesAt, numbersAt, readIndex, soundIndex}
-use Rattle.index.specs.Form.{entriesSize, entriesBytes}
-use Rattle.index.specs.Divided.{cuts, partsOf, newMeaning}
-use Rattle.index_step.specs.AidEntries.{EntriesLie}
+use Rattle.index.specs.Meaning.{Entry, entry}
+use Rattle.index.specs.Reading.{unusedAt, freeCount}
+use Rattle.index.specs.Divided.{cuts}
+use Rattle.sections.specs.Parts.{partsSize}
+use Rattle.index_step.specs.declared.Place.{Place}
+use Rattle.index_step.specs.declared.Step.{Step}
+use Rattle.index_step.specs.AidStep.{joinedOf}
+use Rattle.index_step.specs.AidEntries.{Here, hereAfter, entriesHere, readable, Held}
+use Rattle.index_pen.specs.declared.Pen.{Pen}
+use Rattle.index_pen.specs.AidPen.{penOn, bytesOn}
+use Rattle.index_pen.specs.AidStream.{Reached, partNext, reachedNext, partsBy}
+use Rattle.index_pen.specs.AidHeld.{Kept, Penned}
 use Rattle.index_write.specs.declared.Cursor.{Cursor}
 use Rattle.index_write.specs.declared.Cuts.{Cuts}
+use Rattle.index_write.specs.declared.Division.{Division}
+use Rattle.index_write.specs.declared.LastCut.{LastCut}
 
 -- ---- one cut, one entry
 
@@ -24,15 +31,25 @@ use Rattle.index_write.specs.declared.Cuts.{Cuts}
 abbrev pub CutAt : List ℕ → List ℕ → ℕ → Type 0
 CutAt left right r = (r ≡ length (cutSeparator left right)) × (take r left ≡ cutSeparator left right) × (r ≤ length left)
 
--- an entry with this F, these characters and this number is stored so that it ends at place r
-abbrev pub pieceStored : ℕ → List ℕ → ℕ → ℕ → List ℕ → ℕ → List ℕ
-pieceStored w b r front chars number = splice b (r - (w + 2 + length chars)) (pieceBytes w (record { front = front; chars = chars; num = number }))
+-- the separator of an entry, if the buffers begin with what F may refer to
+abbrev pub renewedBy : List ℕ → Step → List ℕ → List ℕ → List ℕ
+renewedBy ib s buf high = joinedOf (s .front) (pick (s .closes) high buf) ib (s .at) (s .len)
 
 -- ---- the cuts
 
 -- the separators that the cuts' places tell
+abbrev pub firstCut : Cuts → List ℕ → List ℕ
+firstCut c bytes = part bytes (c .from) (c .to - c .from)
+
+abbrev pub secondCut : Cuts → List ℕ → List ℕ
+secondCut c bytes = part bytes (c .from2) (c .to2 - c .from2)
+
 abbrev pub cutsIn : Cuts → List ℕ → List (List ℕ)
-cutsIn c bytes = cuts (c .three) (part bytes (c .from) (c .to - c .from)) (part bytes (c .from2) (c .to2 - c .from2))
+cutsIn c bytes = cuts (c .three) (firstCut c bytes) (secondCut c bytes)
+
+-- the last one
+abbrev pub lastOf : Cuts → LastCut
+lastOf c = pick (c .three) (record { from = c .from2; to = c .to2; count = 2 }) (record { from = c .from; to = c .to; count = 1 })
 
 -- they lie in the bytes, and are short
 pub record CutsLie (c : Cuts) (bytes : List ℕ) : Type 0 where
@@ -43,82 +60,83 @@ pub record CutsLie (c : Cuts) (bytes : List ℕ) : Type 0 where
   pub inside2 : c .to2 ≤ length bytes
   pub short2 : c .to2 ≤ c .from2 + 255
 
--- ---- where a pass stands
-
--- Before `count` entries of the old record that can be read, the separator before them at the buffer's front; and neither these nor two more
--- overflow the size.
-pub record Stands (ib : List ℕ) (c : Cursor) (count : ℕ) (buf : List ℕ) : Type 0 where
-  pub few-bytes : c .width ≤ 4
-  pub whole : 263 ≤ length buf
-  pub long : c .len ≤ 255
-  pub lie : EntriesLie (c .width) ib (c .right) count (take (c .len) buf)
-  pub small : c .size + 261 * (count + 2) < 18446744073709551616
-
--- the next `count` entries as they are
-abbrev pub runHere : List ℕ → Cursor → ℕ → List ℕ → List Entry
-runHere ib c count buf = spell (take (c .len) buf) (piecesAt (c .width) ib (c .right) count)
-
--- the next entry, divided at these cuts
-abbrev pub partsHere : List ℕ → Cursor → List (List ℕ) → List ℕ → List Entry
-partsHere ib c seps buf =
-    partsOf seps (numbersAt (c .width) ib 24 (freeCount (c .width) ib))
-    (entry (spelt (take (c .len) buf) (pieceAt (c .width) ib (c .right))) (pieceAt (c .width) ib (c .right) .num))
-
--- the same at the cuts of these places
-abbrev pub partsIn : List ℕ → Cursor → Cuts → List ℕ → List ℕ → List Entry
-partsIn ib c u bytes buf = partsHere ib c (cutsIn u bytes) buf
-
--- Past `count` of the old entries, in whose place stand these: they are counted, and the buffer begins with the last old separator.
-pub record Passed (ib : List ℕ) (c : Cursor) (count : ℕ) (es : List Entry) (buf : List ℕ) (d : Cursor) (new : List ℕ) : Type 0 where
-  pub width : d .width ≡ c .width
-  pub right : d .right + piecesSize (c .width) (piecesAt (c .width) ib (c .right) count) ≡ c .right
-  pub size : d .size ≡ c .size + entriesSize (c .width) (take (c .len) buf) es
-  pub ref : take (d .len) new ≡ separatorBefore (take (c .len) buf) (runHere ib c count buf)
-  pub long : d .len ≤ 255
-
--- the entries are stored left of those before them, which end seven bytes before the record's end
-abbrev pub Stored : Cursor → List Entry → List ℕ → List ℕ → Cursor → List ℕ → Type 0
-Stored c es buf b d b' = b' ≡ splice b (length b - 7 - d .size) (entriesBytes (c .width) (take (c .len) buf) es)
-
--- so it is for the parts of the next entry
-abbrev pub PartsPassed : List ℕ → Cursor → Cuts → List ℕ → List ℕ → Cursor → List ℕ → Type 0
-PartsPassed ib c u bytes buf d new = Passed ib c 1 (partsIn ib c u bytes buf) buf d new
-
-abbrev pub PartsStored : List ℕ → Cursor → Cuts → List ℕ → List ℕ → List ℕ → Cursor → List ℕ → Type 0
-PartsStored ib c u bytes buf b d b' = Stored c (partsIn ib c u bytes buf) buf b d b'
-
--- they have room there
-abbrev pub RoomFor : Cursor → List Entry → List ℕ → List ℕ → Type 0
-RoomFor c es buf b = c .size + entriesSize (c .width) (take (c .len) buf) es + 7 ≤ length b
+-- the entries that they make, but for the last
+abbrev pub cutEntries : Division → List ℕ → List Entry
+cutEntries d bytes =
+    entry (firstCut (d .cuts) bytes) (d .number) ∷ pick (d .cuts .three) (entry (secondCut (d .cuts) bytes) (d .taken) ∷ []) []
 
 -- the free numbers lie where the displacement says
 abbrev pub FreeLie : ℕ → List ℕ → Type 0
 FreeLie w ib = (24 + w * freeCount w ib ≡ unusedAt ib) × (unusedAt ib ≤ length ib)
 
--- ---- a division
+-- ---- the new record as far as it has been made
 
--- ib is a sound index record of n intervals, for keys of some length that one byte can tell; its entry i can be divided at so many cuts.
-pub record Divisible (n i : ℕ) (seps : List (List ℕ)) (ib : List ℕ) : Type 0 where
-  pub large : 31 ≤ length ib
-  pub small : length ib ≤ 32768
-  pub few : n ≤ limit
-  pub key : ℕ
-  pub short : key ≤ 255
-  pub sound : soundIndex (widthFor n) key n [] [] ib ≡ true
-  pub there : i < length (readIndex (widthFor n) n ib .entries)
-  pub free : length seps ≤ length (readIndex (widthFor n) n ib .free)
+pub record Draft : Type 0 where
+  pub pen : Pen
+  pub bytes : List ℕ
+  pub reached : Reached
 
--- what the record means once it is divided, and its entries then
-abbrev pub newRecord : ℕ → List ℕ → ℕ → Cuts → List ℕ → Meaning
-newRecord n ib i u bytes = newMeaning (widthFor n) n ib i (cutsIn u bytes)
+-- one entry more, and some
+abbrev pub draftPut : Draft → Entry → Draft
+draftPut x e =
+    record {
+      pen = penOn (length (x .bytes) - 7) (x .pen) (partNext (x .reached) e);
+      bytes = bytesOn (x .bytes) (x .pen) (partNext (x .reached) e);
+      reached = reachedNext (x .pen .most) (x .reached) e;
+    }
 
-abbrev pub newEntries : ℕ → List ℕ → ℕ → Cuts → List ℕ → List Entry
-newEntries n ib i u bytes = newRecord n ib i u bytes .entries
+unfoldable pub draftAll : Draft → List Entry → Draft
+draftAll x [] = x
+draftAll x (e ∷ es) = draftAll (draftPut x e) es
 
--- they fit left of RDF and CIDF
-abbrev pub EntriesFit : ℕ → List ℕ → ℕ → Cuts → List ℕ → List ℕ → Type 0
-EntriesFit n ib i u bytes b = entriesSize (widthFor n) [] (newEntries n ib i u bytes) + 7 ≤ length b
+-- by what the code has: the record's bytes, the pen, a buffer that begins with the highest of the section before, and the separator before
+abbrev pub draftOf : List ℕ → Pen → List ℕ → List ℕ → Draft
+draftOf b pen top ref = record { pen = pen; bytes = b; reached = record { left = pen .left; rest = pen .rest; high = take (pen .high) top; ref = ref } }
 
--- b with them, r bytes, stored there
-abbrev pub entriesStored : ℕ → List ℕ → ℕ → Cuts → List ℕ → List ℕ → ℕ → List ℕ
-entriesStored n ib i u bytes b r = splice b (length b - 7 - r) (entriesBytes (widthFor n) [] (newEntries n ib i u bytes))
+-- the code has it so
+pub record Drawn (x : Draft) (b : List ℕ) (pen : Pen) (top : List ℕ) : Type 0 where
+  pub pen-is : pen ≡ x .pen
+  pub bytes-are : b ≡ x .bytes
+  pub kept : Kept pen top (x .reached)
+  pub penned : Penned b pen
+  pub few : pen .width ≤ 4
+  pub some : 1 ≤ pen .most
+  pub going : 1 ≤ pen .rest → 1 ≤ pen .left
+
+-- these entries can be put: so many are to come, the size can grow, and they have room where they are stored
+pub record Fitting (x : Draft) (es : List Entry) : Type 0 where
+  pub more : length es ≤ x .pen .rest
+  pub small : x .pen .size + 300 * (length es + 1) < 18446744073709551616
+  pub room : 7 < length (x .bytes) → x .pen .size + partsSize (x .pen .width) (partsBy (x .pen .most) (x .reached) es) + 7 < length (x .bytes)
+
+-- ---- where a pass stands
+
+-- before which old entry, by what the code has
+abbrev pub hereOf : Place → List ℕ → List ℕ → Here
+hereOf p buf high = record { right = p .right; end = p .end; high = take (p .high) high; ref = take (p .len) buf }
+
+-- the next old entries
+abbrev pub entriesNext : List ℕ → Cursor → List ℕ → List ℕ → List Entry
+entriesNext ib c buf high = entriesHere (c .pen .width) ib (hereOf (c .place) buf high) (c .count)
+
+-- the new record before them
+abbrev pub draftHere : Cursor → List ℕ → List ℕ → List ℕ → Draft
+draftHere c b buf top = draftOf b (c .pen) top (take (c .place .len) buf)
+
+pub record Stands (ib : List ℕ) (c : Cursor) (b buf high top : List ℕ) : Type 0 where
+  pub held : Held (hereOf (c .place) buf high) (c .place) buf high
+  pub inside : c .place .right + 7 ≤ length ib
+  pub reads : readable (c .pen .width) ib (hereOf (c .place) buf high) (c .count) ≡ true
+  pub drawn : Drawn (draftHere c b buf top) b (c .pen) top
+  pub fitting : Fitting (draftHere c b buf top) (entriesNext ib c buf high)
+
+-- past them
+pub record Ran (ib : List ℕ) (c : Cursor) (b buf high top : List ℕ) (r : Cursor) (b' buf' high' top' : List ℕ) : Type 0 where
+  pub held : Held (hereAfter (c .pen .width) ib (hereOf (c .place) buf high) (c .count)) (r .place) buf' high'
+  pub drawn : Drawn (draftAll (draftHere c b buf top) (entriesNext ib c buf high)) b' (r .pen) top'
+
+-- the parts of an entry but for the last can be put
+pub record Cuttable (b : List ℕ) (pen : Pen) (top prev bytes : List ℕ) (d : Division) : Type 0 where
+  pub lie : CutsLie (d .cuts) bytes
+  pub drawn : Drawn (draftOf b pen top prev) b pen top
+  pub fitting : Fitting (draftOf b pen top prev) (cutEntries d bytes)

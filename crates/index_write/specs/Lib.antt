@@ -1,1 +1,2 @@
 pub mod AidStream
+pub mod AidDivided

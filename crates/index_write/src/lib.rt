@@ -1,27 +1,41 @@
-// The writer of an index record after a division. It streams: one separator runs along the old entries, once for the size of the new
-// record, once for its bytes, which are made from a copy of the old one.
+// The writer of an index record after a division. It streams: separators run along the old entries, once for the size of the new record, once for its bytes, which
+// are made from a copy of the old one. The same pass does both, with a pen that stores or one that counts.
 ghost use Prim.Native.Nat.{_+_, _-_, _≤_, _<_, _^_};
 ghost use mathlib.Core.Path.{_≡_};
-ghost use mathlib.Core.List.{[]};
+ghost use mathlib.Core.Bool.{false};
 ghost use lib.ListN.{length, getD, take};
 ghost use Rattle.fields.specs.Bytes.{splice};
 ghost use Rattle.fields.specs.Order.{common};
 ghost use Rattle.measures.specs.Judgement.{widthFor};
 ghost use Rattle.index.specs.Reading.{freeCount, numbersAt};
-ghost use Rattle.index.specs.Form.{entrySize, entryBytes, entriesSize, indexSize, indexBytes};
-ghost use Rattle.index_step.specs.AidStep.{joinedOf};
-ghost use Rattle.index_write.specs.AidStream.{CutAt, pieceStored, cutsIn, CutsLie, Stands, runHere, partsIn, Passed, Stored, RoomFor, FreeLie, PartsPassed};
-ghost use Rattle.index_write.specs.AidStream.{PartsStored, Divisible, newRecord, newEntries, EntriesFit, entriesStored};
+ghost use Rattle.sections.specs.Form.{indexSize, indexBytes};
+ghost use Rattle.index_step.specs.AidStep.{joinedOf, reach, Renewed};
+ghost use Rattle.index_pen.specs.AidPen.{Puts, partAt, penOn, topOn, bytesOn};
+ghost use Rattle.index_write.specs.AidStream.{CutAt, cutsIn, lastOf, CutsLie, FreeLie, renewedBy, Drawn, draftOf, draftAll, Stands, Ran, Cuttable, cutEntries};
+ghost use Rattle.index_write.specs.AidDivided.{Divisible, newRecord, AllFit, AllPut};
+use index_pen::Pen;
 use index_step::BUFFER;
+use index_step::Place;
 use index_step::Step;
 
-// Where a pass stands: the next entry of the old record, with a pointer of `width` bytes, ends at `right`; the separator before it is the
-// first `len` bytes of the buffer; the entries passed take `size` bytes of the new record.
+// Where a pass stands: before which old entry, with the new record as far as it has been made; and how many old entries it is to put.
 pub(crate) struct Cursor {
-    width: usize,
-    right: usize,
-    len: usize,
-    size: usize,
+    place: Place,
+    pen: Pen,
+    count: usize,
+}
+
+// What is to be done: entry i of a record of n intervals is divided.
+pub(crate) struct Job {
+    n: usize,
+    i: usize,
+}
+
+// A division: the cuts, the number of the entry, and the first free number that is taken.
+pub(crate) struct Division {
+    cuts: Cuts,
+    number: usize,
+    taken: usize,
 }
 
 // The separators of the cuts, as parts of some bytes: one cut, or two.
@@ -31,6 +45,30 @@ pub struct Cuts {
     pub to: usize,
     pub from2: usize,
     pub to2: usize,
+}
+
+// The last cut: where its separator lies, and how many cuts there are.
+pub(crate) struct LastCut {
+    from: usize,
+    to: usize,
+    count: usize,
+}
+
+pub(crate) fn last_cut(cuts: Cuts) -> LastCut
+    ensures { λ r. ⌜ r ≡ lastOf cuts ⌝ }
+{
+    if cuts.three {
+        return LastCut {
+            from: cuts.from2,
+            to: cuts.to2,
+            count: 2,
+        };
+    }
+    LastCut {
+        from: cuts.from,
+        to: cuts.to,
+        count: 1,
+    }
 }
 
 // How many first bytes of the left key make the separator of a cut between two keys: all up to the first one in which they
@@ -53,7 +91,7 @@ pub fn taken(ib: &[u8], w: usize, k: usize) -> usize
 
 // ---- one entry
 
-// The longest F of an old entry: its own, and as many of its characters as the separator before goes on with.
+// The longest F of an old entry that is no section's highest: its own, and as many of its characters as the separator before goes on with.
 fn longest(buf: &[u8], len: usize, ib: &[u8], s: Step) -> usize
     requires { ⌜ (s .front ≤ len) × (len ≤ length (now buf)) × (s .at + s .len ≤ length (now ib)) × (s .front < 256) ⌝ }
     ensures is { λ r. ⌜ r ≡ common (take len (now (buf .entry))) (joinedOf (s .front) (now (buf .entry)) (now (ib .entry)) (s .at) (s .len)) ⌝ }
@@ -65,117 +103,127 @@ fn longest(buf: &[u8], len: usize, ib: &[u8], s: Step) -> usize
     f + fields::common_front(&buf[f..len], &ib[at..z])
 }
 
-// How many bytes an entry takes if its F is as long as can be.
-fn entry_size(prev: &[u8], sep: &[u8], width: usize) -> usize
-    requires { ⌜ (width ≤ 4) × (length (now sep) ≤ 255) ⌝ }
-    ensures { λ r. ⌜ (r ≡ entrySize width (now (prev .entry)) (now (sep .entry))) × (r ≤ width + 257) ⌝ }
+// Puts an old entry's separator into the buffers, as index_step::renew does; gives how many first bytes it has in common with the one before, the first `len` bytes of buf.
+fn renew(buf: &mut [u8], len: usize, high: &mut [u8], ib: &[u8], s: Step) -> usize
+    requires { ⌜ (s .front + s .len + 8 ≤ length (now high)) × (s .front + s .len + 8 ≤ length (now buf)) × (s .at + reach (s .len) ≤ length (now ib)) ⌝ }
+    requires before { ⌜ (len ≤ length (now buf)) × (s .front ≤ 255) × (s .closes ≡ false → s .front ≤ len) ⌝ }
+    ensures is { λ r. ⌜ r ≡ common (take len (now (buf .entry))) (renewedBy (now (ib .entry)) s (now (buf .entry)) (now (high .entry))) ⌝ }
+    ensures renewed { λ _. ⌜ Renewed (now (ib .entry)) s (now (buf .entry)) (now (high .entry)) (now (buf .exit)) (now (high .exit)) ⌝ }
 {
-    let f = fields::common_front(prev, sep);
-    width + 2 + (sep.len() - f)
-}
-
-// Stores an entry with this F and these characters so that it ends at place r.
-fn put_piece(b: &mut [u8], r: usize, front: usize, chars: &[u8], number: usize, width: usize)
-    requires { ⌜ (width ≤ 4) × (width + 2 + length (now chars) ≤ r) × (r ≤ length (now b)) × (front < 256) × (length (now chars) < 256) ⌝ }
-    ensures { λ _. ⌜ now (b .exit) ≡ pieceStored width (now (b .entry)) r front (now (chars .entry)) number ⌝ }
-{
-    let l = chars.len();
-    let at = r - (width + 2 + l);
-    let z = at + l;
-    fields::copy(b, at, chars);
-    b[z] = front as u8;
-    b[z + 1] = l as u8;
-    fields::write_pointer(b, z + 2, width, number);
-}
-
-// Stores an entry with this separator, its F as long as can be after `prev`, so that it ends at place r; gives how many bytes it takes.
-fn put_entry(b: &mut [u8], r: usize, prev: &[u8], sep: &[u8], number: usize, width: usize) -> usize
-    requires { ⌜ (width ≤ 4) × (entrySize width (now prev) (now sep) ≤ r) × (r ≤ length (now b)) × (length (now sep) ≤ 255) ⌝ }
-    ensures size { λ x. ⌜ x ≡ entrySize width (now (prev .entry)) (now (sep .entry)) ⌝ }
-    ensures bytes { λ x. ⌜ now (b .exit) ≡ splice (now (b .entry)) (r - x) (entryBytes width (now (prev .entry)) (now (sep .entry)) number) ⌝ }
-{
-    let f = fields::common_front(prev, sep);
-    let n = sep.len();
-    put_piece(b, r, f, &sep[f..n], number, width);
-    width + 2 + (n - f)
-}
-
-// ---- the size
-
-// Past `count` old entries, each with its longest F.
-fn size_run(ib: &[u8], c: Cursor, count: usize, buf: &mut [u8]) -> Cursor
-    requires { ⌜ Stands (now ib) c count (now buf) ⌝ }
-    ensures { λ r. ⌜ Passed (now (ib .entry)) c count (runHere (now (ib .entry)) c count (now (buf .entry))) (now (buf .entry)) r (now (buf .exit)) ⌝ }
-{
-    let w = c.width;
-    let mut right = c.right;
-    let mut len = c.len;
-    let mut size = c.size;
-    let mut left = count;
-    while 0 < left {
-        let s = index_step::entry_at(ib, w, right);
+    if !s.closes {
         let f = longest(buf, len, ib, s);
         index_step::extend(buf, s.front, ib, s.at, s.len);
-        right = s.at;
-        len = s.front + s.len;
-        size += w + 2 + (len - f);
+        return f;
+    }
+    index_step::extend(high, s.front, ib, s.at, s.len);
+    let z = s.front + s.len;
+    let f = fields::common_front(&buf[..len], &high[..z]);
+    index_step::extend(buf, 0, high, 0, z);
+    f
+}
+
+// Puts an entry with this separator after one with the separator `prev`.
+fn put_after(b: &mut [u8], pen: Pen, top: &mut [u8], prev: &[u8], sep: &[u8], number: usize) -> Pen
+    requires { ⌜ Puts (now b) pen (now sep) (partAt pen (now top) (common (now prev) (now sep)) (now sep) number) ⌝ }
+    requires room { ⌜ (1 ≤ pen .left) × (pen .high ≤ length (now top)) × (length (now sep) ≤ length (now top)) ⌝ }
+    ensures is { λ r. ⌜ r ≡ penOn (length (now (b .entry)) - 7) pen (partAt pen (now (top .entry)) (common (now (prev .entry)) (now (sep .entry))) (now (sep .entry)) number) ⌝ }
+    ensures top { λ _. ⌜ now (top .exit) ≡ topOn pen (now (sep .entry)) (now (top .entry)) ⌝ }
+    ensures bytes { λ _. ⌜ now (b .exit) ≡ bytesOn (now (b .entry)) pen (partAt pen (now (top .entry)) (common (now (prev .entry)) (now (sep .entry))) (now (sep .entry)) number) ⌝ }
+{
+    let f = fields::common_front(prev, sep);
+    index_pen::put(b, pen, top, f, sep, number)
+}
+
+// ---- the passes
+
+// Puts the next old entries as they are.
+fn run(
+    b: &mut [u8],
+    ib: &[u8],
+    c: Cursor,
+    buf: &mut [u8],
+    high: &mut [u8],
+    top: &mut [u8],
+) -> Cursor
+    requires { ⌜ Stands (now ib) c (now b) (now buf) (now high) (now top) ⌝ }
+    ensures { λ r. ⌜ Ran (now (ib .entry)) c (now (b .entry)) (now (buf .entry)) (now (high .entry)) (now (top .entry)) r (now (b .exit)) (now (buf .exit)) (now (high .exit)) (now (top .exit)) ⌝ }
+{
+    let mut p = c.place;
+    let mut pen = c.pen;
+    let w = pen.width;
+    let mut left = c.count;
+    while 0 < left {
+        let s = index_step::entry_at(ib, w, p);
+        let f = renew(buf, p.len, high, ib, s);
+        let z = s.front + s.len;
+        pen = index_pen::put(b, pen, top, f, &buf[..z], s.number);
+        p = index_step::past(ib, s, p);
         left -= 1;
     }
     Cursor {
-        width: w,
-        right,
-        len,
-        size,
+        place: p,
+        pen,
+        count: left,
     }
 }
 
-// Past one old entry that becomes two parts, or three. The old separator comes last, and its F is counted anew.
-fn size_parts(ib: &[u8], c: Cursor, bytes: &[u8], cuts: Cuts, buf: &mut [u8]) -> Cursor
-    requires { ⌜ Stands (now ib) c 1 (now buf) × CutsLie cuts (now bytes) ⌝ }
-    ensures { λ r. ⌜ PartsPassed (now (ib .entry)) c cuts (now (bytes .entry)) (now (buf .entry)) r (now (buf .exit)) ⌝ }
+// Puts the parts of an entry but for the last, after one with the separator `prev`: the first stays under the entry's number, a second one gets the first number taken.
+fn put_cuts(b: &mut [u8], pen: Pen, top: &mut [u8], prev: &[u8], bytes: &[u8], d: Division) -> Pen
+    requires { ⌜ Cuttable (now b) pen (now top) (now prev) (now bytes) d ⌝ }
+    ensures { λ r. ⌜ Drawn (draftAll (draftOf (now (b .entry)) pen (now (top .entry)) (now (prev .entry))) (cutEntries d (now (bytes .entry)))) (now (b .exit)) r (now (top .exit)) ⌝ }
 {
-    let w = c.width;
-    let len = c.len;
+    let cuts = d.cuts;
     let from = cuts.from;
     let to = cuts.to;
-    let first = &bytes[from..to];
-    let s = index_step::entry_at(ib, w, c.right);
-    let one = entry_size(&buf[..len], first, w);
-    index_step::extend(buf, s.front, ib, s.at, s.len);
-    let end = s.front + s.len;
+    let one = put_after(b, pen, top, prev, &bytes[from..to], d.number);
     if !cuts.three {
-        let last = entry_size(first, &buf[..end], w);
-        return Cursor {
-            width: w,
-            right: s.at,
-            len: end,
-            size: c.size + one + last,
-        };
+        return one;
     }
     let from2 = cuts.from2;
     let to2 = cuts.to2;
-    let second = &bytes[from2..to2];
-    let two = entry_size(first, second, w);
-    let last = entry_size(second, &buf[..end], w);
-    Cursor {
-        width: w,
-        right: s.at,
-        len: end,
-        size: c.size + one + two + last,
-    }
+    put_after(b, one, top, &bytes[from..to], &bytes[from2..to2], d.taken)
 }
 
-// Before the first entry: no separator is before it.
-fn start(ib: &[u8], w: usize) -> Cursor
-    requires { ⌜ 7 ≤ length (now ib) ⌝ }
-    ensures { λ r. ⌜ r ≡ record { width = w; right = length (now (ib .entry)) - 7; len = 0; size = 0 } ⌝ }
+// Puts all entries as they are once entry i is divided; lent no record, it only counts them. The divided entry's own separator comes last among its parts, under the last number taken.
+fn put_all(b: &mut [u8], ib: &[u8], job: Job, bytes: &[u8], cuts: Cuts) -> Pen
+    requires { ⌜ Divisible (job .n) (job .i) (cutsIn cuts (now bytes)) (now ib) × CutsLie cuts (now bytes) × AllFit job (now ib) cuts (now bytes) (now b) ⌝ }
+    ensures { λ r. ⌜ AllPut job (now (ib .entry)) cuts (now (bytes .entry)) (now (b .entry)) r (now (b .exit)) ⌝ }
 {
-    Cursor {
-        width: w,
-        right: ib.len() - 7,
-        len: 0,
-        size: 0,
-    }
+    let w = measures::width_for(job.n);
+    let old = job.n - index_step::free_count(ib, w);
+    let last = last_cut(cuts);
+    let mut buf = [0u8; BUFFER];
+    let mut high = [0u8; BUFFER];
+    let mut top = [0u8; BUFFER];
+    let a = Cursor {
+        place: index_step::start(ib),
+        pen: index_pen::begin(w, old + last.count),
+        count: job.i,
+    };
+    let c = run(b, ib, a, &mut buf, &mut high, &mut top);
+    let p = c.place;
+    let len = p.len;
+    let s = index_step::entry_at(ib, w, p);
+    let d = Division {
+        cuts,
+        number: s.number,
+        taken: taken(ib, w, 0),
+    };
+    let cut = put_cuts(b, c.pen, &mut top, &buf[..len], bytes, d);
+    index_step::renew(&mut buf, &mut high, ib, s);
+    let q = index_step::past(ib, s, p);
+    let end = q.len;
+    let from = last.from;
+    let to = last.to;
+    let own = taken(ib, w, last.count - 1);
+    let parted = put_after(b, cut, &mut top, &bytes[from..to], &buf[..end], own);
+    let e = Cursor {
+        place: q,
+        pen: parted,
+        count: old - (job.i + 1),
+    };
+    let z = run(b, ib, e, &mut buf, &mut high, &mut top);
+    z.pen
 }
 
 // How many bytes header, free numbers and entries take once entry i of a sound record of n intervals is divided.
@@ -184,110 +232,11 @@ pub fn size_divided(ib: &[u8], n: usize, i: usize, bytes: &[u8], cuts: Cuts) -> 
     ensures { λ r. ⌜ r ≡ indexSize (widthFor n) (newRecord n (now (ib .entry)) i cuts (now (bytes .entry))) ⌝ }
 {
     let w = measures::width_for(n);
-    let free = index_step::free_count(ib, w);
-    let more = if cuts.three { 2 } else { 1 };
-    let mut buf = [0u8; BUFFER];
-    let c = size_run(ib, start(ib, w), i, &mut buf);
-    let d = size_parts(ib, c, bytes, cuts, &mut buf);
-    let e = size_run(ib, d, n - free - (i + 1), &mut buf);
-    24 + w * (free - more) + e.size
-}
-
-// ---- the bytes: entries end seven bytes before the record's end, and each is put left of those before it
-
-// Stores `count` old entries, each with its longest F.
-fn write_run(b: &mut [u8], ib: &[u8], c: Cursor, count: usize, buf: &mut [u8]) -> Cursor
-    requires { ⌜ Stands (now ib) c count (now buf) × RoomFor c (runHere (now ib) c count (now buf)) (now buf) (now b) ⌝ }
-    ensures passed { λ r. ⌜ Passed (now (ib .entry)) c count (runHere (now (ib .entry)) c count (now (buf .entry))) (now (buf .entry)) r (now (buf .exit)) ⌝ }
-    ensures stored { λ r. ⌜ Stored c (runHere (now (ib .entry)) c count (now (buf .entry))) (now (buf .entry)) (now (b .entry)) r (now (b .exit)) ⌝ }
-{
-    let w = c.width;
-    let edge = b.len() - 7;
-    let mut right = c.right;
-    let mut len = c.len;
-    let mut size = c.size;
-    let mut left = count;
-    while 0 < left {
-        let s = index_step::entry_at(ib, w, right);
-        let f = longest(buf, len, ib, s);
-        index_step::extend(buf, s.front, ib, s.at, s.len);
-        let from = s.at + (f - s.front);
-        let to = s.at + s.len;
-        put_piece(b, edge - size, f, &ib[from..to], s.number, w);
-        right = s.at;
-        len = s.front + s.len;
-        size += w + 2 + (len - f);
-        left -= 1;
-    }
-    Cursor {
-        width: w,
-        right,
-        len,
-        size,
-    }
-}
-
-// Stores the parts of one old entry. The first stays under its number; the others get numbers from the right end of the free ones.
-fn write_parts(
-    b: &mut [u8],
-    ib: &[u8],
-    c: Cursor,
-    bytes: &[u8],
-    cuts: Cuts,
-    buf: &mut [u8],
-) -> Cursor
-    requires stands { ⌜ Stands (now ib) c 1 (now buf) × CutsLie cuts (now bytes) × RoomFor c (partsIn (now ib) c cuts (now bytes) (now buf)) (now buf) (now b) ⌝ }
-    requires free { ⌜ (1 ≤ c .width) × FreeLie (c .width) (now ib) × (length (cutsIn cuts (now bytes)) ≤ freeCount (c .width) (now ib)) ⌝ }
-    ensures passed { λ r. ⌜ PartsPassed (now (ib .entry)) c cuts (now (bytes .entry)) (now (buf .entry)) r (now (buf .exit)) ⌝ }
-    ensures stored { λ r. ⌜ PartsStored (now (ib .entry)) c cuts (now (bytes .entry)) (now (buf .entry)) (now (b .entry)) r (now (b .exit)) ⌝ }
-{
-    let w = c.width;
-    let edge = b.len() - 7;
-    let len = c.len;
-    let from = cuts.from;
-    let to = cuts.to;
-    let first = &bytes[from..to];
-    let s = index_step::entry_at(ib, w, c.right);
-    let one = c.size + put_entry(b, edge - c.size, &buf[..len], first, s.number, w);
-    index_step::extend(buf, s.front, ib, s.at, s.len);
-    let end = s.front + s.len;
-    let a = taken(ib, w, 0);
-    if !cuts.three {
-        let all = one + put_entry(b, edge - one, first, &buf[..end], a, w);
-        return Cursor {
-            width: w,
-            right: s.at,
-            len: end,
-            size: all,
-        };
-    }
-    let from2 = cuts.from2;
-    let to2 = cuts.to2;
-    let second = &bytes[from2..to2];
-    let two = one + put_entry(b, edge - one, first, second, a, w);
-    let d = taken(ib, w, 1);
-    let all = two + put_entry(b, edge - two, second, &buf[..end], d, w);
-    Cursor {
-        width: w,
-        right: s.at,
-        len: end,
-        size: all,
-    }
-}
-
-// Stores all entries as they are once entry i is divided, and gives how many bytes they take.
-fn write_entries(b: &mut [u8], ib: &[u8], n: usize, i: usize, bytes: &[u8], cuts: Cuts) -> usize
-    requires { ⌜ Divisible n i (cutsIn cuts (now bytes)) (now ib) × CutsLie cuts (now bytes) × EntriesFit n (now ib) i cuts (now bytes) (now b) ⌝ }
-    ensures size { λ r. ⌜ r ≡ entriesSize (widthFor n) [] (newEntries n (now (ib .entry)) i cuts (now (bytes .entry))) ⌝ }
-    ensures bytes { λ r. ⌜ now (b .exit) ≡ entriesStored n (now (ib .entry)) i cuts (now (bytes .entry)) (now (b .entry)) r ⌝ }
-{
-    let w = measures::width_for(n);
-    let free = index_step::free_count(ib, w);
-    let mut buf = [0u8; BUFFER];
-    let c = write_run(b, ib, start(ib, w), i, &mut buf);
-    let d = write_parts(b, ib, c, bytes, cuts, &mut buf);
-    let e = write_run(b, ib, d, n - free - (i + 1), &mut buf);
-    e.size
+    let last = last_cut(cuts);
+    let mut none = [0u8; 1];
+    let job = Job { n, i };
+    let pen = put_all(&mut none, ib, job, bytes, cuts);
+    24 + w * (index_step::free_count(ib, w) - last.count) + pen.size
 }
 
 // Writes the record anew over the old one, from a copy of it in a buffer that is long enough. Header, kept bytes and the free numbers that are left
@@ -301,14 +250,16 @@ pub(crate) fn divide_by(ib: &mut [u8], n: usize, i: usize, bytes: &[u8], cuts: C
 {
     let size = ib.len();
     let w = measures::width_for(n);
-    let more = if cuts.three { 2 } else { 1 };
-    let u = 24 + w * (index_step::free_count(ib, w) - more);
+    let last = last_cut(cuts);
+    let u = 24 + w * (index_step::free_count(ib, w) - last.count);
     fields::copy(old, 0, ib);
-    let e = size - 7 - write_entries(ib, &old[..size], n, i, bytes, cuts);
+    let job = Job { n, i };
+    let pen = put_all(ib, &old[..size], job, bytes, cuts);
+    let e = size - 7 - pen.size;
     fields::fill(ib, u, e, 0);
     fields::write_two(ib, 18, u);
-    fields::write_two(ib, 20, e);
-    fields::write_two(ib, 22, e);
+    fields::write_two(ib, 20, pen.last);
+    fields::write_two(ib, 22, pen.first);
 }
 
 pub(crate) fn divide_small(ib: &mut [u8], n: usize, i: usize, bytes: &[u8], cuts: Cuts)

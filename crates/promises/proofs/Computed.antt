@@ -17,13 +17,15 @@ use Rattle.interval.specs.Search.{lower, holds, placeOf, startingAt}
 use Rattle.index.specs.Bounds.{bound, separator, cutSeparator}
 use Rattle.index.specs.Cuts.{separators}
 use Rattle.index.specs.Divided.{partsOf, dividedAt}
-use Rattle.index.specs.Form.{packed, entryBytes, entriesBytes, entrySize, entriesSize, indexSize, indexBytes}
-use Rattle.index.specs.Layout.{pieceBytes, piecesBytes, freeBytes, header, trailer, layout as indexLayout}
+use Rattle.index.specs.Layout.{pieceBytes, freeBytes, trailer}
 use Rattle.index.specs.Meaning.{count, once, namedOnce, separatorBefore}
-use Rattle.index.specs.Pieces.{spell, frontsFit, piecesSize, lastChars}
-use Rattle.index.specs.Reading.{numbersAt, piecesAt, piecesIn, readIndex, frame, places, soundIndex}
+use Rattle.index.specs.Reading.{numbersAt, frame}
 use Rattle.index.specs.Rules.{rises, closed, keepsRules, boundBefore}
 use Rattle.index.specs.Search.{leadsTo}
+use Rattle.sections.specs.Parts.{spellAll, frontsIn, partsSize, sectionsIn, endsClosed}
+use Rattle.sections.specs.Layout.{ahead, partBytes, partsBytes, lastLong, header, layout as indexLayout}
+use Rattle.sections.specs.Form.{rootFrom, packedIn, indexSize, indexBytes}
+use Rattle.sections.specs.Reading.{partsAt, partsIn, readIndex, fieldsTrue, places, soundIndex}
 use Rattle.division.specs.Division.{difference, fitting, better, bestTo, bestCut, byCut, divisionOf, counts, parts, pieces}
 use Rattle.area.specs.Example.{bytes, depot, held, first, second}
 use Rattle.area.specs.Soundness.{unsoundFree, unsoundUsed, unsoundData, lowest}
@@ -62,16 +64,17 @@ pub record Areas : Type 0 where
   pub roomy : Shown 8 60 at.roomy (alone (1 ∷ []) eight) (insert ninth)
   pub even : Shown 8 60 at.even (alone (1 ∷ []) ten) (update shorter)
   pub small : Shown 8 60 bytes held (insert third)
-  pub brimful : Shown 240 240 at.brimful (between 236) (insert (high 0x32))
-  pub overfull : Shown 240 240 at.overfull (between 237) (insert (high 0x32))
+  pub brimful : Shown 240 240 at.brimful (between 232) (insert (high 0x32))
+  pub overfull : Shown 240 240 at.overfull (between 233) (insert (high 0x32))
 
 pub areas : Areas
 unfolding bytes splice number digits sum concat swap every orderOf common widthFor fine judgedOf anyBelow permittedSize described rdfCount push groups need
-    fits groupBytes groupsBytes layout form rdfs rdfsIn wellFormed lengths cut recordsIn formSound sound ascendFrom ascending soundFree soundUsed lower holds
-    placeOf startingAt bound separator cutSeparator separators partsOf dividedAt packed entryBytes entriesBytes entrySize entriesSize indexSize indexBytes
-    pieceBytes piecesBytes freeBytes header trailer indexLayout count once namedOnce separatorBefore spell frontsFit piecesSize lastChars numbersAt piecesAt
-    piecesIn readIndex frame places soundIndex rises closed keepsRules boundBefore leadsTo difference fitting better bestTo bestCut byCut divisionOf counts
-    parts pieces recordsOf readArea unsoundFree unsoundUsed unsoundData lowest filledWith partedAt divided taken takenStores planOf stored changeOf withKey
+    fits groupBytes groupsBytes layout form rdfs rdfsIn wellFormed lengths cut recordsIn formSound sound ascendFrom ascending soundFree soundUsed lower
+    holds placeOf startingAt bound separator cutSeparator separators partsOf dividedAt rootFrom packedIn indexSize indexBytes pieceBytes partBytes
+    partsBytes ahead lastLong freeBytes header trailer indexLayout count once namedOnce separatorBefore spellAll frontsIn partsSize sectionsIn endsClosed
+    numbersAt partsAt partsIn readIndex frame fieldsTrue places soundIndex rises closed keepsRules boundBefore leadsTo difference fitting better bestTo
+    bestCut byCut divisionOf counts parts pieces recordsOf readArea unsoundFree unsoundUsed unsoundData lowest filledWith partedAt divided taken takenStores
+    planOf stored changeOf withKey
 areas = record {
   crowded = record { octets = refl; judges = refl; reads = refl; handed = refl; long = refl };
   roomy = record { octets = refl; judges = refl; reads = refl; handed = refl; long = refl };
@@ -95,12 +98,12 @@ pub record Answers : Type 0 where
 
 pub answers : Answers
 unfolding bytes splice number digits sum concat swap every orderOf common widthFor fine judgedOf anyBelow permittedSize described rdfCount push groups need
-    fits groupBytes groupsBytes layout form rdfs rdfsIn wellFormed lengths cut recordsIn formSound sound ascendFrom ascending soundFree soundUsed lower holds
-    placeOf startingAt bound separator cutSeparator separators partsOf dividedAt packed entryBytes entriesBytes entrySize entriesSize indexSize indexBytes
-    pieceBytes piecesBytes freeBytes header trailer indexLayout count once namedOnce separatorBefore spell frontsFit piecesSize lastChars numbersAt piecesAt
-    piecesIn readIndex frame places soundIndex rises closed keepsRules boundBefore leadsTo difference fitting better bestTo bestCut byCut divisionOf counts
-    parts pieces recordsOf readArea unsoundFree unsoundUsed unsoundData lowest filledWith partedAt divided taken takenStores planOf stored changeOf withKey
-    getOf
+    fits groupBytes groupsBytes layout form rdfs rdfsIn wellFormed lengths cut recordsIn formSound sound ascendFrom ascending soundFree soundUsed lower
+    holds placeOf startingAt bound separator cutSeparator separators partsOf dividedAt rootFrom packedIn indexSize indexBytes pieceBytes partBytes
+    partsBytes ahead lastLong freeBytes header trailer indexLayout count once namedOnce separatorBefore spellAll frontsIn partsSize sectionsIn endsClosed
+    numbersAt partsAt partsIn readIndex frame fieldsTrue places soundIndex rises closed keepsRules boundBefore leadsTo difference fitting better bestTo
+    bestCut byCut divisionOf counts parts pieces recordsOf readArea unsoundFree unsoundUsed unsoundData lowest filledWith partedAt divided taken takenStores
+    planOf stored changeOf withKey getOf
 answers = record {
   crowded = refl;
   roomy = refl;
@@ -125,10 +128,10 @@ pub record Left : Type 0 where
 
 pub left : Left
 unfolding bytes splice number digits sum concat swap every orderOf common widthFor fine judgedOf anyBelow permittedSize described rdfCount push groups need
-    fits groupBytes groupsBytes layout form rdfs rdfsIn wellFormed lengths cut recordsIn formSound sound ascendFrom ascending soundFree soundUsed lower holds
-    placeOf startingAt bound separator cutSeparator separators partsOf dividedAt packed entryBytes entriesBytes entrySize entriesSize indexSize indexBytes
-    pieceBytes piecesBytes freeBytes header trailer indexLayout count once namedOnce separatorBefore spell frontsFit piecesSize lastChars numbersAt piecesAt
-    piecesIn readIndex frame places soundIndex rises closed keepsRules boundBefore leadsTo difference fitting better bestTo bestCut byCut divisionOf counts
-    parts pieces recordsOf readArea unsoundFree unsoundUsed unsoundData lowest filledWith partedAt divided taken takenStores planOf stored changeOf withKey
-    makeChange replace
+    fits groupBytes groupsBytes layout form rdfs rdfsIn wellFormed lengths cut recordsIn formSound sound ascendFrom ascending soundFree soundUsed lower
+    holds placeOf startingAt bound separator cutSeparator separators partsOf dividedAt rootFrom packedIn indexSize indexBytes pieceBytes partBytes
+    partsBytes ahead lastLong freeBytes header trailer indexLayout count once namedOnce separatorBefore spellAll frontsIn partsSize sectionsIn endsClosed
+    numbersAt partsAt partsIn readIndex frame fieldsTrue places soundIndex rises closed keepsRules boundBefore leadsTo difference fitting better bestTo
+    bestCut byCut divisionOf counts parts pieces recordsOf readArea unsoundFree unsoundUsed unsoundData lowest filledWith partedAt divided taken takenStores
+    planOf stored changeOf withKey makeChange replace
 left = record { together = refl; lost = refl; brimful = refl }

@@ -8,13 +8,14 @@ use lib.ListN.{length, take, drop}
 use lib.Seq.{length-take-le}
 use native.Mathlib.Omega.{arith}
 use Rattle.fields.specs.Bytes.{Octets}
-use Rattle.fields.specs.Order.{common}
 use Rattle.fields.specs.Lists.{swap}
 use Rattle.measures.specs.Judgement.{measures, countOf}
 use Rattle.measures.specs.declared.Measures.{Measures}
 use Rattle.index.specs.Search.{leadsTo}
-use Rattle.index.specs.Form.{indexSize, entriesSize, entrySize}
 use Rattle.index.specs.Cuts.{separators}
+use Rattle.sections.specs.Parts.{partsSize}
+use Rattle.sections.specs.Form.{packedAll, indexSize}
+use Rattle.sections.proofs.Needing.{sepsIn, all-need}
 use Rattle.division.specs.Division.{divisionOf}
 use Rattle.division.specs.Fewest.{Fewest}
 use Rattle.division.specs.declared.Division.the-variants.{Three}
@@ -43,11 +44,13 @@ use Rattle.promises.proofs.Homes.{home-one}
 use Rattle.promises.proofs.Rows.{held}
 use Rattle.promises.proofs.Parts.{new, new-seps}
 
--- Entries need the bytes of their separators.
-pub entries-need : (w : ℕ) (before : List ℕ) (fs : List Filled) → entriesSize w before (entriesOf fs) ≡ entriesNeed w before (sepsBy fs)
-unfolding entriesSize entrySize
-entries-need w before [] = refl
-entries-need w before (f ∷ fs) = ap (λ (k : ℕ). w + 2 + (length (f .sep) - common before (f .sep)) + k) (entries-need w (f .sep) fs)
+seps-entries : (fs : List Filled) → sepsIn (entriesOf fs) ≡ sepsBy fs
+seps-entries [] = refl
+seps-entries (f ∷ fs) = ap (λ (x : List (List ℕ)). f .sep ∷ x) (seps-entries fs)
+
+-- The writer's entries need the bytes that are counted out over their separators.
+pub entries-need : (w : ℕ) (fs : List Filled) → partsSize w (packedAll (entriesOf fs)) ≡ entriesNeed w (sepsBy fs)
+entries-need w fs = all-need w (entriesOf fs) ∙ ap (entriesNeed w) (seps-entries fs)
 
 seps-append : (fs gs : List Filled) → sepsBy (fs ++ gs) ≡ sepsBy fs ++ sepsBy gs
 seps-append [] gs = refl
@@ -101,7 +104,7 @@ module _ (size offset key most : ℕ) (area : List ℕ) where
 
     needs-after : indexSize (widthIn c) (meaningOf (contentAfter m c e))
         ≡ 24 + widthIn c * (length (c .free) - (length ps - 1))
-        + entriesNeed (widthIn c) [] (sepsBy (take (e .entry) (c .filled)) ++ ((separators m ps ++ (entryAt (c .filled) (e .entry) .sep ∷ [])) ++ sepsBy (drop (e .entry + 1) (c .filled))))
+        + entriesNeed (widthIn c) (sepsBy (take (e .entry) (c .filled)) ++ ((separators m ps ++ (entryAt (c .filled) (e .entry) .sep ∷ [])) ++ sepsBy (drop (e .entry + 1) (c .filled))))
     unfolding indexSize partedAt swap
     needs-after =
         let f : Filled = entryAt (c .filled) (e .entry) in
@@ -111,7 +114,7 @@ module _ (size offset key most : ℕ) (area : List ℕ) where
         seps-append pre (new m c f ps ++ post)
         ∙ ap (λ (x : List (List ℕ)). sepsBy pre ++ x)
         (seps-append (new m c f ps) post ∙ ap (λ (x : List (List ℕ)). x ++ sepsBy post) (new-seps m c f ps (one-to-three m (c .filled) e .0))) in
-        let a = entries-need (widthIn c) [] (pre ++ (new m c f ps ++ post)) ∙ ap (entriesNeed (widthIn c) []) b in
+        let a = entries-need (widthIn c) (pre ++ (new m c f ps ++ post)) ∙ ap (entriesNeed (widthIn c)) b in
         let l = length-take-le (length (c .free) - (length ps - 1)) (c .free) (omega arith) in
         omega (arith, a, ap (λ (x : ℕ). widthIn c * x) l)
 

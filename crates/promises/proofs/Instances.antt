@@ -32,8 +32,8 @@ use Rattle.promises.proofs.Wants.{want-of-interval, want-of-room}
 none-there : Legal depot (insert ninth) (recordsOf (alone [] eight .filled))
     × Legal depot (insert ninth) (recordsOf (alone (1 ∷ []) eight .filled))
     × Legal depot (insert third) (recordsOf (held .filled))
-    × Legal (measures 512 0 240 240) (insert (high 0x32)) (recordsOf (between 236 .filled))
-    × Legal (measures 512 0 240 240) (insert (high 0x32)) (recordsOf (between 237 .filled))
+    × Legal (measures 512 0 240 240) (insert (high 0x32)) (recordsOf (between 232 .filled))
+    × Legal (measures 512 0 240 240) (insert (high 0x32)) (recordsOf (between 233 .filled))
 unfolding withKey recordsOf
 none-there = (refl, refl, refl, refl, refl)
 
@@ -70,21 +70,21 @@ six-just-not w =
 -- the two areas with keys of 240 bytes have no want of an interval
 overfull-enough : WantOfInterval 512 0 240 240 overfull (insert (high 0x32)) → ⊥
 overfull-enough w =
-    let z : _≡_ {A = ℕ} 7 6 = six-right 240 240 overfull (between 237) (high 0x32) (areas .overfull) (none-there .4) NoRoom (answers .overfull) .1 w in
+    let z : _≡_ {A = ℕ} 7 6 = six-right 240 240 overfull (between 233) (high 0x32) (areas .overfull) (none-there .4) NoRoom (answers .overfull) .1 w in
     omega arith
 
 brimful-enough : WantOfInterval 512 0 240 240 brimful (insert (high 0x32)) → ⊥
 brimful-enough w =
-    let z : _≡_ {A = ℕ} 0 6 = six-right 240 240 brimful (between 236) (high 0x32) (areas .brimful) (none-there .3) _ (answers .brimful) .1 w in
+    let z : _≡_ {A = ℕ} 0 6 = six-right 240 240 brimful (between 232) (high 0x32) (areas .brimful) (none-there .3) _ (answers .brimful) .1 w in
     omega arith
 
 -- Want of room: the renewed index record would have 506 bytes, one more than there are; with a separator one byte shorter it has them all.
 pub seven-holds : WantOfRoom 512 0 240 240 overfull (insert (high 0x32))
-seven-holds = seven-right 240 240 overfull (between 237) (high 0x32) (areas .overfull) (none-there .4) overfull-enough NoRoom (answers .overfull) .0 refl
+seven-holds = seven-right 240 240 overfull (between 233) (high 0x32) (areas .overfull) (none-there .4) overfull-enough NoRoom (answers .overfull) .0 refl
 
 pub seven-just-not : WantOfRoom 512 0 240 240 brimful (insert (high 0x32)) → ⊥
 seven-just-not w =
-    let z : _≡_ {A = ℕ} 0 7 = seven-right 240 240 brimful (between 236) (high 0x32) (areas .brimful) (none-there .3) brimful-enough _ (answers .brimful) .1 w in
+    let z : _≡_ {A = ℕ} 0 7 = seven-right 240 240 brimful (between 232) (high 0x32) (areas .brimful) (none-there .3) brimful-enough _ (answers .brimful) .1 w in
     omega arith
 
 -- And the third certificate stays in its interval, so that neither holds.
@@ -108,7 +108,7 @@ home-seven = seven 8 60 bytes held third (areas .small) (none-there .2) home-not
 
 pub brimful-seven : (a : Answer) (after : List ℕ) → ChangeAllowed 512 0 240 240 brimful (insert (high 0x32)) a after
     → (numberOf a ≡ 7) ↔ WantOfRoom 512 0 240 240 brimful (insert (high 0x32))
-brimful-seven = seven 240 240 brimful (between 236) (high 0x32) (areas .brimful) (none-there .3) brimful-enough
+brimful-seven = seven 240 240 brimful (between 232) (high 0x32) (areas .brimful) (none-there .3) brimful-enough
 
 pub even-sound : Sound 512 0 8 60 depot (countOf 512 (length even)) even (alone (1 ∷ []) ten)
 even-sound = sounded 8 60 even (alone (1 ∷ []) ten) (update shorter) (areas .even)

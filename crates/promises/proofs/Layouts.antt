@@ -21,12 +21,12 @@ use Rattle.interval.proofs.Forward as forward
 use Rattle.interval.proofs.Backward as backward
 use Rattle.index.specs.Meaning.{Meaning}
 use Rattle.index.specs.Rules.{keepsRules}
-use Rattle.index.specs.Layout as index-layout
-use Rattle.index.specs.Form.{indexSize, indexBytes}
-use Rattle.index.specs.Reading.{readIndex, soundIndex}
-use Rattle.index.proofs.ReadsBack as reads-back
-use Rattle.index.proofs.NeverDamaged as never
-use Rattle.index.proofs.OnlyLaidOut as only
+use Rattle.sections.specs.Layout as index-layout
+use Rattle.sections.specs.Form.{indexSize, indexBytes}
+use Rattle.sections.specs.Reading.{readIndex, soundIndex}
+use Rattle.sections.proofs.ReadsBack as reads-back
+use Rattle.sections.proofs.NeverDamaged as never
+use Rattle.sections.proofs.OnlyLaidOut as only
 use Rattle.area.specs.Content.{Content, indexIn}
 use Rattle.area.specs.Reading.{readArea, whole, damaged}
 use Rattle.area.specs.Layout.{Lent, IndexInterval, AreaLaidOut}
@@ -52,14 +52,14 @@ module _ (m : Measures) (some : 1 ≤ m .least) where
   pub interval-only-laid-out : (ci : List ℕ) → formSound m ci ≡ true → Octets ci → LaidOut (length ci) (recordsIn ci) ci
   interval-only-laid-out ci s o = backward.interval-only-laid-out m ci s o
 
--- ---- the index record, with pointers of one byte
+-- ---- the index record, in sections, with pointers of the width that n has
 
 module _ (S K n : ℕ) (ix : Meaning) (rules : keepsRules S K n [] [] ix ≡ true) (few : n ≤ limit) (small : S ≤ 32768) where
   -- The index record that the register writes is read back as the same entries and free numbers.
   pub index-reads-back : length (ix .kept) ≡ 12 → indexSize (widthFor n) ix ≤ S - 7 → K ≤ 255 → readIndex (widthFor n) n (indexBytes (widthFor n) S ix) ≡ ix
-  index-reads-back twelve room short = reads-back.index-reads-back (widthFor n) S ix twelve room K n [] [] short rules (width-some n) (width-holds n few) small
+  index-reads-back twelve room short = reads-back.index-reads-back (widthFor n) S K n [] [] ix (width-some n) (width-holds n few) small short twelve room rules
 
-  -- An index record that keeps the rules, with any legal compression and with anything in its unused space, is not called damaged.
+  -- An index record that keeps the rules, in any legal sections, with any legal compression and with anything in its unused space, is not called damaged.
   pub index-never-damaged : (ib : List ℕ) → index-layout.LaidOut (widthFor n) S ix ib → soundIndex (widthFor n) K n [] [] ib ≡ true
   index-never-damaged ib l = never.index-never-damaged (widthFor n) S K n [] [] ix ib (width-some n) (width-holds n few) small l rules
 

@@ -6,8 +6,8 @@ use lib.ListN.{length}
 use Rattle.measures.specs.declared.Measures.{Measures}
 use Rattle.interval.specs.Layout.{form}
 use Rattle.index.specs.Meaning.{numbers}
-use Rattle.index.specs.Form.{indexBytes}
 use Rattle.index.specs.Cuts.{separators}
+use Rattle.sections.specs.Form.{indexBytes}
 use Rattle.division.specs.Fewest.{Fewest}
 use Rattle.area.specs.Content.{Filled, Content, recordsOf, entriesOf, meaningOf, indexIn, dataIn, widthIn}
 use Rattle.requests.specs.Model.{Change, makeChange}

@@ -4,7 +4,7 @@ use mathlib.Core.List.{List, [], _∷_, _++_, map}
 use lib.ListN.{length, replicate}
 use Rattle.fields.specs.Lists.{concat}
 use Rattle.interval.specs.Layout.{form}
-use Rattle.index.specs.Form.{indexBytes}
+use Rattle.sections.specs.Form.{indexBytes}
 use Rattle.area.specs.Content.{Content, meaningOf, widthIn}
 
 -- ---- one interval in use
@@ -69,10 +69,11 @@ between long =
       filled = record { sep = replicate long 0x42; num = 0; records = low ∷ [] } ∷ record { sep = []; num = 1; records = high 0x31 ∷ high 0x33 ∷ [] } ∷ [];
     }
 
--- 24 bytes and three entries of 3, with two separators: 505 if the first has 236, which is all that there is
+-- After the division: 24 bytes, three entries of 3, two separators, and two sections, where there was one, with a field of 2 each. That is 505 if the first
+-- separator has 232, which is all that there is.
 abbrev pub brimful : List ℕ
-brimful = laid (between 236) ((low ∷ []) ∷ (high 0x31 ∷ high 0x33 ∷ []) ∷ [] ∷ [])
+brimful = laid (between 232) ((low ∷ []) ∷ (high 0x31 ∷ high 0x33 ∷ []) ∷ [] ∷ [])
 
 -- and 506 if it has one more
 abbrev pub overfull : List ℕ
-overfull = laid (between 237) ((low ∷ []) ∷ (high 0x31 ∷ high 0x33 ∷ []) ∷ [] ∷ [])
+overfull = laid (between 233) ((low ∷ []) ∷ (high 0x31 ∷ high 0x33 ∷ []) ∷ [] ∷ [])

@@ -79,11 +79,12 @@ abbrev pub changed : (m : Measures) (c : Content) (ch : Change) → Home m c (ke
 changed m c ch h = makeChange m ch (h .old .records)
 
 -- The bytes of an index record that names parts in place of the interval's entry: 24, the free numbers that are left, and the entries, at the cuts with the
--- separators of the cuts.
+-- separators of the cuts; among them two bytes for each section of the record after the division, in that record's own sections, counted out, never estimated
+-- (document 02, L5).
 abbrev pub indexNeeds : (m : Measures) (c : Content) (key : List ℕ) → Home m c key → List (List (List ℕ)) → ℕ
 indexNeeds m c key h parts =
     24 + widthIn c * (length (c .free) - (length parts - 1))
-    + entriesNeed (widthIn c) [] (sepsBy (h .pre) ++ ((separators m parts ++ (h .old .sep ∷ [])) ++ sepsBy (h .post)))
+    + entriesNeed (widthIn c) (sepsBy (h .pre) ++ ((separators m parts ++ (h .old .sep ∷ [])) ++ sepsBy (h .post)))
 
 module _ (size offset key most : ℕ) (ch : Change) where
   abbrev m : Measures

@@ -13,8 +13,8 @@ use Rattle.room.specs.Room.{need}
 use Rattle.interval.specs.Records.{lengthsFine}
 use Rattle.interval.specs.Layout.{form}
 use Rattle.interval.specs.Reading.{recordsIn}
-use Rattle.index.specs.Form.{indexSize}
 use Rattle.index.specs.Search.{leadsTo}
+use Rattle.sections.specs.Form.{indexSize}
 use Rattle.area.specs.Content.{Filled, entriesOf, meaningOf, widthIn}
 use Rattle.area.specs.Reading.{Reading, damaged, whole, readArea}
 use Rattle.area.specs.Example.{first, second}

@@ -27,7 +27,7 @@ use Rattle.interval.proofs.Lengths.{within-low, within-rest}
 use Rattle.interval.proofs.Starting.{starting-before, starting-begins}
 use Rattle.index.specs.Bounds.{bound}
 use Rattle.index.specs.Meaning.{Entry, Meaning, numbers, named, count, below}
-use Rattle.index.specs.Reading.{readIndex}
+use Rattle.sections.specs.Reading.{readIndex}
 use Rattle.index.proofs.Counting.{count-same, count-other, count-append, below-apart, count-out}
 use Rattle.index.proofs.Naming.{both-below, named-each}
 use Rattle.index_read.proofs.Header.{base-kept}

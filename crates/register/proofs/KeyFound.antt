@@ -15,7 +15,7 @@ use Rattle.interval.specs.declared.Found.the-variants.{At, Gap}
 use Rattle.interval.proofs.FoundBytes.{place-bytes}
 use Rattle.interval.proofs.Readable.{readable-ascends, readable-rdfs}
 use Rattle.index.specs.Meaning.{Entry, numbers}
-use Rattle.index.specs.Reading.{readIndex}
+use Rattle.sections.specs.Reading.{readIndex}
 use Rattle.index.specs.Search.{leadsTo}
 use Rattle.area.specs.Content.{Filled, indexIn, dataIn, recordsOf, entriesOf}
 use Rattle.area.proofs.Filled.{recordsOf-append}

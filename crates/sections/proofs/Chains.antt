@@ -1,20 +1,20 @@
 -- The chain of sections, as a reader follows it: where the last entry closes a section and its field is zero, every field leads to the next section's highest.
-use Prim.Native.Nat.{ℕ, zero, suc, _+_, _-_, _≤_, _<_}
+use Prim.Native.Nat.{ℕ, zero, suc, _+_, _-_, _<_}
 use mathlib.Core.Path.{_≡_, refl, _∙_, sym, ap}
 use mathlib.Core.Bool.{Bool, true, false}
 use mathlib.Core.List.{List, [], _∷_}
 use lib.Dec.{eqb}
 use native.Mathlib.Omega.{arith}
 use borrow.Author.Tests.{eq-eqb, eqb-true}
-use Rattle.fields.specs.Choice.{pick, both}
+use Rattle.fields.specs.Choice.{pick}
 use Rattle.fields.specs.Bytes.{number}
-use Rattle.fields.proofs.Choices.{false-true, both-join, both-split}
+use Rattle.fields.proofs.Choices.{false-true, both-join}
 use Rattle.index.specs.Pieces.{pieceSize}
 use Rattle.index.specs.Reading.{pieceAt}
 use Rattle.sections.specs.Parts.{Part, partSize, partsSize, sectionsIn, endsClosed}
 use Rattle.sections.specs.Layout.{ahead, fieldOf}
 use Rattle.sections.specs.Reading.{partsAt, fieldsTrue}
-use Rattle.sections.proofs.Laying.{ahead-some, ahead-most, field-more}
+use Rattle.sections.proofs.Laying.{ahead-most, field-more}
 
 -- what is known of a chain that was followed from a place with an end to be met
 pub record Followed (w : ℕ) (ib : List ℕ) (r end : ℕ) (ps : List Part) : Type 0 where

@@ -6,11 +6,12 @@ pub mod NeverDamaged
 pub mod Sounding
 pub mod Apart
 pub mod OnlyLaidOut
-pub mod Old
+pub mod Free
+pub mod Closing
 pub mod Roots
 pub mod Forming
 pub mod Shortest
 pub mod ReadsBack
 pub mod Needing
-pub mod Streaming
 pub mod Chains
+pub mod Octets

@@ -1,6 +1,6 @@
 -- The bytes counted out over the separators are those that the writer's entries take.
 use Prim.Native.Nat.{ℕ, _+_, _-_}
-use mathlib.Core.Path.{_≡_, refl, _∙_, sym, ap}
+use mathlib.Core.Path.{_≡_, refl}
 use mathlib.Core.Bool.{Bool, true, false}
 use mathlib.Core.List.{List, [], _∷_, map}
 use lib.ListN.{length, length-drop, length-map}
@@ -11,7 +11,7 @@ use Rattle.fields.specs.Order.{common}
 use Rattle.index.specs.Meaning.{Entry}
 use Rattle.index.specs.Pieces.{pieceSize}
 use Rattle.index.specs.Form.{pack}
-use Rattle.sections.specs.Parts.{Part, partsSize}
+use Rattle.sections.specs.Parts.{partsSize}
 use Rattle.sections.specs.Form.{sectionFor, packedIn, packedAll}
 use Rattle.sections.specs.Need.{entryNeed, sectionsNeed, allNeed}
 

@@ -1,20 +1,19 @@
 -- No legal choice of F gives fewer bytes than the longest F, the sections being the same.
-use Prim.Native.Nat.{ℕ, _-_, _≤_}
+use Prim.Native.Nat.{ℕ, zero, suc, _-_, _≤_}
 use mathlib.Core.Path.{_≡_, refl, ap}
 use mathlib.Core.Bool.{Bool, true, false}
-use mathlib.Core.List.{List, [], _∷_, map}
+use mathlib.Core.List.{List, [], _∷_, _++_, map}
 use lib.ListN.{length, take, length-append, length-drop}
 use lib.Seq.{length-take-le}
 use lib.Dec.{leb}
 use native.Mathlib.Omega.{arith}
-use borrow.Author.Tests.{leb-true}
+use borrow.Author.Tests.{leb-true, eq-eqb}
 use Rattle.fields.specs.Choice.{pick}
 use Rattle.fields.specs.Order.{common}
 use Rattle.fields.proofs.Choices.{both-split, false-true}
 use Rattle.index.specs.Meaning.{Entry, Meaning}
 use Rattle.index.specs.Pieces.{Piece, spelt, pieceSize}
 use Rattle.index.specs.Form.{pack}
-use Rattle.index.proofs.Shortest.{common-front}
 use Rattle.sections.specs.Parts.{Part, against, sepOf, highAfter, spellAll, frontsIn, partsSize}
 use Rattle.sections.specs.Layout.{LaidOut}
 use Rattle.sections.specs.Form.{sectionFor, packedIn, packedAll, indexSize}
@@ -24,6 +23,13 @@ use Rattle.sections.proofs.Forming.{top, inner}
 -- which entries close a section
 abbrev pub closings : List Part → List Bool
 closings ps = map (λ (p : Part). p .closes) ps
+
+-- what begins with the first f bytes of ref has at least f bytes in common with it
+pub common-front : (f : ℕ) (ref xs : List ℕ) → f ≤ length ref → f ≤ common ref (take f ref ++ xs)
+unfolding common
+common-front zero ref xs h = omega arith
+common-front (suc f) [] xs h = absurd (omega arith)
+common-front (suc f) (x ∷ ref) xs h = rw (eq-eqb x x refl) (omega (arith, common-front f ref xs (omega arith)))
 
 pub piece-shortest : (w : ℕ) (ref : List ℕ) (p : Piece) (num : ℕ) → p .front ≤ length ref → pieceSize w (pack ref (spelt ref p) num) ≤ pieceSize w p
 piece-shortest w ref p num h =

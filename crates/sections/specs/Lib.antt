@@ -2,6 +2,5 @@ pub mod Parts
 pub mod Layout
 pub mod Form
 pub mod Reading
-pub mod AidStream
+pub mod Divided
 pub mod Need
-pub mod Old

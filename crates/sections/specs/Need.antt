@@ -1,5 +1,5 @@
 -- The bytes of entries in the writer's sections, counted out over their separators: what number 7 counts (document 02, L5).
-use Prim.Native.Nat.{ℕ, _+_, _-_, _*_}
+use Prim.Native.Nat.{ℕ, _+_, _-_}
 use mathlib.Core.List.{List, [], _∷_}
 use lib.ListN.{length}
 use lib.Dec.{leb}

@@ -9,8 +9,9 @@ use native.Mathlib.Omega.{arith}
 use borrow.Author.Tests.{eq-eqb, ne-eqb}
 use Rattle.measures.specs.Judgement.{widthFor}
 use Rattle.measures.proofs.Fine.{fits-large}
-use Rattle.index.specs.Form.{indexSize}
-use Rattle.index.specs.Divided.{cuts, newMeaning}
+use Rattle.sections.specs.Form.{indexSize}
+use Rattle.index.specs.Divided.{cuts}
+use Rattle.sections.specs.Divided.{newMeaning}
 use Rattle.area.proofs.Places.{length-index}
 use Rattle.area_find.specs.AidSought.{Whole}
 use Rattle.change_plan.specs.AidEdited.{editedRecords}

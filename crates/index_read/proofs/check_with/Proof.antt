@@ -1,6 +1,7 @@
 -- No loop. sound-by does the work: where frame, base and displacements are in order, soundness is what the two walks test.
 -- A mark is a count, 0 or 1: of n numbers below n, each unmarked when met, none is missing (named-by-marks, by the pigeonhole).
--- The chain of entries passes the tests of the walk exactly where each rule holds of all the entries (chain-is).
+-- The chain of entries passes the tests of the walk exactly where each rule holds of all the entries (Links); there the fields lead from section to section
+-- (followed, of crate sections), and the two displacements tell whether there is a single section (spread-apart, spread-joined).
 -- Each refusal contradicts one part of soundness (no-frame to no-chain); all-fine gives the counts of free intervals and of entries.
 use mathlib.Core.Path.{_≡_, sym, _∙_}
 use mathlib.Core.Bool.{true}
@@ -14,7 +15,7 @@ use Rattle.index.specs.Rules.{baseFine}
 use Rattle.index.specs.Reading.{frame}
 use Rattle.index_read.specs.AidWalk.{placesOf}
 use Rattle.index_read.specs.declared.Places.the-variants.{At}
-use Rattle.index_read.proofs.Judging.{no-frame, no-base, no-places, free-inside, free-few, last-small, no-free, counts, no-chain, all-fine}
+use Rattle.index_read.proofs.Judging.{no-frame, no-base, no-places, free-inside, free-few, edge-inside, edge-small, no-free, counts, no-chain, all-fine}
 use Rattle.index_read.proofs.check_with.Statement.{statement}
 use Rattle.index_read.proofs.check_with.Tie as tie
 
@@ -109,8 +110,9 @@ walk-entries-requires c κs = let a = start-from-walk-free (c .before .before) .
     let ok : w .result .ok ≡ true = not-false _ (c .if3 .left) in (
       omega arith,
       omega arith,
-      omega (arith, p .0),
-      last-small (a .w) (a .key) (a .n) (now (a .ib)) (frames q) (bases q) (p .4) (h .0) (h .1 .0) (places q) (p .1),
+      p .0,
+      edge-inside (a .w) (a .key) (a .n) (now (a .ib)) (frames q) (bases q) (p .4) (h .0) (h .1 .0) (places q) (p .0),
+      edge-small (a .w) (a .key) (a .n) (now (a .ib)) (frames q) (bases q) (p .4) (h .0) (h .1 .0) (places q) (p .1),
       p .2,
       p .3,
       p .4,

@@ -4,7 +4,7 @@ use native.Mathlib.Omega.{arith}
 use denote.Ref.{now}
 use borrow.Author.Needs.{needs}
 use Rattle.fields.proofs.Splices.{part-is, length-mid}
-use Rattle.index_step.proofs.Stepping.{reach-long, reach-few}
+use Rattle.index_step.proofs.Reaching.{reach-long, reach-few}
 use Rattle.index_step.proofs.extend.Statement.{statement}
 use Rattle.index_step.proofs.extend.Tie as tie
 

@@ -4,7 +4,7 @@ use native.Mathlib.Omega.{arith}
 use denote.Ref.{now}
 use borrow.Author.Needs.{needs}
 use Rattle.fields.proofs.Splices.{length-mid, part-is}
-use Rattle.index_write.proofs.Streaming.{longest-is}
+use Rattle.index_write.proofs.Renewed.{longest-is}
 use Rattle.index_write.proofs.longest.Statement.{statement}
 use Rattle.index_write.proofs.longest.Tie as tie
 

@@ -1,0 +1,4 @@
+pub mod Pieces
+pub mod Layout
+pub mod Reading
+pub mod Section

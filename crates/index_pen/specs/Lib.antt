@@ -1,0 +1,3 @@
+pub mod AidPen
+pub mod AidStream
+pub mod AidHeld
