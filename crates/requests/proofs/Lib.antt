@@ -1,4 +1,6 @@
 pub mod Keys
+pub mod Quick
+pub mod Words
 pub mod Around
 pub mod Making
 pub mod Edits
