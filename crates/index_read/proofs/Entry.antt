@@ -14,7 +14,7 @@ use Rattle.fields.proofs.Choices.{both-split, off}
 use Rattle.index.specs.Reading.{lengthAt}
 use Rattle.index_step.specs.declared.Place.{Place}
 use Rattle.index_step.specs.declared.Step.{Step}
-use Rattle.index_step.specs.AidStep.{frontAt, charsAt, stepAt, reach}
+use Rattle.index_step.specs.AidStep.{frontAt, stepAt, reach}
 use Rattle.index_step.proofs.Reaching.{reach-most}
 use Rattle.index_read.specs.AidParsing.{closesAt, parses, parsedOf}
 use Rattle.index_read.specs.declared.Limits.{Limits}
@@ -76,40 +76,33 @@ module _ (ib : List ℕ) (p : Place) (by : Limits) where
   parsed-off h = sym (rw (off (parses ib p by) h))
 
   -- the ways out
-  pub no-room-at-all : r < by .edge + (w + 2) → Bad ≡ parsedOf ib p by
-  no-room-at-all h = parsed-off (λ q. omega (arith, parses-apart q .0))
+  module _ (closes : Bool) (which : closesAt w p ≡ closes) where
+    pub no-room : (l x : ℕ) → l ≡ L → x ≡ pick closes 2 0 → r < by .edge + (w + 2 + l + x) → Bad ≡ parsedOf ib p by
+    no-room l x e q h =
+        let q' : x ≡ field = q ∙ rw which in
+        parsed-off (λ z. omega (arith, parses-apart z .0, q'))
 
-  pub no-room : (l : ℕ) → l ≡ L → r < by .edge + (w + 2 + l) → Bad ≡ parsedOf ib p by
-  no-room l e h = parsed-off (λ q. omega (arith, parses-apart q .0))
+    module _ (s : Step) (e : s ≡ stepAt w ib r (p .end)) where
+      pub no-front : (x : ℕ) → x ≡ pick closes (p .high) (p .len) → x < s .front → Bad ≡ parsedOf ib p by
+      no-front x q h =
+          let q' : x ≡ most = q ∙ rw which in
+          let h' : x < F = rw e at h in
+          parsed-off (λ z. omega (arith, parses-apart z .1, q', h'))
 
-  module _ (s : Step) (e : s ≡ stepAt w ib r (p .end)) where
-    pub no-field : (x : ℕ) → x ≡ pick (s .closes) 2 0 → s .at < by .edge + x → Bad ≡ parsedOf ib p by
-    no-field x q h =
-        let q' : x ≡ field = q ∙ rw e in
-        let h' : charsAt w ib r < by .edge + x = rw e at h in
-        parsed-off (λ z. omega (arith, parses-apart z .0, q', h'))
+      pub no-fit : by .key < s .front + s .len → Bad ≡ parsedOf ib p by
+      no-fit h =
+          let h' : by .key < F + L = rw e at h in
+          parsed-off (λ z. omega (arith, parses-apart z .2, h'))
 
-    pub no-front : (x : ℕ) → x ≡ pick (s .closes) (p .high) (p .len) → x < s .front → Bad ≡ parsedOf ib p by
-    no-front x q h =
-        let q' : x ≡ most = q ∙ rw e in
-        let h' : x < F = rw e at h in
-        parsed-off (λ z. omega (arith, parses-apart z .1, q', h'))
-
-    pub no-fit : by .key < s .front + s .len → Bad ≡ parsedOf ib p by
-    no-fit h =
-        let h' : by .key < F + L = rw e at h in
-        parsed-off (λ z. omega (arith, parses-apart z .2, h'))
-
-    -- and the way on
-    pub parsed-on : (l x y : ℕ) → l ≡ L → by .edge + (w + 2 + l) ≤ r → x ≡ pick (s .closes) 2 0 → by .edge + x ≤ s .at
-        → y ≡ pick (s .closes) (p .high) (p .len) → s .front ≤ y → s .front + s .len ≤ by .key → Of s ≡ parsedOf ib p by
-    parsed-on l x y l-is h x-is i y-is j k =
-        let x' : x ≡ field = x-is ∙ rw e in
-        let y' : y ≡ most = y-is ∙ rw e in
-        let i' : by .edge + x ≤ charsAt w ib r = rw e at i in
-        let j' : F ≤ y = rw e at j in
-        let k' : F + L ≤ by .key = rw e at k in
-        ap Of e ∙ sym (parsed-is (parses-joined (omega (arith, h, l-is, x', i')) (omega (arith, y', j')) k'))
+      -- and the way on
+      pub parsed-on : (l x y : ℕ) → l ≡ L → x ≡ pick closes 2 0 → by .edge + (w + 2 + l + x) ≤ r → y ≡ pick closes (p .high) (p .len) → s .front ≤ y
+          → s .front + s .len ≤ by .key → Of s ≡ parsedOf ib p by
+      parsed-on l x y l-is x-is h y-is j k =
+          let x' : x ≡ field = x-is ∙ rw which in
+          let y' : y ≡ most = y-is ∙ rw which in
+          let j' : F ≤ y = rw e at j in
+          let k' : F + L ≤ by .key = rw e at k in
+          ap Of e ∙ sym (parsed-is (parses-joined (omega (arith, h, l-is, x')) (omega (arith, y', j')) k'))
 
   -- what a good answer says
   pub good : (s : Step) → parsedOf ib p by ≡ Of s → Good ib p by s

@@ -25,9 +25,8 @@ use Rattle.sections.proofs.Sizes.{length-spellAll}
 use Rattle.sections.proofs.Apart.{length-partsAt, entries-are}
 use Rattle.index_step.proofs.Stepping.{entries-count}
 use Rattle.index_read.specs.Check.{indexBy}
-use Rattle.index_read.specs.AidWalk.{placesOf, chain, partNumbers, marking, seenAfter, emptyMarks, freeAll, usedAll, fineFrom}
+use Rattle.index_read.specs.AidWalk.{placesOf, chain, partNumbers, marking, seenAfter, fineFrom}
 use Rattle.index_read.specs.declared.Limits.{Limits}
-use Rattle.index_read.specs.declared.Marks.{Marks}
 use Rattle.index_read.specs.declared.Index.the-variants.{Sound as SoundWith, Unsound}
 use Rattle.index_read.specs.declared.Places.the-variants.{At, Nowhere}
 use Rattle.index_read.proofs.Header.{Lies, place-good, place-bad}
@@ -191,7 +190,7 @@ module _ (w K n : ℕ) (ib : List ℕ) where
           base-read = unfold readIndex in b
 
     abbrev lim : Limits
-    lim = record { width = w; edge = E; n = n; key = K }
+    lim = record { width = w; edge = E; n = n; count = cnt; key = K }
 
     -- Where frame, base and displacements are in order, the rest of the definition is what the two walks test.
     pub sound-by : soundIndex w K n [] [] ib ≡ both (marking n zeros fr) (fineFrom lim ib (seenAfter zeros fr) cnt)
@@ -250,14 +249,14 @@ module _ (w K n : ℕ) (ib : List ℕ) where
     pub edge-small : length ib ≤ 32768 → e < 65536
     edge-small h = omega (arith, l .inside, e-is)
 
+    pub used-some : 0 < n - c
+    used-some = omega (arith, l .some, c-is)
+
     abbrev by : Limits
-    by = record { width = w; edge = e; n = n; key = K }
+    by = record { width = w; edge = e; n = n; count = n - c; key = K }
 
     abbrev free : List ℕ
     free = numbersAt w ib 24 c
-
-    abbrev used : List ℕ
-    used = partNumbers (partsAt w ib (length ib - 7) (sectionAt ib) (n - c))
 
     abbrev none-yet : List ℕ
     none-yet = replicate limit 0
@@ -265,32 +264,23 @@ module _ (w K n : ℕ) (ib : List ℕ) where
     by-both : soundIndex w K n [] [] ib ≡ both (marking n none-yet free) (fineFrom by ib (seenAfter none-yet free) (n - c))
     by-both = rw (c-is, e-is) (sound-by w K n ib (sym f) (sym b) l big)
 
-    module _ (m₀ : Marks) (em : m₀ ≡ emptyMarks) where
-      pub no-free : false ≡ marking n (m₀ .seen) free → Unsound ≡ indexBy w K n ib
-      no-free h = unsound (λ p. false-true (h ∙ ap (λ (m : Marks). marking n (m .seen) free) em ∙ both-split (marking n none-yet free) _ (sym by-both ∙ p) .0))
+    module _ (m₀ : List ℕ) (em : m₀ ≡ none-yet) where
+      pub no-free : false ≡ marking n m₀ free → Unsound ≡ indexBy w K n ib
+      no-free h = unsound (λ p. false-true (h ∙ ap (λ (m : List ℕ). marking n m free) em ∙ both-split (marking n none-yet free) _ (sym by-both ∙ p) .0))
 
-      module _ (ok₁ : true ≡ marking n (m₀ .seen) free) (m₁ : Marks) (fm : m₁ ≡ freeAll m₀ free) where
-        seen₁ : m₁ .seen ≡ seenAfter none-yet free
-        seen₁ = ap (λ (m : Marks). m .seen) fm ∙ ap (λ (m : Marks). seenAfter (m .seen) free) em
+      module _ (ok₁ : true ≡ marking n m₀ free) (seen : List ℕ) (marked : seen ≡ seenAfter m₀ free) where
+        by-walk : soundIndex w K n [] [] ib ≡ fineFrom by ib seen (n - c)
+        by-walk = by-both ∙ rw (← em, ← ok₁, ← marked)
 
-        pub counts : m₁ .used ≡ 0
-        counts = ap (λ (m : Marks). m .used) fm ∙ ap (λ (m : Marks). m .used) em
-
-        marks-on : marking n none-yet free ≡ true
-        marks-on = ap (λ (m : Marks). marking n (m .seen) free) (sym em) ∙ sym ok₁
-
-        by-walk : soundIndex w K n [] [] ib ≡ fineFrom by ib (m₁ .seen) (n - c)
-        by-walk = by-both ∙ rw (marks-on, ← seen₁)
-
-        pub no-chain : false ≡ fineFrom by ib (m₁ .seen) (n - c) → Unsound ≡ indexBy w K n ib
+        pub no-chain : false ≡ fineFrom by ib seen (n - c) → Unsound ≡ indexBy w K n ib
         no-chain h = unsound (λ p. false-true (h ∙ sym by-walk ∙ p))
 
-        module _ (ok₂ : true ≡ fineFrom by ib (m₁ .seen) (n - c)) (m₂ : Marks) (um : m₂ ≡ usedAll m₁ used) where
-          pub all-fine : SoundWith (m₂ .free) (m₂ .used) ≡ indexBy w K n ib
-          unfolding indexBy readIndex partsIn
-          all-fine =
-              let s : soundIndex w K n [] [] ib ≡ true = by-walk ∙ sym ok₂ in
-              let ps' : List Part = partsAt w ib (length ib - 7) (sectionAt ib) (n - c) in
-              let a : m₂ .free ≡ length free = ap (λ (m : Marks). m .free) um ∙ ap (λ (m : Marks). m .free) fm ∙ ap (λ (m : Marks). m .free + length free) em ∙ omega arith in
-              let d : m₂ .used ≡ length ps' = ap (λ (m : Marks). m .used) um ∙ rw counts (omega (arith, length-map ps' (λ (p : Part). p .piece .num))) in
-              rw (a, d) (sym (rw (s, ← c-is, length-spellAll [] [] ps')))
+        pub all-fine : true ≡ fineFrom by ib seen (n - c) → (x y : ℕ) → x ≡ c → y ≡ n - c → SoundWith x y ≡ indexBy w K n ib
+        unfolding indexBy readIndex partsIn
+        all-fine ok₂ x y x-is y-is =
+            let s : soundIndex w K n [] [] ib ≡ true = by-walk ∙ sym ok₂ in
+            let ps' : List Part = partsAt w ib (length ib - 7) (sectionAt ib) (n - c) in
+            let a : x ≡ length free = x-is ∙ sym (length-numbersAt w ib 24 c) in
+            let d : y ≡ length ps' = y-is ∙ sym (length-partsAt w ib (length ib - 7) (sectionAt ib) (n - c)) in
+            let z : SoundWith x y ≡ SoundWith (length free) (length ps') = ap (λ (u : ℕ). SoundWith u y) a ∙ ap (λ (u : ℕ). SoundWith (length free) u) d in
+            z ∙ sym (rw (s, ← c-is, length-spellAll [] [] ps'))

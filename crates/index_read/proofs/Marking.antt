@@ -20,8 +20,7 @@ use Rattle.index.specs.Meaning.{count, below, once, namedOnce}
 use Rattle.index.specs.Reading.{numbersAt}
 use Rattle.index.proofs.Counting.{count-same, count-other}
 use Rattle.index.proofs.Naming.{all-named}
-use Rattle.index_read.specs.AidWalk.{marking, seenAfter, settled, freeAll}
-use Rattle.index_read.specs.declared.Marks.{Marks}
+use Rattle.index_read.specs.AidWalk.{marking, seenAfter}
 
 record Sane (m : List ℕ) : Type 0 where
   whole : length m ≡ limit
@@ -140,35 +139,33 @@ marking-append n m (x ∷ xs) ys = rw (marking-append n (set m x 1) xs ys) (go (
 
 -- ---- the walk over the free numbers
 
-module _ (w n : ℕ) (m : Marks) (ib : List ℕ) (at left x : ℕ) (more : 0 < left) (is : x ≡ number w ib at) where
+module _ (w n : ℕ) (seen ib : List ℕ) (at left x : ℕ) (more : 0 < left) (is : x ≡ number w ib at) where
   there : numbersAt w ib at left ≡ x ∷ numbersAt w ib (at + w) (left - 1)
   unfolding numbersAt
   there =
       let e : left ≡ suc (left - 1) = omega arith in
       ap (λ (z : ℕ). numbersAt w ib at z) e ∙ rw is
 
-  pub mark-big : n ≤ x → false ≡ marking n (m .seen) (numbersAt w ib at left)
+  pub mark-big : n ≤ x → false ≡ marking n seen (numbersAt w ib at left)
   unfolding marking
   mark-big g = sym (rw (there, le-ltb x n g))
 
-  pub mark-again : x < n → (getD (m .seen) x 0 ≡ 0 → ⊥) → false ≡ marking n (m .seen) (numbersAt w ib at left)
+  pub mark-again : x < n → (getD seen x 0 ≡ 0 → ⊥) → false ≡ marking n seen (numbersAt w ib at left)
   unfolding marking
-  mark-again g z = sym (rw (there, lt-ltb x n g, ne-eqb (getD (m .seen) x 0) 0 z))
+  mark-again g z = sym (rw (there, lt-ltb x n g, ne-eqb (getD seen x 0) 0 z))
 
-  pub mark-on : x < n → getD (m .seen) x 0 ≡ 0 → marking n (m .seen) (numbersAt w ib at left) ≡ marking n (set (m .seen) x 1) (numbersAt w ib (at + w) (left - 1))
+  pub mark-on : x < n → getD seen x 0 ≡ 0 → marking n seen (numbersAt w ib at left) ≡ marking n (set seen x 1) (numbersAt w ib (at + w) (left - 1))
   unfolding marking
-  mark-on g z = rw (there, lt-ltb x n g, eq-eqb (getD (m .seen) x 0) 0 z)
+  mark-on g z = rw (there, lt-ltb x n g, eq-eqb (getD seen x 0) 0 z)
 
-  pub free-on : freeAll m (numbersAt w ib at left) ≡ freeAll (record { seen = set (m .seen) x 1; used = m .used; free = m .free + 1; ok = m .ok }) (numbersAt w ib (at + w) (left - 1))
+  pub seen-on : seenAfter seen (numbersAt w ib at left) ≡ seenAfter (set seen x 1) (numbersAt w ib (at + w) (left - 1))
   unfolding seenAfter
-  free-on =
-      let a : m .free + suc (length (numbersAt w ib (at + w) (left - 1))) ≡ m .free + 1 + length (numbersAt w ib (at + w) (left - 1)) = omega arith in
-      rw (there, a)
+  seen-on = rw there
 
-pub mark-end : (w n : ℕ) (m : Marks) (ib : List ℕ) (at left : ℕ) → left ≡ 0 → true ≡ marking n (m .seen) (numbersAt w ib at left)
+pub mark-end : (w n : ℕ) (seen ib : List ℕ) (at left : ℕ) → left ≡ 0 → true ≡ marking n seen (numbersAt w ib at left)
 unfolding marking numbersAt
-mark-end w n m ib at left h = sym (rw h)
+mark-end w n seen ib at left h = sym (rw h)
 
-pub free-end : (w : ℕ) (m : Marks) (ib : List ℕ) (at left : ℕ) → left ≡ 0 → settled true m ≡ freeAll m (numbersAt w ib at left)
+pub seen-end : (w : ℕ) (seen ib : List ℕ) (at left : ℕ) → left ≡ 0 → seen ≡ seenAfter seen (numbersAt w ib at left)
 unfolding seenAfter numbersAt
-free-end w m ib at left h = let a : m .free + 0 ≡ m .free = omega arith in rw (h, a)
+seen-end w seen ib at left h = sym (rw h)

@@ -17,7 +17,7 @@ use Rattle.index_step.specs.declared.Place.{Place}
 use Rattle.index_step.specs.declared.Step.{Step}
 use Rattle.index_step.specs.AidStep.{stepAt, joinedOf, reach, extendedBy, copiedFrom, Renewed}
 use Rattle.index_step.proofs.Reaching.{reach-most, extended-chars, extended-length}
-use Rattle.index_read.specs.AidParsing.{parses, parsedOf}
+use Rattle.index_read.specs.AidParsing.{closesAt, parses, parsedOf}
 use Rattle.index_read.specs.AidWalk.{boundRises, Ascends, TopAscends, Before, nextIn, entryOf, Taken}
 use Rattle.index_read.specs.declared.Limits.{Limits}
 use Rattle.index_read.specs.declared.Parsed.{Parsed}
@@ -33,6 +33,10 @@ pick-bad false = refl
 abbrev pub sepIn : List ℕ → Step → List ℕ → List ℕ → List ℕ
 sepIn ib s buf high = joinedOf (s .front) (pick (s .closes) high buf) ib (s .at) (s .len)
 
+-- whether the entry is the highest of its section, as the place tells
+pub closes-is : (ib : List ℕ) (p : Place) (by : Limits) (s : Step) → parsedOf ib p by ≡ Of s → (t : Bool) → closesAt (by .width) p ≡ t → s .closes ≡ t
+closes-is ib p by s parsed t which = ap (λ (x : Step). x .closes) (good ib p by s parsed .is) ∙ which
+
 -- What is known once its bound was judged: whether it rises, and what the buffers hold.
 pub record Turned (ib : List ℕ) (p : Place) (by : Limits) (first : Bool) (buf high : List ℕ) (s : Step) (rises : Bool) (buf' high' : List ℕ) : Type 0 where
   pub rising : rises ≡ boundRises first (by .key) (take (p .len) buf) (sepIn ib s buf high)
@@ -45,7 +49,7 @@ module _ (ib : List ℕ) (p : Place) (by : Limits) (first : Bool) (buf high : Li
   unfolding entryOf
   entry-unparsed h = sym (rw h (pick-bad (both (boundRises first (by .key) (take (p .len) buf) (nextIn ib p by buf high)) (separator (by .key) (nextIn ib p by buf high)))))
 
-  module _ (s : Step) (parsed : parsedOf ib p by ≡ Of s) (b : Before ib p by buf high) where
+  module _ (s : Step) (parsed : parsedOf ib p by ≡ Of s) (b : Before ib p by buf) (tall : by .key + 8 ≤ length high) where
     g : Good ib p by s
     g = good ib p by s parsed
 
@@ -74,13 +78,13 @@ module _ (ib : List ℕ) (p : Place) (by : Limits) (first : Bool) (buf high : Li
           → high' ≡ extendedBy ib s high → Told
       turned-top c r is is' =
           let m = reach-most (s .len) in
-          let k : length high' ≡ length high = extended-length ib high high' (s .front) (s .len) (s .at) (omega (arith, g .fits, b .whole', m)) chars-reach is' in
+          let k : length high' ≡ length high = extended-length ib high high' (s .front) (s .len) (s .at) (omega (arith, g .fits, tall, m)) chars-reach is' in
           let n = reach-most (s .front + s .len) in
           let is'' : buf' ≡ copiedFrom high' (s .front + s .len) buf = rw (← is') at is in
           record {
             rising = rw c (r (by .key) (b .short) (g .fits));
             renewed = rw c (is, is');
-            long = extended-length high' buf buf' 0 (s .front + s .len) 0 (omega (arith, g .fits, b .whole, n)) (omega (arith, g .fits, b .whole', k, n)) is'';
+            long = extended-length high' buf buf' 0 (s .front + s .len) 0 (omega (arith, g .fits, b .whole, n)) (omega (arith, g .fits, tall, k, n)) is'';
             long' = k;
           }
 
@@ -108,16 +112,21 @@ module _ (ib : List ℕ) (p : Place) (by : Limits) (first : Bool) (buf high : Li
             )
           where
             enough : (t : Bool) → s .front ≤ length (pick t high buf)
-            enough true = omega (arith, g .fits, b .whole')
+            enough true = omega (arith, g .fits, tall)
             enough false = omega (arith, g .fits, b .whole)
 
-    module _ (rises : Bool) (buf' high' : List ℕ) (told : Turned ib p by first buf high s rises buf' high') where
-      pub entry-low : rises ≡ false → Bad ≡ entryOf ib p by first buf high
-      unfolding entryOf
-      entry-low h =
-          let z : boundRises first (by .key) (take (p .len) buf) sep ≡ false = sym (told .rising) ∙ h in
-          sym (rw (next-is, z))
+    -- it doesn't rise
+    entry-low : boundRises first (by .key) (take (p .len) buf) sep ≡ false → Bad ≡ entryOf ib p by first buf high
+    unfolding entryOf
+    entry-low z = sym (rw (next-is, z))
 
+    pub low-top : s .closes ≡ true → TopAscends first (p .len) buf high ib s false → Bad ≡ entryOf ib p by first buf high
+    low-top c r = entry-low (rw c (sym (r (by .key) (b .short) (g .fits))))
+
+    pub low-inner : s .closes ≡ false → Ascends first (s .front) (p .len) buf ib (s .at) (s .len) false → Bad ≡ entryOf ib p by first buf high
+    low-inner c r = entry-low (rw c (sym (r (by .key) (b .short) (g .fits))))
+
+    module _ (rises : Bool) (buf' high' : List ℕ) (told : Turned ib p by first buf high s rises buf' high') where
       -- the first buffer begins with the separator
       begins : take (s .front + s .len) buf' ≡ sep
       begins = go (s .closes) (told .renewed .0)
@@ -129,16 +138,16 @@ module _ (ib : List ℕ) (p : Place) (by : Limits) (first : Bool) (buf high : Li
           n = reach-most (s .front + s .len)
 
           top : take (s .front + s .len) (extendedBy ib s high) ≡ take (s .front) high ++ part ib (s .at) (s .len)
-          top = extended-chars ib high (extendedBy ib s high) (s .front) (s .len) (s .at) (omega (arith, g .fits, b .whole', m)) chars-reach refl
+          top = extended-chars ib high (extendedBy ib s high) (s .front) (s .len) (s .at) (omega (arith, g .fits, tall, m)) chars-reach refl
 
-          tall : length (extendedBy ib s high) ≡ length high
-          tall = extended-length ib high (extendedBy ib s high) (s .front) (s .len) (s .at) (omega (arith, g .fits, b .whole', m)) chars-reach refl
+          long : length (extendedBy ib s high) ≡ length high
+          long = extended-length ib high (extendedBy ib s high) (s .front) (s .len) (s .at) (omega (arith, g .fits, tall, m)) chars-reach refl
 
           go : (t : Bool) → buf' ≡ pick t (copiedFrom (extendedBy ib s high) (s .front + s .len) buf) (extendedBy ib s buf)
               → take (s .front + s .len) buf' ≡ joinedOf (s .front) (pick t high buf) ib (s .at) (s .len)
           go true is =
               let z : 0 + (s .front + s .len) ≡ s .front + s .len = omega arith in
-              let e = extended-chars (extendedBy ib s high) buf buf' 0 (s .front + s .len) 0 (omega (arith, g .fits, b .whole, n)) (omega (arith, g .fits, b .whole', tall, n)) is in
+              let e = extended-chars (extendedBy ib s high) buf buf' 0 (s .front + s .len) 0 (omega (arith, g .fits, b .whole, n)) (omega (arith, g .fits, tall, long, n)) is in
               (rw z at e) ∙ top
           go false is = extended-chars ib buf buf' (s .front) (s .len) (s .at) (omega (arith, g .fits, b .whole, m)) chars-reach is
 

@@ -212,6 +212,15 @@ module _ (buf ib : List ℕ) (f len at l : ℕ) (front : f ≤ len) (whole : len
             less-lt (getD buf f 0) (getD ib at 0) (take (m - 1) (drop (suc f) buf)) (take (m - 1) (drop (suc at) ib)) x in
             above-less first no-first m e Less (sym (rw (e1, e2, d1, d2) (less-order _ y))) refl
 
+-- ---- with nothing before it, and with something
+
+module _ (first : Bool) (f len : ℕ) (buf ib : List ℕ) (at l : ℕ) where
+  pub first-rises : first ≡ true → Ascends first f len buf ib at l true
+  first-rises e = λ (K : ℕ) (k1 : len ≤ K) (k2 : f + l ≤ K). rw e
+
+  pub other-rises : first ≡ false → (r : Bool) → Ascends false f len buf ib at l r → Ascends first f len buf ib at l r
+  other-rises e r h = λ (K : ℕ) (k1 : len ≤ K) (k2 : f + l ≤ K). rw e (h K k1 k2)
+
 -- ---- a section's highest
 
 -- It was put into another buffer, and is compared with the separator before from the front on.
@@ -220,7 +229,5 @@ module _ (first : Bool) (len : ℕ) (buf high high' ib : List ℕ) (s : Step) (i
   top-spelt : part high' 0 (s .front + s .len) ≡ joinedOf (s .front) high ib (s .at) (s .len)
   top-spelt = extended-chars ib high high' (s .front) (s .len) (s .at) (omega (arith, reach-most (s .len))) inside is
 
-  pub top-ascends : (r : Bool) → ((first ≡ true) × (r ≡ true)) ⊎ ((first ≡ false) × Ascends false 0 len buf high' 0 (s .front + s .len) r) → TopAscends first len buf high ib s r
-  top-ascends r h = λ (K : ℕ) (k1 : len ≤ K) (k2 : s .front + s .len ≤ K).
-      ⊎-elim (λ (q : (first ≡ true) × (r ≡ true)). rw (q .0) (q .1))
-      (λ (q : (first ≡ false) × Ascends false 0 len buf high' 0 (s .front + s .len) r). rw (q .0, ← top-spelt) (q .1 K k1 (omega arith))) h
+  pub top-ascends : (r : Bool) → Ascends first 0 len buf high' 0 (s .front + s .len) r → TopAscends first len buf high ib s r
+  top-ascends r h = λ (K : ℕ) (k1 : len ≤ K) (k2 : s .front + s .len ≤ K). rw (← top-spelt) (h K k1 (omega arith))

@@ -1,5 +1,5 @@
 -- Laws of the walk over the entries: how far it has come, each way out of it, and one turn.
-use Prim.Native.Nat.{ℕ, suc, _+_, _-_, _≤_, _<_, _^_}
+use Prim.Native.Nat.{ℕ, suc, _+_, _-_, _≤_, _<_}
 use mathlib.Core.Path.{_≡_, refl, _∙_, sym, ap}
 use mathlib.Core.Bool.{Bool, true, false}
 use mathlib.Core.List.{List, [], _∷_, _++_}
@@ -11,10 +11,10 @@ use borrow.Author.Tests.{lt-ltb, eq-eqb, ne-eqb, le-leb, ltb-true, eqb-true, leb
 use Rattle.fields.specs.Choice.{pick, both, no}
 use Rattle.fields.specs.Bytes.{number}
 use Rattle.fields.specs.Order.{orderOf, less}
-use Rattle.fields.proofs.Choices.{false-true, both-split, both-join, off, both-none, both-true}
+use Rattle.fields.proofs.Choices.{false-true, both-split, both-join, off, both-none, both-true, both-false}
 use Rattle.fields.proofs.Splices.{length-mid}
 use Rattle.index.specs.Bounds.{empty, bound, separator}
-use Rattle.index.specs.Reading.{sectionAt, lengthAt}
+use Rattle.index.specs.Reading.{lengthAt}
 use Rattle.index.proofs.Keeping.{separator-short}
 use Rattle.index.proofs.Apart.{chars-long}
 use Rattle.sections.specs.Parts.{Part, against, partSize}
@@ -26,20 +26,17 @@ use Rattle.index_step.specs.AidEntries.{Here, hereFirst, partHere, sepHere, her
 use Rattle.index_step.proofs.Passing.{held-on}
 use Rattle.index_step.proofs.Stepping.{held-start}
 use Rattle.index_read.specs.AidParsing.{closesAt, parses}
-use Rattle.index_read.specs.AidWalk.{boundRises, Before, nextIn, entryOf, chain, partNumbers, marking, seenAfter, settled, usedAll, fineFrom}
+use Rattle.index_read.specs.AidWalk.{boundRises, Before, nextIn, entryOf, Taken, chain, marking, fineFrom}
+use Rattle.index_read.specs.AidStand.{Walkable, fineAt, lowOf, Stand, Stopped}
 use Rattle.index_read.specs.declared.Limits.{Limits}
-use Rattle.index_read.specs.declared.Marks.{Marks}
+use Rattle.index_read.specs.declared.Parsed.{Parsed}
 use Rattle.index_read.specs.declared.Parsed.the-variants.{Of, Bad}
-use Rattle.index_read.proofs.Entry.{Good, good, parses-joined}
-use Rattle.index_read.proofs.Next.{entry-good, entry-bad}
+use Rattle.index_read.specs.declared.Stop.{Stop}
+use Rattle.index_read.specs.declared.Stop.the-variants.{At, Wrong}
+use Rattle.index_read.proofs.Entry.{Good, good, passes, parses-joined}
+use Rattle.index_read.proofs.Next.{closes-is, entry-good, entry-bad, taken-of}
 
 -- ---- the tests, entry by entry
-
--- the entries that are left from a place on keep the rules, and their numbers are new
-unfoldable pub fineAt : Limits → List ℕ → List ℕ → Bool → List ℕ → Here → ℕ → Bool
-fineAt by ib seen closed low h left =
-    both (chain (by .width) (by .key) (by .edge) ib (h .right) closed low (h .high) (h .ref) (partsAt (by .width) ib (h .right) (h .end) left))
-    (marking (by .n) seen (partNumbers (partsAt (by .width) ib (h .right) (h .end) left)))
 
 fine-first : (by : Limits) (ib seen : List ℕ) (count : ℕ) → fineFrom by ib seen count ≡ fineAt by ib seen false [] (hereFirst ib) count
 unfolding fineFrom fineAt
@@ -133,31 +130,34 @@ module _ (by : Limits) (ib seen low : List ℕ) (h : Here) where
       → fineAt by ib seen closed low h left ≡ both (eqb (h .right) (by .edge)) (both (empty (h .ref)) (both (eqb (number 2 ib (by .edge)) 0) closed))
   fine-done closed left done = rw done (fine-end closed)
 
+-- whether the entry before closed a section is asked at the end only
+fine-open : (by : Limits) (ib seen low : List ℕ) (h : Here) (t u : Bool) (left : ℕ) → 0 < left → fineAt by ib seen t low h left ≡ fineAt by ib seen u low h left
+fine-open by ib seen low h t u left more = fine-step by ib seen low h t left more ∙ sym (fine-step by ib seen low h u left more)
+
 -- ---- how far the walk has come
 
--- the bound before the next entry; there is none before the first
-abbrev pub lowOf : Bool → ℕ → List ℕ → List ℕ
-lowOf first K ref = pick first [] (bound K ref)
-
-pub record State (by : Limits) (ib : List ℕ) (count : ℕ) (m₀ m : Marks) (buf high : List ℕ) (p : Place) (closed : Bool) (left : ℕ) : Type 0 where
-  pub h : Here
-  pub held : Held h p buf high
-  pub whole : length buf ≡ 263
-  pub whole' : length high ≡ 263
-  pub short : length (h .ref) ≤ by .key
-  pub low : length (h .high) ≤ by .key
-  pub fine : separator (length (h .ref)) (h .ref) ≡ true
-  pub inside : h .right + 7 ≤ length ib
-  pub few : left ≤ count
-  pub counts : m .used + left < 2 ^ 64
-  pub same : fineFrom by ib (m₀ .seen) count ≡ fineAt by ib (m .seen) closed (lowOf (eqb left count) (by .key) (h .ref)) h left
-  pub marks : usedAll m₀ (partNumbers (partsAt (by .width) ib (length ib - 7) (sectionAt ib) count)) ≡ usedAll m (partNumbers (partsAt (by .width) ib (h .right) (h .end) left))
-
-pub start : (by : Limits) (ib : List ℕ) (count : ℕ) (m₀ : Marks) (p : Place) → p ≡ placeStart ib → 31 ≤ length ib → m₀ .used + count < 2 ^ 64
-    → State by ib count m₀ m₀ (replicate 263 0) (replicate 263 0) p false count
-start by ib count m₀ p is large g =
-    let k : length {A = ℕ} (replicate 263 0) ≡ 263 = length-replicate {A = ℕ} 263 0 in
+pub reclosed : (ib : List ℕ) (by : Limits) (old seen buf high : List ℕ) (p : Place) (t u : Bool) (left : ℕ) → 0 < left → Stand ib by old seen buf high p t left
+    → Stand ib by old seen buf high p u left
+reclosed ib by old seen buf high p t u left more st =
     record {
+      h = st .h;
+      held = st .held;
+      whole = st .whole;
+      whole' = st .whole';
+      short = st .short;
+      low = st .low;
+      fine = st .fine;
+      inside = st .inside;
+      few = st .few;
+      same = st .same ∙ fine-open by ib seen (lowOf (eqb left (by .count)) (by .key) (st .h .ref)) (st .h) t u left more;
+    }
+
+pub start : (ib : List ℕ) (by : Limits) (old : List ℕ) (p : Place) → p ≡ placeStart ib → 31 ≤ length ib → 0 < by .count
+    → Stand ib by old old (replicate 263 0) (replicate 263 0) p true (by .count)
+start ib by old p is large some =
+    let k : length {A = ℕ} (replicate 263 0) ≡ 263 = length-replicate {A = ℕ} 263 0 in
+    reclosed ib by old old (replicate 263 0) (replicate 263 0) p false true (by .count) some
+    (record {
       h = hereFirst ib;
       held = rw is (held-start ib (replicate 263 0) (replicate 263 0) (omega (arith, k)) (omega (arith, k)));
       whole = k;
@@ -167,10 +167,8 @@ start by ib count m₀ p is large g =
       fine = unfold separator in refl;
       inside = omega arith;
       few = omega arith;
-      counts = g;
-      same = fine-first by ib (m₀ .seen) count ∙ rw (eq-eqb count count refl);
-      marks = refl;
-    }
+      same = fine-first by ib old (by .count) ∙ rw (eq-eqb (by .count) (by .count) refl);
+    })
 
 -- a separator for keys of one length is one for any length that it fits in
 separator-own : (K : ℕ) (s : List ℕ) → separator K s ≡ true → separator (length s) s ≡ true
@@ -188,6 +186,10 @@ less-low t K ref sep h = go t (bound K sep) (omega (arith, length-append sep (re
     go true [] h = absurd (omega arith)
     go true (y ∷ ys) h = unfold orderOf in refl
     go false x h = refl
+
+both-yes : (x : Bool) → both x true ≡ x
+both-yes true = refl
+both-yes false = refl
 
 empty-is : (xs : List ℕ) → empty xs ≡ eqb (length xs) 0
 empty-is [] = refl
@@ -255,25 +257,33 @@ module _ (by : Limits) (ib : List ℕ) (h : Here) (p : Place) (buf high : List �
   same-end : (x y : Bool) → both (eqb r (by .edge)) (both (empty (h .ref)) (both x y)) ≡ both (eqb (p .right) (by .edge)) (both (eqb (p .len) 0) (both x y))
   same-end x y = rw (empty-is (h .ref), held .long, held .right)
 
-module _ (by : Limits) (ib : List ℕ) (count : ℕ) (m₀ m : Marks) (buf high : List ℕ) (p : Place) (closed : Bool) (left : ℕ)
-    (st : State by ib count m₀ m buf high p closed left) where
-  -- for the call
-  pub ready : 1 ≤ by .width → by .width ≤ 4 → by .edge < 65536 → by .key ≤ 255 → Before ib p by buf high
-  ready some few edge most =
+module _ (ib : List ℕ) (by : Limits) (old seen buf high : List ℕ) (p : Place) (closed : Bool) (left : ℕ) (st : Stand ib by old seen buf high p closed left) where
+  abbrev count : ℕ
+  count = by .count
+
+  -- for the calls
+  pub ready : Walkable ib by → by .edge + (by .width + 2) ≤ p .right → Before ib p by buf
+  ready w room =
       record {
-        some = some;
-        few = few;
+        some = w .some;
+        few = w .few;
         inside = omega (arith, st .inside, st .held .right);
-        edge = edge;
-        whole = omega (arith, st .whole);
-        whole' = omega (arith, st .whole');
+        room = room;
+        edge = w .edge;
+        whole = omega (arith, st .whole, w .most);
         short = omega (arith, st .short, st .held .long);
         low = omega (arith, st .low, st .held .tall);
         held = rw (st .held .ref, ← st .held .long) (st .fine);
       }
 
+  pub tall : by .key ≤ 255 → by .key + 8 ≤ length high
+  tall most = omega (arith, st .whole')
+
+  pub within : p .right + 7 ≤ length ib
+  within = omega (arith, st .inside, st .held .right)
+
   abbrev all : Bool
-  all = fineFrom by ib (m₀ .seen) count
+  all = fineFrom by ib old count
 
   abbrev h' : Here
   h' = st .h
@@ -304,13 +314,13 @@ module _ (by : Limits) (ib : List ℕ) (count : ℕ) (m₀ m : Marks) (buf high 
 
   module _ (more : 0 < left) (least : 1 ≤ K) where
     abbrev here : Bool
-    here = fineAt by ib (m .seen) closed low h' left
+    here = fineAt by ib seen closed low h' left
 
     abbrev Fine : Type 0
-    Fine = Passed by ib (m .seen) low h'
+    Fine = Passed by ib seen low h'
 
     not-all : (Fine → ⊥) → false ≡ all
-    not-all f = sym (st .same ∙ off here (λ z. f (fine-apart by ib (m .seen) low h' closed left more z)))
+    not-all f = sym (st .same ∙ off here (λ z. f (fine-apart by ib seen low h' closed left more z)))
 
     nexts : F' ≤ length former' → nextIn ib p by buf high ≡ sep'
     nexts = next-is by ib h' p buf high (st .held)
@@ -336,10 +346,13 @@ module _ (by : Limits) (ib : List ℕ) (count : ℕ) (m₀ m : Marks) (buf high 
       num-is : s .number ≡ part' .piece .num
       num-is = ap (λ (x : Step). x .number) steps
 
+      pub passes-top : K ≤ 255 → (s .front + s .len ≤ 510) × (s .at ≤ length ib) × (pick (s .closes) 2 0 ≤ s .at)
+      passes-top most = passes ib p by s fits within most
+
       pub too-big : by .n ≤ s .number → false ≡ all
       too-big z = not-all (λ x. omega (arith, x .small, num-is))
 
-      pub again : (getD (m .seen) (s .number) 0 ≡ 0 → ⊥) → false ≡ all
+      pub again : (getD seen (s .number) 0 ≡ 0 → ⊥) → false ≡ all
       again z = not-all (λ x. z (rw num-is (x .new)))
 
       room : by .edge + (w' + 2 + L' + pick (part' .closes) 2 0) ≤ h' .right
@@ -373,27 +386,16 @@ module _ (by : Limits) (ib : List ℕ) (count : ℕ) (m₀ m : Marks) (buf high 
           both-join _ _ (le-leb (partSize w' part') (h' .right) (omega (arith, size)))
           (both-join _ _ (le-leb F' (length former') front) (le-leb (length sep') 255 (omega (arith, sep-long, few))))
 
-      abbrev m' : Marks
-      m' = record { seen = set (m .seen) (s .number) 1; used = m .used + 1; free = m .free; ok = m .ok }
-
-      marks-on : usedAll m (partNumbers (partsAt w' ib (h' .right) (h' .end) left))
-          ≡ usedAll m' (partNumbers (partsAt w' ib (hereNext w' ib h' .right) (hereNext w' ib h' .end) (left - 1)))
-      unfolding seenAfter
-      marks-on =
-          let xs : List ℕ = partNumbers (partsAt w' ib (hereNext w' ib h' .right) (hereNext w' ib h' .end) (left - 1)) in
-          let a : m .used + suc (length xs) ≡ m .used + 1 + length xs = omega arith in
-          rw (parts-next w' ib h' left more, num-is, a)
-
-      same-on : s .number < by .n → getD (m .seen) (s .number) 0 ≡ 0
-          → all ≡ fineAt by ib (set (m .seen) (s .number) 1) (s .closes) (bound K sep') (hereNext w' ib h') (left - 1)
+      same-on : s .number < by .n → getD seen (s .number) 0 ≡ 0
+          → all ≡ fineAt by ib (set seen (s .number) 1) (s .closes) (bound K sep') (hereNext w' ib h') (left - 1)
       same-on k z =
           let x : Fine = record { room = size; front = front; fine = fine; rising = rising; small = omega (arith, k, num-is); new = rw (← num-is) z } in
           let c : s .closes ≡ part' .closes = ap (λ (y : Step). y .closes) steps in
-          st .same ∙ fine-on by ib (m .seen) low h' closed left more x ∙ rw (← num-is, ← c)
+          st .same ∙ fine-on by ib seen low h' closed left more x ∙ rw (← num-is, ← c)
 
       module _ (buf' high' : List ℕ) (renewed : Renewed ib s buf high buf' high') (long : length buf' ≡ length buf) (long' : length high' ≡ length high) (p' : Place)
           (past : p' ≡ placePast ib s p) (most : K ≤ 255) where
-        pub onward : s .number < by .n → getD (m .seen) (s .number) 0 ≡ 0 → State by ib count m₀ m' buf' high' p' (s .closes) (left - 1)
+        pub onward : s .number < by .n → getD seen (s .number) 0 ≡ 0 → Stand ib by old (set seen (s .number) 1) buf' high' p' (s .closes) (left - 1)
         onward k z =
             let u : eqb (left - 1) count ≡ false = ne-eqb (left - 1) count (omega (arith, st .few)) in
             let short : length sep' ≤ K = separator-short K sep' fine in
@@ -407,33 +409,119 @@ module _ (by : Limits) (ib : List ℕ) (count : ℕ) (m₀ m : Marks) (buf high 
               fine = separator-own K sep' fine;
               inside = omega (arith, st .inside);
               few = omega (arith, st .few);
-              counts = omega (arith, st .counts);
               same = same-on k z ∙ rw u;
-              marks = st .marks ∙ marks-on;
             }
+
+        pub onward-top : closesAt w' p ≡ true → s .number < by .n → getD seen (s .number) 0 ≡ 0 → Stand ib by old (set seen (s .number) 1) buf' high' p' true (left - 1)
+        onward-top which k z =
+            let c : s .closes ≡ true = closes-is ib p by s (entry-good ib p by (eqb left count) buf high s entry .0) true which in
+            let y = onward k z in
+            rw c at y
 
   -- ---- the end
 
   module _ (done : left ≡ 0) where
     last : all ≡ both (eqb (p .right) (by .edge)) (both (eqb (p .len) 0) (both (eqb (number 2 ib (by .edge)) 0) closed))
-    last = st .same ∙ fine-done by ib (m .seen) low h' closed left done ∙ same-end by ib h' p buf high (st .held) (eqb (number 2 ib (by .edge)) 0) closed
+    last = st .same ∙ fine-done by ib seen low h' closed left done ∙ same-end by ib h' p buf high (st .held) (eqb (number 2 ib (by .edge)) 0) closed
 
     pub not-there : (p .right ≡ by .edge → ⊥) → false ≡ all
     not-there z = sym (last ∙ rw (ne-eqb (p .right) (by .edge) z))
 
-    module _ (there : p .right ≡ by .edge) where
-      pub not-empty : (p .len ≡ 0 → ⊥) → false ≡ all
-      not-empty z = sym (last ∙ rw (eq-eqb (p .right) (by .edge) there, ne-eqb (p .len) 0 z))
+    pub not-empty : p .right ≡ by .edge → (p .len ≡ 0 → ⊥) → false ≡ all
+    not-empty there z = sym (last ∙ rw (eq-eqb (p .right) (by .edge) there, ne-eqb (p .len) 0 z))
 
-      module _ (none : p .len ≡ 0) (x : ℕ) (x-is : x ≡ number 2 ib (by .edge)) where
-        pub not-zero : (x ≡ 0 → ⊥) → false ≡ all
-        not-zero z = sym (last ∙ rw (eq-eqb (p .right) (by .edge) there, eq-eqb (p .len) 0 none, ← x-is, ne-eqb x 0 z))
+    pub at-end : p .right ≡ by .edge → p .len ≡ 0 → closed ≡ true → (x : ℕ) → x ≡ number 2 ib (by .edge) → eqb x 0 ≡ all
+    at-end there none c x x-is = sym (last ∙ rw (eq-eqb (p .right) (by .edge) there, eq-eqb (p .len) 0 none, ← x-is, c) (both-yes (eqb x 0)))
 
-        pub at-end : x ≡ 0 → closed ≡ all
-        at-end z = sym (last ∙ rw (eq-eqb (p .right) (by .edge) there, eq-eqb (p .len) 0 none, ← x-is, eq-eqb x 0 z))
+    pub not-closed : closed ≡ false → false ≡ all
+    not-closed c =
+        sym (last ∙ rw (c, both-false (eqb (number 2 ib (by .edge)) 0), both-false (eqb (p .len) 0), both-false (eqb (p .right) (by .edge))))
 
-    pub marks-end : settled true m ≡ usedAll m₀ (partNumbers (partsAt w' ib (length ib - 7) (sectionAt ib) count))
-    unfolding partsAt seenAfter
-    marks-end =
-        let z : m .used + 0 ≡ m .used = omega arith in
-        sym (st .marks ∙ rw (done, z))
+  -- ---- an entry that lies left of the edge
+
+  pub no-room : 0 < left → p .right < by .edge + (by .width + 2) → false ≡ all
+  no-room more z =
+      sym (st .same ∙ off _ (λ y. omega (arith, fine-apart by ib seen low h' closed left more y .room, st .held .right)))
+
+-- ---- the walk over a section's entries
+
+-- How far it has come from its own start: whatever walk stood there stands here now; past an entry that closed no section, unless it still is at its start.
+pub record Along (ib : List ℕ) (by : Limits) (seen₀ buf₀ : List ℕ) (p₀ : Place) (more : ℕ) (seen buf : List ℕ) (p : Place) (left : ℕ) : Type 0 where
+  pub few : left ≤ more
+  pub goes : (old high : List ℕ) → Stand ib by old seen₀ buf₀ high p₀ true more → Stand ib by old seen buf high p (eqb left more) left
+
+pub set-out : (ib : List ℕ) (by : Limits) (seen buf : List ℕ) (p : Place) (more : ℕ) → Along ib by seen buf p more seen buf p more
+set-out ib by seen buf p more = record { few = omega arith; goes = λ (old high : List ℕ) st. rw (eq-eqb more more refl) st }
+
+module _ (ib : List ℕ) (by : Limits) (seen₀ buf₀ : List ℕ) (p₀ : Place) (more : ℕ) (seen buf : List ℕ) (p : Place) (left : ℕ)
+    (g : Along ib by seen₀ buf₀ p₀ more seen buf p left) (some : 0 < left) (wk : Walkable ib by) where
+  -- each way out
+  abbrev Ends : List ℕ → List ℕ → Stop → Type 0
+  Ends seen' buf' r = (old high : List ℕ) → Stand ib by old seen₀ buf₀ high p₀ true more → Stopped ib by old more seen' buf' high r
+
+  pub ends-left : (seen' buf' : List ℕ) → p .right < by .edge + (by .width + 2) → Ends seen' buf' Wrong
+  ends-left seen' buf' z = λ old high st. no-room ib by old seen buf high p (eqb left more) left (g .goes old high st) some z
+
+  pub ends-top : by .edge + (by .width + 2) ≤ p .right → p .right - (by .width + 2) ≡ p .end → Ends seen buf (At p left)
+  ends-top room z = λ old high st.
+      (reclosed ib by old seen buf high p (eqb left more) true left some (g .goes old high st), some, g .few, eq-eqb (p .right - (by .width + 2)) (p .end) z, room)
+
+  abbrev Answers : Parsed → Type 0
+  Answers x = (high : List ℕ) → by .key + 8 ≤ length high → x ≡ entryOf ib p by (eqb left (by .count)) buf high
+
+  pub ends-bad : (seen' buf' : List ℕ) (x : Parsed) → Answers x → x ≡ Bad → Ends seen' buf' Wrong
+  ends-bad seen' buf' x is bad = λ old high st.
+      let t = g .goes old high st in
+      bad-entry ib by old seen buf high p (eqb left more) left t some (wk .least) (sym (is high (tall ib by old seen buf high p (eqb left more) left t (wk .most))) ∙ bad)
+
+  module _ (x : Parsed) (s : Step) (is : Answers x) (good' : x ≡ Of s) where
+    entry : (old high : List ℕ) → Stand ib by old seen buf high p (eqb left more) left → entryOf ib p by (eqb left (by .count)) buf high ≡ Of s
+    entry old high t = sym (is high (tall ib by old seen buf high p (eqb left more) left t (wk .most))) ∙ good'
+
+    pub ends-big : (seen' buf' : List ℕ) → by .n ≤ s .number → Ends seen' buf' Wrong
+    ends-big seen' buf' z = λ old high st.
+        let t = g .goes old high st in
+        too-big ib by old seen buf high p (eqb left more) left t some (wk .least) s (entry old high t) z
+
+    pub ends-again : (seen' buf' : List ℕ) → (getD seen (s .number) 0 ≡ 0 → ⊥) → Ends seen' buf' Wrong
+    ends-again seen' buf' z = λ old high st.
+        let t = g .goes old high st in
+        again ib by old seen buf high p (eqb left more) left t some (wk .least) s (entry old high t) z
+
+    -- for the call past it
+    pub passes-on : (old high : List ℕ) → Stand ib by old seen buf high p (eqb left more) left → (s .front + s .len ≤ 510) × (s .at ≤ length ib) × (pick (s .closes) 2 0 ≤ s .at)
+    passes-on old high t =
+        passes ib p by s (good ib p by s (entry-good ib p by (eqb left (by .count)) buf high s (entry old high t) .0)) (within ib by old seen buf high p (eqb left more) left t) (wk .most)
+
+    -- and one turn
+    module _ (buf' : List ℕ) (renewed : (high : List ℕ) → by .key + 8 ≤ length high → Taken ib buf high buf' high x) (long : length buf' ≡ length buf) (p' : Place)
+        (past : p' ≡ placePast ib s p) (inner : closesAt (by .width) p ≡ false) where
+      pub goes-on : s .number < by .n → getD seen (s .number) 0 ≡ 0 → Along ib by seen₀ buf₀ p₀ more (set seen (s .number) 1) buf' p' (left - 1)
+      goes-on k z =
+          record {
+            few = omega (arith, g .few);
+            goes = λ (old high : List ℕ) st.
+                let t = g .goes old high st in
+                let tl = tall ib by old seen buf high p (eqb left more) left t (wk .most) in
+                let e = entry old high t in
+                let c : s .closes ≡ false = closes-is ib p by s (entry-good ib p by (eqb left (by .count)) buf high s e .0) false inner in
+                let u : eqb (left - 1) more ≡ false = ne-eqb (left - 1) more (omega (arith, g .few, some)) in
+                let y = onward ib by old seen buf high p (eqb left more) left t some (wk .least) s e buf' high (taken-of ib buf high buf' high x s good' (renewed high tl)) long refl p' past
+                (wk .most) k z in
+                rw u (rw c at y);
+          }
+
+-- at its end no entry is left, and none closed a section
+pub ends-open : (ib : List ℕ) (by : Limits) (seen₀ buf₀ : List ℕ) (p₀ : Place) (more : ℕ) (seen buf : List ℕ) (p : Place) (left : ℕ)
+    → Along ib by seen₀ buf₀ p₀ more seen buf p left → 0 < more → left ≡ 0 → (old high : List ℕ) → Stand ib by old seen₀ buf₀ high p₀ true more → false ≡ fineFrom by ib old (by .count)
+ends-open ib by seen₀ buf₀ p₀ more seen buf p left g some done old high st =
+    not-closed ib by old seen buf high p (eqb left more) left (g .goes old high st) done (ne-eqb left more (omega arith))
+
+-- what it tells
+pub stopped-wrong : (ib : List ℕ) (by : Limits) (old : List ℕ) (more : ℕ) (seen buf high : List ℕ) (r : Stop) → r ≡ Wrong → Stopped ib by old more seen buf high r
+    → false ≡ fineFrom by ib old (by .count)
+stopped-wrong ib by old more seen buf high r e t = rw e at t
+
+pub stopped-at : (ib : List ℕ) (by : Limits) (old : List ℕ) (more : ℕ) (seen buf high : List ℕ) (r : Stop) (p : Place) (left : ℕ) → r ≡ At p left
+    → Stopped ib by old more seen buf high r → Stopped ib by old more seen buf high (At p left)
+stopped-at ib by old more seen buf high r p left e t = rw e at t

@@ -1,6 +1,6 @@
 -- What the walk's own functions answer. These are aids that follow the code's loops and steps; nothing here has to be believed, since the
 -- check's contract cites only specs/Check.antt, and proofs/ shows that the two are the same.
-use Prim.Native.Nat.{ℕ, _+_, _-_, _*_, _≤_, _<_, _^_}
+use Prim.Native.Nat.{ℕ, _+_, _-_, _*_, _≤_, _<_}
 use mathlib.Core.Path.{_≡_}
 use mathlib.Core.Bool.{Bool, true, false}
 use mathlib.Core.List.{List, [], _∷_, _++_, map}
@@ -50,14 +50,15 @@ Ascends first front len buf ib at l r = (K : ℕ) → len ≤ K → front + l �
 abbrev pub TopAscends : Bool → ℕ → List ℕ → List ℕ → List ℕ → Step → Bool → Type 0
 TopAscends first len buf high ib s r = (K : ℕ) → len ≤ K → s .front + s .len ≤ K → r ≡ boundRises first K (take len buf) (joinedOf (s .front) high ib (s .at) (s .len))
 
--- a pass that can go on: a width and a key that were judged, a place in the record, buffers that are long enough, and a separator before that keeps the rules
-pub record Before (ib : List ℕ) (p : Place) (by : Limits) (buf high : List ℕ) : Type 0 where
+-- a pass that can go on: a width and a key that were judged, a place in the record with room for control information before it, a buffer that is
+-- long enough, and a separator before that keeps the rules
+pub record Before (ib : List ℕ) (p : Place) (by : Limits) (buf : List ℕ) : Type 0 where
   pub some : 1 ≤ by .width
   pub few : by .width ≤ 4
   pub inside : p .right + 7 ≤ length ib
+  pub room : by .edge + (by .width + 2) ≤ p .right
   pub edge : by .edge < 65536
   pub whole : by .key + 8 ≤ length buf
-  pub whole' : by .key + 8 ≤ length high
   pub short : p .len ≤ by .key
   pub low : p .high ≤ by .key
   pub held : separator (p .len) (take (p .len) buf) ≡ true
@@ -109,23 +110,8 @@ seenAfter seen (x ∷ xs) = seenAfter (set seen x 1) xs
 abbrev pub emptyMarks : Marks
 emptyMarks = record { seen = replicate limit 0; used = 0; free = 0; ok = true }
 
--- the same with a verdict
-abbrev pub settled : Bool → Marks → Marks
-settled ok m = record { seen = m .seen; used = m .used; free = m .free; ok = ok }
-
-abbrev pub freeAll : Marks → List ℕ → Marks
-freeAll m xs = record { seen = seenAfter (m .seen) xs; used = m .used; free = m .free + length xs; ok = true }
-
-abbrev pub usedAll : Marks → List ℕ → Marks
-usedAll m xs = record { seen = seenAfter (m .seen) xs; used = m .used + length xs; free = m .free; ok = true }
-
 -- the entries keep the rules, and their numbers are new
 unfoldable pub fineFrom : Limits → List ℕ → List ℕ → ℕ → Bool
 fineFrom by ib seen count =
     let ps = partsAt (by .width) ib (length ib - 7) (sectionAt ib) count in
     both (chain (by .width) (by .key) (by .edge) ib (length ib - 7) false [] [] [] ps) (marking (by .n) seen (partNumbers ps))
-
--- ---- what the walk asks: a width and a key that were judged, an edge that two bytes tell, marks that can still count so many
-abbrev pub Walkable : List ℕ → Limits → Marks → ℕ → Type 0
-Walkable ib by marks count =
-    (1 ≤ by .width) × (by .width ≤ 4) × (31 ≤ length ib) × (by .edge + 2 ≤ length ib) × (by .edge < 65536) × (1 ≤ by .key) × (by .key ≤ 255) × (by .n ≤ limit) × (marks .used + count < 2 ^ 64)

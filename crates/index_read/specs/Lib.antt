@@ -1,3 +1,4 @@
 pub mod Check
 pub mod AidParsing
 pub mod AidWalk
+pub mod AidStand

@@ -1,28 +1,26 @@
 // The index record, read and judged in one walk.
-ghost use Prim.Native.Nat.{_+_, _-_, _*_, _≤_, _<_, _^_};
+ghost use Prim.Native.Nat.{ℕ, _+_, _-_, _*_, _≤_, _<_};
 ghost use mathlib.Core.Path.{_≡_};
 ghost use mathlib.Core.Bool.{true, false};
-ghost use mathlib.Core.List.{[]};
+ghost use mathlib.Core.List.{List};
 ghost use lib.ListN.{length, getD, take};
 ghost use Rattle.fields.specs.Bytes.{part, number};
 ghost use Rattle.measures.specs.Judgement.{limit};
 ghost use Rattle.index.specs.Bounds.{bound, separator};
 ghost use Rattle.index.specs.Rules.{baseFine};
-ghost use Rattle.index.specs.Reading.{sectionAt, numbersAt, frame};
-ghost use Rattle.sections.specs.Reading.{partsAt};
-ghost use Rattle.index_step.specs.AidStep.{reach, extendedBy, copiedFrom};
+ghost use Rattle.index.specs.Reading.{numbersAt, frame};
 ghost use Rattle.index_read.specs.Check.{indexBy, indexOf};
-ghost use Rattle.index_read.specs.AidParsing.{parsedOf};
-ghost use Rattle.index_read.specs.AidWalk.{Ascends, TopAscends, placesOf, Before, entryOf, Taken, marking};
-ghost use Rattle.index_read.specs.AidWalk.{fineFrom, partNumbers, emptyMarks, settled, freeAll, usedAll, Walkable};
+ghost use Rattle.index_read.specs.AidParsing.{closesAt, parsedOf};
+ghost use Rattle.index_read.specs.AidWalk.{Ascends, placesOf, Before, entryOf, Taken, marking, seenAfter, emptyMarks, fineFrom};
+ghost use Rattle.index_read.specs.AidStand.{Walkable, Stand, Stood, Stopped};
 use fields::Order;
 use index_step::BUFFER;
 use index_step::Place;
 use index_step::Step;
 use measures::LIMIT;
 
-// Which interval numbers were met, how many of them as free and by entries, and whether all that was met kept the rules. One struct goes through
-// both walks: one that held it besides the verdict would be copied once more for each.
+// Which interval numbers were met, how many of them as free and by entries, and whether all that was met kept the rules. One struct goes through both walks;
+// their loops have its marks lent, so that nothing is copied within a walk.
 pub(crate) struct Marks {
     pub seen: [u8; LIMIT],
     pub used: usize,
@@ -43,12 +41,19 @@ pub(crate) enum Places {
 }
 
 // What the entries are judged by: the bytes of a pointer, where the last of them must begin with its section's field, how many intervals there
-// are, the key's length.
+// are, how many of them have an entry, the key's length.
 pub(crate) struct Limits {
     pub width: usize,
     pub edge: usize,
     pub n: usize,
+    pub count: usize,
     pub key: usize,
+}
+
+// Where a section's highest was met, and how many entries are left from it on.
+pub(crate) enum Stop {
+    At { p: Place, left: usize },
+    Wrong,
 }
 
 // What the check of an index record answers.
@@ -57,27 +62,23 @@ pub enum Index {
     Unsound,
 }
 
-// The next entry. It must not begin left of `edge`, nor must the field before it, if it is the highest of its section; F is at most the length of the separator
-// that it refers to, and the separator that F and L make has at most `key` bytes. F and L are bytes, so their sum may reach 510.
-pub(crate) fn piece_at(ib: &[u8], p: Place, by: Limits) -> Parsed
-    requires { ⌜ (1 ≤ by .width) × (by .width ≤ 4) × (p .right ≤ length (now ib)) × (by .edge < 65536) ⌝ }
+// The next entry, whose control information lies right of `edge`. It must not begin left of it, nor must the field before it, if it is the highest of its section;
+// F is at most the length of the separator that it refers to, and the separator that F and L make has at most `key` bytes. F and L are bytes, so their sum may
+// reach 510. The caller tells whether it is the highest: so each of the two ways is compiled by itself, without a choice left in it.
+pub(crate) fn piece_at(ib: &[u8], p: Place, by: Limits, closes: bool) -> Parsed
+    requires { ⌜ (1 ≤ by .width) × (by .width ≤ 4) × (p .right ≤ length (now ib)) × (by .edge + (by .width + 2) ≤ p .right) × (by .edge < 65536) ⌝ }
+    requires which { ⌜ closesAt (by .width) p ≡ closes ⌝ }
     ensures { λ x. ⌜ x ≡ parsedOf (now (ib .entry)) p by ⌝ }
 {
     let w = by.width;
     let r = p.right;
-    if r < by.edge + (w + 2) {
-        return Parsed::Bad;
-    }
     let l = fields::wide(ib[r - (w + 1)]);
-    if r < by.edge + (w + 2 + l) {
+    let field = if closes { 2 } else { 0 };
+    if r < by.edge + (w + 2 + l + field) {
         return Parsed::Bad;
     }
     let s = index_step::entry_at(ib, w, p);
-    let field = if s.closes { 2 } else { 0 };
-    if s.at < by.edge + field {
-        return Parsed::Bad;
-    }
-    let most = if s.closes { p.high } else { p.len };
+    let most = if closes { p.high } else { p.len };
     if most < s.front {
         return Parsed::Bad;
     }
@@ -146,47 +147,41 @@ pub(crate) fn last_of(buf: &[u8], len: usize) -> u8
     buf[len - 1]
 }
 
-// Whether the bound of an entry that is no section's highest is above that of the one before, the first `len` bytes of buf, which then begins with its separator.
-pub(crate) fn inner(buf: &mut [u8], first: bool, len: usize, ib: &[u8], s: Step) -> bool
-    requires { ⌜ (s .front ≤ len) × (len + 8 ≤ length (now buf)) × (s .front + s .len + 8 ≤ length (now buf)) × (s .at + reach (s .len) ≤ length (now ib)) ⌝ }
-    requires held { ⌜ separator len (take len (now buf)) ≡ true ⌝ }
-    ensures rises { λ r. ⌜ Ascends first (s .front) len (now (buf .entry)) (now (ib .entry)) (s .at) (s .len) r ⌝ }
-    ensures renewed { λ _. ⌜ now (buf .exit) ≡ extendedBy (now (ib .entry)) s (now (buf .entry)) ⌝ }
+// The next entry, no section's highest, with every rule on its separator: the place, F, the length, the order of the bounds, the last byte. The buffer begins
+// with the separator before it, and afterwards with its own. A wrong entry ends the walk, so that nothing is stored of one.
+pub(crate) fn next_inner(buf: &mut [u8], first: bool, ib: &[u8], p: Place, by: Limits) -> Parsed
+    requires { ⌜ Before (now ib) p by (now buf) ⌝ }
+    requires which { ⌜ closesAt (by .width) p ≡ false ⌝ }
+    ensures is { λ x. ⌜ ((high : List ℕ) → by .key + 8 ≤ length high → x ≡ entryOf (now (ib .entry)) p by first (now (buf .entry)) high) ⌝ }
+    ensures renewed { λ x. ⌜ ((high : List ℕ) → by .key + 8 ≤ length high → Taken (now (ib .entry)) (now (buf .entry)) high (now (buf .exit)) high x) ⌝ }
 {
-    let r = ascends(buf, first, s.front, len, ib, s.at, s.len);
-    index_step::extend(buf, s.front, ib, s.at, s.len);
-    r
-}
-
-// The same of a section's highest. It is compressed against the highest of the section before, with which `high` begins, so that its F tells nothing of the one
-// before it, and all bytes are compared. Then both buffers begin with its separator.
-pub(crate) fn topmost(
-    buf: &mut [u8],
-    first: bool,
-    len: usize,
-    high: &mut [u8],
-    ib: &[u8],
-    s: Step,
-) -> bool
-    requires { ⌜ (len + 8 ≤ length (now buf)) × (s .front + s .len + 8 ≤ length (now buf)) × (s .front + s .len + 8 ≤ length (now high)) × (s .at + reach (s .len) ≤ length (now ib)) ⌝ }
-    requires held { ⌜ separator len (take len (now buf)) ≡ true ⌝ }
-    ensures rises { λ r. ⌜ TopAscends first len (now (buf .entry)) (now (high .entry)) (now (ib .entry)) s r ⌝ }
-    ensures renewed { λ _. ⌜ (now (buf .exit) ≡ copiedFrom (extendedBy (now (ib .entry)) s (now (high .entry))) (s .front + s .len) (now (buf .entry))) × (now (high .exit) ≡ extendedBy (now (ib .entry)) s (now (high .entry))) ⌝ }
-{
-    index_step::extend(high, s.front, ib, s.at, s.len);
-    let z = s.front + s.len;
-    let r = if first {
-        true
-    } else {
-        compares(buf, 0, len, high, 0, z)
+    let Parsed::Of(s) = piece_at(ib, p, by, false) else {
+        return Parsed::Bad;
     };
-    index_step::extend(buf, 0, high, 0, z);
-    r
+    if !ascends(buf, first, s.front, p.len, ib, s.at, s.len) {
+        return Parsed::Bad;
+    }
+    index_step::extend(buf, s.front, ib, s.at, s.len);
+    if last_of(buf, s.front + s.len) == 255 {
+        return Parsed::Bad;
+    }
+    Parsed::Of(s)
 }
 
-// The next entry, with every rule on its separator: the place, F, the length, the order of the bounds, the last byte. The buffers begin with the separator before
-// it and with the highest of the section before, and afterwards with those before the entry after it.
-pub(crate) fn next_entry(
+// Whether the bound of a section's highest, the first z bytes of `high`, is above that of the entry before, the first `len` bytes of buf. It is compressed against
+// the highest of the section before, so that its F tells nothing of the one before it, and all bytes are compared.
+pub(crate) fn topmost(buf: &[u8], first: bool, len: usize, high: &[u8], z: usize) -> bool
+    requires { ⌜ (len ≤ length (now buf)) × (z ≤ length (now high)) × (separator len (take len (now buf)) ≡ true) ⌝ }
+    ensures { λ r. ⌜ Ascends first 0 len (now (buf .entry)) (now (high .entry)) 0 z r ⌝ }
+{
+    if first {
+        return true;
+    }
+    compares(buf, 0, len, high, 0, z)
+}
+
+// The same of a section's highest. `high` begins with the highest of the section before, and afterwards both buffers begin with this one.
+pub(crate) fn next_top(
     buf: &mut [u8],
     high: &mut [u8],
     first: bool,
@@ -194,22 +189,22 @@ pub(crate) fn next_entry(
     p: Place,
     by: Limits,
 ) -> Parsed
-    requires { ⌜ Before (now ib) p by (now buf) (now high) ⌝ }
+    requires { ⌜ Before (now ib) p by (now buf) ⌝ }
+    requires which { ⌜ closesAt (by .width) p ≡ true ⌝ }
+    requires tall { ⌜ by .key + 8 ≤ length (now high) ⌝ }
     ensures is { λ x. ⌜ x ≡ entryOf (now (ib .entry)) p by first (now (buf .entry)) (now (high .entry)) ⌝ }
     ensures renewed { λ x. ⌜ Taken (now (ib .entry)) (now (buf .entry)) (now (high .entry)) (now (buf .exit)) (now (high .exit)) x ⌝ }
 {
-    let Parsed::Of(s) = piece_at(ib, p, by) else {
+    let Parsed::Of(s) = piece_at(ib, p, by, true) else {
         return Parsed::Bad;
     };
-    let rises = if s.closes {
-        topmost(buf, first, p.len, high, ib, s)
-    } else {
-        inner(buf, first, p.len, ib, s)
-    };
-    if !rises {
+    index_step::extend(high, s.front, ib, s.at, s.len);
+    let z = s.front + s.len;
+    if !topmost(buf, first, p.len, high, z) {
         return Parsed::Bad;
     }
-    if last_of(buf, s.front + s.len) == 255 {
+    index_step::extend(buf, 0, high, 0, z);
+    if last_of(buf, z) == 255 {
         return Parsed::Bad;
     }
     Parsed::Of(s)
@@ -227,80 +222,133 @@ pub(crate) fn fresh() -> Marks
     }
 }
 
-// A walk's way out.
-pub(crate) fn judged(ok: bool, marks: Marks) -> Marks
-    ensures { λ r. ⌜ r ≡ settled ok marks ⌝ }
-{
-    let mut m = marks;
-    m.ok = ok;
-    m
-}
-
 // Marks each of the free numbers; refuses one that is not below n, or is marked already.
-pub(crate) fn walk_free(marks: Marks, ib: &[u8], w: usize, count: usize, n: usize) -> Marks
-    requires { ⌜ (1 ≤ w) × (w ≤ 4) × (24 + w * count ≤ length (now ib)) × (n ≤ limit) × (marks .free + count < 2 ^ 64) ⌝ }
-    ensures sound { λ r. ⌜ r .ok ≡ marking n (marks .seen) (numbersAt w (now (ib .entry)) 24 count) ⌝ }
-    ensures marks { λ r. ⌜ (r .ok ≡ true → r ≡ freeAll marks (numbersAt w (now (ib .entry)) 24 count)) ⌝ }
+pub(crate) fn mark_free(seen: &mut [u8; LIMIT], ib: &[u8], w: usize, count: usize, n: usize) -> bool
+    requires { ⌜ (1 ≤ w) × (w ≤ 4) × (24 + w * count ≤ length (now ib)) × (n ≤ limit) ⌝ }
+    ensures sound { λ r. ⌜ r ≡ marking n (now (seen .entry)) (numbersAt w (now (ib .entry)) 24 count) ⌝ }
+    ensures marks { λ r. ⌜ (r ≡ true → now (seen .exit) ≡ seenAfter (now (seen .entry)) (numbersAt w (now (ib .entry)) 24 count)) ⌝ }
 {
-    let mut m = marks;
     let mut at = 24;
     let mut left = count;
     while 0 < left {
         let number = fields::read_pointer(ib, at, w);
         if n <= number {
-            return judged(false, m);
+            return false;
         }
-        if m.seen[number] != 0 {
-            return judged(false, m);
+        if seen[number] != 0 {
+            return false;
         }
-        m.seen[number] = 1;
-        m.free = m.free + 1;
+        seen[number] = 1;
         at += w;
         left -= 1;
     }
-    judged(true, m)
+    true
 }
 
-// Walks `count` entries from the RDF leftwards and marks their numbers. The last must close a section, begin at the edge with that section's field, which must be
-// zero, and have an empty separator. The fields are followed as they are met: one that leads nowhere leaves the last entry without a section that it closes.
-pub(crate) fn walk_entries(marks: Marks, ib: &[u8], count: usize, by: Limits) -> Marks
-    requires { ⌜ Walkable (now ib) by marks count ⌝ }
-    ensures sound { λ r. ⌜ r .ok ≡ fineFrom by (now (ib .entry)) (marks .seen) count ⌝ }
-    ensures marks { λ r. ⌜ (r .ok ≡ true → r ≡ usedAll marks (partNumbers (partsAt (by .width) (now (ib .entry)) (length (now (ib .entry)) - 7) (sectionAt (now (ib .entry))) count))) ⌝ }
+// The walk over the free numbers.
+pub(crate) fn walk_free(marks: Marks, ib: &[u8], w: usize, count: usize, n: usize) -> Marks
+    requires { ⌜ (1 ≤ w) × (w ≤ 4) × (24 + w * count ≤ length (now ib)) × (n ≤ limit) ⌝ }
+    ensures sound { λ r. ⌜ r .ok ≡ marking n (marks .seen) (numbersAt w (now (ib .entry)) 24 count) ⌝ }
+    ensures marks { λ r. ⌜ (r .ok ≡ true → r .seen ≡ seenAfter (marks .seen) (numbersAt w (now (ib .entry)) 24 count)) ⌝ }
+    ensures counts { λ r. ⌜ (r .free ≡ count) × (r .used ≡ marks .used) ⌝ }
 {
     let mut m = marks;
-    let mut buf = [0u8; BUFFER];
-    let mut high = [0u8; BUFFER];
-    let mut p = index_step::start(ib);
-    let mut closed = false;
-    let mut left = count;
+    let ok = mark_free(&mut m.seen, ib, w, count, n);
+    m.ok = ok;
+    m.free = count;
+    m
+}
+
+// Walks the entries of a section leftwards up to its highest, and marks their numbers. Of `left` entries the last must close a section, so that one must be met.
+// These are nearly all entries, and their loop has nothing else in it: what it needs stays in registers.
+pub(crate) fn walk_inner(
+    seen: &mut [u8; LIMIT],
+    buf: &mut [u8],
+    ib: &[u8],
+    from: Place,
+    more: usize,
+    by: Limits,
+) -> Stop
+    requires { ⌜ Walkable (now ib) by × (0 < more) ⌝ }
+    requires stands { ⌜ Stood (now ib) by (now seen) (now buf) from more ⌝ }
+    ensures { λ r. ⌜ ((old high : List ℕ) → Stand (now (ib .entry)) by old (now (seen .entry)) (now (buf .entry)) high from true more → Stopped (now (ib .entry)) by old more (now (seen .exit)) (now (buf .exit)) high r) ⌝ }
+{
+    let w = by.width;
+    let mut p = from;
+    let mut left = more;
     while 0 < left {
-        let Parsed::Of(s) = next_entry(&mut buf, &mut high, left == count, ib, p, by) else {
-            return judged(false, m);
+        let r = p.right;
+        if r < by.edge + (w + 2) {
+            return Stop::Wrong;
+        }
+        if r - (w + 2) == p.end {
+            return Stop::At { p, left };
+        }
+        let Parsed::Of(s) = next_inner(buf, left == by.count, ib, p, by) else {
+            return Stop::Wrong;
         };
         let number = s.number;
         if by.n <= number {
-            return judged(false, m);
+            return Stop::Wrong;
         }
-        if m.seen[number] != 0 {
-            return judged(false, m);
+        if seen[number] != 0 {
+            return Stop::Wrong;
         }
-        m.seen[number] = 1;
-        m.used = m.used + 1;
-        closed = s.closes;
+        seen[number] = 1;
         p = index_step::past(ib, s, p);
         left -= 1;
     }
+    Stop::Wrong
+}
+
+// Walks all entries from the RDF leftwards, section by section, and marks their numbers. The last must close a section, begin at the edge with that section's
+// field, which must be zero, and have an empty separator. The fields are followed as they are met: one that leads nowhere leaves a section without its highest.
+pub(crate) fn mark_entries(seen: &mut [u8; LIMIT], ib: &[u8], by: Limits) -> bool
+    requires { ⌜ Walkable (now ib) by × (0 < by .count) ⌝ }
+    ensures { λ r. ⌜ r ≡ fineFrom by (now (ib .entry)) (now (seen .entry)) (by .count) ⌝ }
+{
+    let mut buf = [0u8; BUFFER];
+    let mut high = [0u8; BUFFER];
+    let mut p = index_step::start(ib);
+    let mut left = by.count;
+    while 0 < left {
+        let Stop::At { p: q, left: l } = walk_inner(seen, &mut buf, ib, p, left, by) else {
+            return false;
+        };
+        let Parsed::Of(s) = next_top(&mut buf, &mut high, l == by.count, ib, q, by) else {
+            return false;
+        };
+        let number = s.number;
+        if by.n <= number {
+            return false;
+        }
+        if seen[number] != 0 {
+            return false;
+        }
+        seen[number] = 1;
+        p = index_step::past(ib, s, q);
+        left = l - 1;
+    }
     if p.right != by.edge {
-        return judged(false, m);
+        return false;
     }
     if p.len != 0 {
-        return judged(false, m);
+        return false;
     }
-    if fields::read_two(ib, by.edge) != 0 {
-        return judged(false, m);
-    }
-    judged(closed, m)
+    fields::read_two(ib, by.edge) == 0
+}
+
+// The walk over the entries.
+pub(crate) fn walk_entries(marks: Marks, ib: &[u8], by: Limits) -> Marks
+    requires { ⌜ Walkable (now ib) by × (0 < by .count) ⌝ }
+    ensures sound { λ r. ⌜ r .ok ≡ fineFrom by (now (ib .entry)) (marks .seen) (by .count) ⌝ }
+    ensures counts { λ r. ⌜ (r .free ≡ marks .free) × (r .used ≡ by .count) ⌝ }
+{
+    let mut m = marks;
+    let ok = mark_entries(&mut m.seen, ib, by);
+    m.ok = ok;
+    m.used = by.count;
+    m
 }
 
 // Whether header values, RDF and CIDF are as they must be. The pointer indicator has a bit for each byte of a pointer.
@@ -404,13 +452,15 @@ pub(crate) fn check_with(ib: &[u8], key: usize, n: usize, w: usize) -> Index
     if !f.ok {
         return Index::Unsound;
     }
+    let count = n - free;
     let by = Limits {
         width: w,
         edge: edge,
         n: n,
+        count: count,
         key: key,
     };
-    let e = walk_entries(f, ib, n - free, by);
+    let e = walk_entries(f, ib, by);
     if !e.ok {
         return Index::Unsound;
     }
