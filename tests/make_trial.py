@@ -12,7 +12,7 @@ Where the cases of the two former test programs are now:
 | data: endings, fitting, source figure, largest empty | endings, fitting, largest_empty |
 | records: figure 38, shorter after longer | figure_38 of trial_sections.py, shorter_after_longer |
 | areas: data rules, index rules | sound_varieties, several_rules, and rules_alone |
-| areas: gets, gets at | gets, addresses |
+| areas: gets, gets at | gets (and trial_gets.py), addresses |
 
 | edges_change | here |
 |---|---|
@@ -22,6 +22,7 @@ Where the cases of the two former test programs are now:
 import os
 
 import model
+import trial_gets
 import trial_sections
 from layout import area_of, bent, data_interval, index_interval, kept_bytes
 from model import Measures
@@ -475,7 +476,7 @@ def larger(t, size):
 
 def main():
     t = Script()
-    for part in (measures, sound_varieties, several_rules, rules_alone, gets, addresses, runs, endings, largest_empty, index_cut,
+    for part in (measures, sound_varieties, several_rules, rules_alone, gets, *trial_gets.CASES, addresses, runs, endings, largest_empty, index_cut,
                  shorter_after_longer, *trial_sections.CASES, fitting, three_parts, updates, shortenings, shortened_pairs, refusals, far_cut,
                  record_bytes, joined, emptied, behind, short_fronts):
         part(t)

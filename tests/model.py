@@ -1,4 +1,4 @@
-"""A model of document 01, as document 02 amends it (L5, L6): what each request comes to on any bytes, under any measures.
+"""A model of document 01, as document 02 amends it (L4, L5, L6): what each request comes to on any bytes, under any measures.
 
 It follows the papers (document 01; where that is open, docs/DECISIONS.md, whose points are cited as C2, D1 and so on) and knows nothing
 of the program. An area is bytes. Each request gives an answer, which is a number and its values, and the bytes of area and output
@@ -168,6 +168,12 @@ class Index(NamedTuple):
     free: list
     entries: list
 
+    def entry_of(self, key):
+        """The place of the first entry whose separator is at least the key's first bytes, as many as the separator has."""
+        for place, (separator, _) in enumerate(self.entries):
+            if key[:len(separator)] <= separator:
+                return place
+
 
 def read_index(interval, m, n, without=None):
     """The index record of an area of n data intervals; Unsound where a rule is broken."""
@@ -253,34 +259,43 @@ class Content(NamedTuple):
     index: Index
     data: list
 
-    def entry_of(self, key):
-        """The place of the first entry whose separator is at least the key's first bytes, as many as the separator has."""
-        for place, (separator, _) in enumerate(self.index.entries):
-            if key[:len(separator)] <= separator:
-                return place
-
     def records_of(self, place):
         return list(self.data[self.index.entries[place][1]])
 
 
 def opened(area, m, without=None):
     """What the area holds, or the answer 1, or 2 with the place: 0 the index, else the lowest unsound data interval's number + 1."""
+    index = opened_index(area, m, without)
+    if isinstance(index, Answer):
+        return index
+    ranges, data = ranges_of(index, m), []
+    for k in range(len(area) // m.size - 1):
+        records = opened_interval(area, m, k, k in index.free, ranges.get(k, []), without)
+        if isinstance(records, Answer):
+            return records
+        data.append(records)
+    return Content(index, data)
+
+
+def opened_index(area, m, without=None):
+    """The area's index, or the answer 1, or 2 with the place 0."""
     n = m.judge(len(area))
     if n is None:
         return Answer(1)
     try:
-        index = read_index(area[:m.size], m, n, without)
+        return read_index(area[:m.size], m, n, without)
     except Unsound:
         return Answer(2, (0,))
-    ranges, data = ranges_of(index, m), []
-    for k in range(n):
-        try:
-            records = read_interval(area[(k + 1) * m.size:(k + 2) * m.size], m, without)
-            judge_role(records, m, k in index.free, ranges.get(k, []), asking(without))
-        except Unsound:
-            return Answer(2, (k + 1,))
-        data.append(records)
-    return Content(index, data)
+
+
+def opened_interval(area, m, k, is_free, ranges, without=None):
+    """The records of the data interval k, or the answer 2 with its place."""
+    try:
+        records = read_interval(area[(k + 1) * m.size:(k + 2) * m.size], m, without)
+        judge_role(records, m, is_free, ranges, asking(without))
+    except Unsound:
+        return Answer(2, (k + 1,))
+    return records
 
 
 def ranges_of(index, m):
@@ -312,13 +327,18 @@ def check(area, m, without=None):
 
 
 def get(area, m, key, out):
-    """Answer and output. The order is 1, 2, 3, 5, 8."""
-    content = opened(area, m)
-    if isinstance(content, Answer):
-        return content, out
+    """Answer and output. The order is 1, 2 at the index record, 3, 2 at the interval that the key leads to, 5, 8. No other interval is
+    looked at, in use or free (document 02, L4)."""
+    index = opened_index(area, m)
+    if isinstance(index, Answer):
+        return index, out
     if len(key) != m.key:
         return Answer(3), out
-    for record in content.records_of(content.entry_of(key)):
+    k = index.entries[index.entry_of(key)][1]
+    records = opened_interval(area, m, k, False, ranges_of(index, m)[k])
+    if isinstance(records, Answer):
+        return records, out
+    for record in records:
         if m.key_of(record) == key:
             return handed(record, out)
     return Answer(5), out
@@ -365,7 +385,7 @@ def put(area, m, record, is_new):
     if not m.least <= len(record) <= m.most:
         return Answer(3), area
     key = m.key_of(record)
-    place = content.entry_of(key)
+    place = content.index.entry_of(key)
     records = content.records_of(place)
     lower = [other for other in records if m.key_of(other) < key]
     higher = [other for other in records if m.key_of(other) > key]
@@ -382,7 +402,7 @@ def erase(area, m, key):
         return content, area
     if len(key) != m.key:
         return Answer(3), area
-    place = content.entry_of(key)
+    place = content.index.entry_of(key)
     records = content.records_of(place)
     left = [record for record in records if m.key_of(record) != key]
     if left == records:

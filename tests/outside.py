@@ -1,10 +1,11 @@
 #!/usr/bin/env python3
 """tests/outside.py [SHARED_OBJECT]: the program, through C, against the model, on areas that the crates' own programs do not reach.
 
-The script of the program `trial`; all 28 interval sizes; 200 intervals of 2,048, 256 of 32,768 and 1,000 of 4,096; 4,096 of 10,240 and of 32,768; on each a sequence of requests, damaged
-copies, hostile measures; at each size one field after another with other values; each link of the sections' chain with every value that a record has;
-areas filled until 6 or 7. Answers, values, outputs and every byte of what is lent are compared. They are the same cases each time: the chance in them
-has fixed seeds. Without a shared object it is made first. The last line is `N compared, M different`; the status is 0 only where M is 0.
+The script of the program `trial`; all 28 interval sizes; 200 intervals of 2,048, 256 of 32,768 and 1,000 of 4,096; 4,096 of 10,240 and of 32,768; on each a
+sequence of requests, damaged copies, gets by key with damage in the key's interval and elsewhere, hostile measures; at each size one field after another with
+other values; each link of the sections' chain with every value that a record has; keys at both ends of each entry's range; areas filled until 6 or 7. Answers,
+values, outputs and every byte of what is lent are compared. They are the same cases each time: the chance in them has fixed seeds. Without a shared object it is
+made first. The last line is `N compared, M different`; the status is 0 only where M is 0.
 """
 import os
 import random
@@ -38,6 +39,13 @@ def damages(comparing, made, area, count):
         comparing.ask(letter, hurt, made.m, content, address, out)
 
 
+def lookups(comparing, made, area, count):
+    """Gets by key on copies that are damaged in the index record, in the key's interval or elsewhere; sometimes the key has a wrong length."""
+    for _ in range(count):
+        hurt, key, out = random_areas.lookup(made, area)
+        comparing.ask("G", hurt, made.m, key, 0, out)
+
+
 def strange_measures(comparing, made, area, count):
     for _ in range(count):
         letter, content, address, out = random_areas.request(made)
@@ -54,6 +62,7 @@ def each_size(comparing):
             made = random_areas.Made(r, random_areas.measures(r, size), r.randint(1, 5))
             area = requests(comparing, made, 40)
             damages(comparing, made, area, 20)
+            lookups(comparing, made, area, 60)
             strange_measures(comparing, made, area, 10)
 
 
@@ -80,18 +89,38 @@ def each_field(comparing):
         for at, width in fields(made.area, made.m):
             old, top = model.number(made.area, at, width), 256 ** width
             for new in {old + 1, old - 1, old + 3, old - 3, 0, top - 1, old ^ (top // 2), limit if width == 4 else 0, limit + 1 if width == 4 else 0}:
-                comparing.ask("C", bent(made.area, at, (new % top).to_bytes(width, "big")), made.m)
+                hurt = bent(made.area, at, (new % top).to_bytes(width, "big"))
+                comparing.ask("C", hurt, made.m)
+                comparing.ask("G", hurt, made.m, random_areas.near_bound(made))
 
 
 def each_link(comparing):
-    """Nine entries in sections of three, and in others; every displacement within the record for each link and for the last entry, and some beyond."""
+    """Nine entries in sections of three, and in others; every displacement within the record for each link and for the last entry, and some beyond. The check, and
+    gets by keys that lead to the first entry, to one in the midst and to the last."""
     m = model.Measures(512, 0, 4, 60)
     entries = [(separator, number) for number, separator in enumerate((b"A", b"BAC", b"BA", b"BCA", b"BCC", b"BD", b"C", b"D", b""))]
     for sections in (None, [1, 5, 2, 1], [8, 1]):
         area = area_of(512, entries, [10, 9], {3: [b"BC01", b"BC02"]}, sections=sections)
         for at in [20, 22] + random_areas.field_places(area, m):
             for value in list(range(513)) + [1024, 32768, 65535]:
-                comparing.ask("C", bent(area, at, value.to_bytes(2, "big")), m)
+                hurt = bent(area, at, value.to_bytes(2, "big"))
+                comparing.ask("C", hurt, m)
+                for key in (b"A001", b"BC02", b"E001"):
+                    comparing.ask("G", hurt, m, key)
+
+
+def each_lead(comparing):
+    """Every record's key and the keys beside each bound, in index records with few entries and many, short separators and long ones, other sections, other Fs."""
+    for turn in range(60):
+        r = random.Random("lead %d" % turn)
+        size = r.choice([512, 1024, 1024, 2048])
+        made = random_areas.Edged(r, random_areas.measures(r, size), r.choice([2, 8, 30, 300 if size == 1024 else 60]))
+        keys = [made.m.key_of(record) for records in made.data.values() for record in records]
+        for separator, _ in made.entries:
+            bound, lowest = made.m.bound_of(separator), separator.ljust(made.m.key, b"\0")
+            keys += [random_areas.beside(bound, 1), random_areas.beside(bound, 2), lowest, random_areas.beside(lowest, -1)]
+        for key in keys:
+            comparing.ask("G", made.area, made.m, key)
 
 
 def no_room(comparing):
@@ -99,7 +128,9 @@ def no_room(comparing):
     for turn in range(60):
         r = random.Random("crowded %d" % turn)
         made = random_areas.crowded(r)
-        damages(comparing, made, requests(comparing, made, 20), 5)
+        area = requests(comparing, made, 20)
+        damages(comparing, made, area, 5)
+        lookups(comparing, made, area, 40)
         for area, m in (random_areas.overlapping(r), random_areas.no_entries(r), random_areas.old_form(r)):
             comparing.ask("C", area, m)
 
@@ -116,6 +147,7 @@ def large(comparing, size, n, used, each, count):
     made = random_areas.Even(random.Random("large %d %d" % (size, n)), n, used, each, size)
     area = requests(comparing, made, count)
     damages(comparing, made, area, count // 2)
+    lookups(comparing, made, area, count // 2)
     strange_measures(comparing, made, area, 4)
 
 
@@ -130,6 +162,9 @@ def most(comparing, size):
         area = comparing.ask(letter, area, m, content, address, out).area
     for at, new in ((2, b"\3\1"), (2, b"\4\1"), (24, b"\x10\x00"), (24, b"\x0f\xa0"), (18, b"\x20\x00")):
         comparing.ask("C", bent(area, at, new), m)
+    hurt = bent(area, size, b"\xff" * 2 * size)     # nothing left of interval 0, where the last entry leads, and of a free one
+    for key in (b"10000002", records[-1][:8], b"20000001", b"30000000", b"3"):
+        comparing.ask("G", hurt, m, key, 0, bytes(60))
 
 
 def most_named(comparing):
@@ -147,6 +182,7 @@ def beyond(comparing):
     m = model.Measures(512, 0, 8, 60)
     for n in (256, 257, 4095, 4096, 4097):
         comparing.ask("C", bytes(512 * (n + 1)), m)
+        comparing.ask("G", bytes(512 * (n + 1)), m, b"A0000001")
 
 
 def filled_up(comparing, size, n, long):
@@ -184,6 +220,7 @@ def main(words):
     each_size(comparing)
     each_field(comparing)
     each_link(comparing)
+    each_lead(comparing)
     for size in (512, 1024, 4096):
         filled_up(comparing, size, 40, size // 4)
     filled_up(comparing, 512, 127, 200)

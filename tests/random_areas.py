@@ -192,6 +192,29 @@ class Even(Made):
         return data
 
 
+def key_like(r, m, separators, letters):
+    """A key that begins as one of the separators does, and goes on by chance."""
+    separator = r.choice(separators)
+    return (separator[:r.randint(0, len(separator))] + bytes(r.choices(letters, k=m.key)))[:m.key]
+
+
+class Edged(Made):
+    """An area whose intervals in use have records at both ends of their range, beside them, and under keys that begin as some separator does, as many as
+    fit: a search that leads to a neighbour finds none of them."""
+
+    def records(self):
+        r, m, lowest, data = self.r, self.m, 0, {}
+        separators = [separator for separator, _ in self.entries]
+        pool = [int.from_bytes(key_like(r, m, separators, self.letters), "big") for _ in range(8 * len(separators))]
+        for separator, number in self.entries:
+            own = int.from_bytes(m.bound_of(separator), "big")
+            keys = [key for key in dict.fromkeys([lowest, own, lowest + 1, own - 1] + pool) if lowest <= key <= own]
+            fits = sum(need <= m.size for need in needs([m.least] * len(keys))) - 1
+            data[number] = [self.record(key.to_bytes(m.key, "big"), m.least) for key in sorted(keys[:fits])]
+            lowest = own + 1
+        return data
+
+
 # ---- damage
 
 def damaged(r, area, m):
@@ -286,6 +309,42 @@ def somewhere(r, area, m):
                      start + m.offset + r.randrange(m.key), r.randrange(len(area))])
 
 
+def hurt_index(r, area, m):
+    """The index record, damaged in any of its fields or exchanged for a data interval."""
+    while True:
+        hurt = damaged(r, area[:2 * m.size], m)[:m.size]
+        if hurt != area[:m.size]:
+            return hurt
+
+
+def hurt_interval(r, area, m, k):
+    """Data interval k, damaged in any way that a rule speaks of: flag, displacement, unused space, RDFs, keys, the bytes of another or of none. Seldom it is
+    still sound."""
+    size = m.size
+    new = bytearray(area[size * (k + 1):size * (k + 2)])
+    d, u = model.number(new, size - 4), model.number(new, size - 2)
+    kind = r.randrange(9)
+    if kind == 0:
+        new[size - 2] ^= 0x80
+    elif kind == 1:
+        by = r.choice([-3, -1, 1, 3])
+        new[size - 4:] = ((d + by) % 65536).to_bytes(2, "big") + ((u + r.choice([0, -by])) % 65536).to_bytes(2, "big")
+    elif kind == 2:
+        new[size - 4 - 3 * r.randint(1, max((size - 4 - d - u) // 3, 1))] = r.choice([0x00, 0x04, 0x08, 0x10, 0x20, 0x40, 0x48, 0x80])
+    elif kind == 3:
+        at = size - 3 * r.randint(2, 4)
+        new[at:at + 2] = ((model.number(new, at) + r.choice([1, -1, 3, -3])) % 65536).to_bytes(2, "big")
+    elif kind == 4:
+        new[:] = r.choice([bytes(size), b"\xff" * size, r.randbytes(size)])
+    elif kind == 5:
+        at = size * r.randrange(len(area) // size)
+        new[:] = area[at:at + size]
+    else:
+        at = min(m.offset + r.choice([0, m.key - 1, r.randrange(m.key)]) + r.choice([0, 0, m.least, max(d - m.least, 0)]), size - 1)
+        new[at] = r.choice([0, 255, (new[at] + 1) % 256, (new[at] + 255) % 256])
+    return bytes(new)
+
+
 def overlapping(r):
     """An area, and its measures, that breaks one rule alone: its only free number, 0, is the first byte of the last section's field, with
     which the entries begin."""
@@ -354,6 +413,29 @@ def request(made):
     if r.random() < 0.9:
         length = min(max(length, m.least), m.most)
     return letter, made.record(key, max(length, 0)), 0, b""
+
+
+def lookup(made, area):
+    """A get by key on a copy of the sound area that there is by now, with damage that counts for this key or does not: in the index record, in the interval that
+    the key leads to, in one other, in some or in all. Gives the copy, the key and the output."""
+    r, m = made.r, made.m
+    index = model.opened_index(area, m)
+    parts = [area[at:at + m.size] for at in range(0, len(area), m.size)]
+    records = model.read_interval(parts[r.choice(index.entries)[1] + 1], m)
+    record = r.choice(records) if records else made.record(near_bound(made), m.least)
+    key = r.choice([m.key_of(record)] * 4 + [beside(m.key_of(record), r.choice([1, -1])), made.key(), near_bound(made)])
+    own = index.entries[index.entry_of(key)][1]
+    others = [k for k in range(len(parts) - 1) if k != own]
+    kind = r.random()
+    if kind < 0.15:
+        parts[0] = hurt_index(r, area, m)
+    if 0.1 < kind < 0.45:
+        parts[own + 1] = hurt_interval(r, area, m, own)
+    if 0.4 < kind:
+        for k in r.sample(others, min(len(others), r.choice([1, 3, 40]))):
+            parts[k + 1] = hurt_interval(r, area, m, k)
+    out = bytes([0xEE]) * r.choice([len(record), len(record), m.most, max(len(record) - 1, 0), 0])
+    return b"".join(parts), r.choice([key] * 12 + [key + b"A", key[:-1], b""]), out
 
 
 def near_bound(made):

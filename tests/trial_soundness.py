@@ -62,6 +62,7 @@ def interval_sizes(t):
 
 ENTRIES = [(b"AB", 0), (b"C", 2), (b"", 1)]
 DATA = {0: [b"AA01HHHH", b"AB01KKKK"], 1: [b"DD01EEEEE"], 2: [b"BB01HHHH", b"CC01KKKKKKK"]}
+KEYS = (b"AA01", b"BB01", b"DD01")
 SOUND = area_of(SIZE, ENTRIES, [3], DATA)
 FIRST, SECOND, THIRD, FREE = (SIZE * place for place in (1, 2, 3, 4))
 
@@ -102,10 +103,17 @@ def with_end(body, fields, d, u):
 
 
 def tried(t, name, area, m=M4, number=None):
+    """The check of an area, then gets by key, which judge less: the index record as the check does, then no interval but their own. A wrong length is 3
+    right after the index record."""
     t.text(name)
     t.lay(area)
     answer = t.ask("C", m)
     assert number is None or answer.number == number, name
+    for key in KEYS:
+        got = t.ask("G", m, key.ljust(m.key, b"."))
+        own = got.number == answer.number == 2 and got.values >= answer.values
+        assert got == answer if answer == (2, (0,)) else own or got.number in (5, 8), (name, key, got)
+    t.answers(t.ask("G", m, bytes(m.key + 1)), *((2, 0) if answer == (2, (0,)) else (3,)))
 
 
 def sound_varieties(t):
@@ -170,7 +178,8 @@ def several_rules(t):
 
 
 def places(t):
-    """Which place is told, and that 2 stands before 3 in every request (D13 to D15, F1)."""
+    """Which place is told, and that 2 stands before 3 in every request but get by key, where 3 stands right after the index (D13 to D15, F1; document
+    02, L4)."""
     t.text("== the place")
     busy = {place: bent(SOUND, place + 510, b"\x81") for place in (FIRST, SECOND, THIRD, FREE)}
     for name, area, place in (("index before data", bent(busy[FIRST], 16, b"\2"), 0),
@@ -185,7 +194,8 @@ def places(t):
     t.text("each request of an area with damage, with lengths that would be 3")
     t.lay(busy[THIRD])
     for letter in "CGRIUE":
-        t.answers(t.ask(letter, M4, b"" if letter in "CR" else b"A", out=5 if letter in "GR" else 0), 2, 3)
+        come = (3,) if letter == "G" else (2, 3)
+        t.answers(t.ask(letter, M4, b"" if letter in "CR" else b"A", out=5 if letter in "GR" else 0), *come)
     t.text("a buffer cut by an interval, and by two")
     t.lay(SOUND)
     t.answers(t.ask("C", M4, lent=4 * SIZE), 2, 0)
@@ -336,6 +346,12 @@ def offset_area(length):
     return area_of(SIZE, [(b"", 0)], [], {0: [(b"....." + key)[:long] for key, long in ((b"AA0", length), (b"AA01", 9))]})
 
 
+def led(area, m, key):
+    """The number of the interval that a key leads to, where the index record is sound."""
+    index = model.opened_index(area, m)
+    return index.entries[index.entry_of(key)][1]
+
+
 def rules_alone(t):
     """Leaving that one rule out changes the answer to 0, and leaving out any other changes nothing: so the area breaks it alone."""
     t.text("== each rule broken alone")
@@ -346,6 +362,8 @@ def rules_alone(t):
         for other in model.RULES:
             assert other == rule or model.check(area, m, without=other) == (2, place), (rule, name, other)
         assert (place == (0,)) == (rule in model.INDEX_RULES), (rule, name)
+        for key in KEYS if rule in model.DATA_RULES else ():
+            assert (model.get(area, m, key, b"")[0] == (2, place)) == (led(area, m, key) + 1 in place), (rule, name, key)
         met.add(rule)
         tried(t, "%s: %s" % (rule, name), area, m)
     assert met == set(model.RULES), set(model.RULES) - met

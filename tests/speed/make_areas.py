@@ -1,8 +1,9 @@
 #!/usr/bin/env python3
-"""Writes the five areas that speed.c times requests on, two more for stack.c, and two with few and with many intervals: make_areas.py FOLDER.
+"""Writes the five areas that speed.c times requests on, two more for stack.c, two with few and with many intervals, and the three of get.c:
+make_areas.py FOLDER.
 
 Records of 60 bytes, keys of 8 decimal digits at the front; in c6 records of 6 bytes, all of them key, so that an interval has thousands. The intervals in use are filled evenly but for the middle one, which is
-full, so that one record more divides it. NAME.ci is the area; NAME.txt has S, n, the number of entries, a key that is there, one right
+full, so that one record more divides it; in the areas of get.c all are full. NAME.ci is the area; NAME.txt has S, n, the number of entries, a key that is there, one right
 behind it that is not, and a key that divides.
 """
 import os
@@ -20,7 +21,10 @@ AREAS = [("a20", 512, 20, 2, 100, 60, 8),
          ("b20", 32768, 20, 2, 8825, 60, 8),
          ("c6", 32768, 6, 2, 20459, 6, 6),
          ("m256", 10240, 256, 236, 3000, 60, 8),
-         ("m4096", 10240, 4096, 3776, 48000, 60, 8)]
+         ("m4096", 10240, 4096, 3776, 48000, 60, 8),
+         ("g50", 2048, 54, 4, 50 * 33, 60, 8),
+         ("g100", 2048, 104, 4, 100 * 33, 60, 8),
+         ("g200", 2048, 204, 4, 200 * 33, 60, 8)]
 
 
 def main(folder):

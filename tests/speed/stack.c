@@ -1,4 +1,5 @@
-/* Measures the stack that each request takes: stack FOLDER BUILD.so. FOLDER holds the areas that make_areas.py wrote.
+/* Measures the stack that each request takes: stack FOLDER BUILD.so. FOLDER holds the areas that make_areas.py wrote; BUILD.so is crate `exports` or crate `scanner`, which has
+   no changes and takes its words in another order.
    A request runs on a stack of its own that was painted before; how far down the paint is gone is what it took. That is the compiler's
    doing, on this machine, and no proof covers it. */
 #define _GNU_SOURCE
@@ -13,11 +14,15 @@ typedef size_t (*check_t)(const uint8_t *, size_t, size_t, size_t, size_t, size_
 typedef size_t (*get_t)(const uint8_t *, size_t, size_t, size_t, size_t, size_t, const uint8_t *, size_t, uint8_t *, size_t, size_t *);
 typedef size_t (*change_t)(uint8_t *, size_t, size_t, size_t, size_t, size_t, const uint8_t *, size_t, size_t *);
 
+typedef uint64_t (*scan_check_t)(size_t, size_t, size_t, size_t, const uint8_t *, size_t);
+typedef uint64_t (*scan_get_t)(size_t, size_t, size_t, size_t, const uint8_t *, size_t, const uint8_t *, size_t, uint8_t *, size_t);
+
 enum { STACK = 1 << 20, PAINT = 0xA5 };
 enum what { CHECK, GET, UPDATE, INSERT, ERASE, DIVIDE, KINDS };
 static const char *names[KINDS] = {"check", "get", "update", "insert", "erase", "dividing insert"};
 
 static struct { check_t check; get_t get; change_t insert, update, erase; } build;
+static struct { scan_check_t check; scan_get_t get; } scanner;
 static struct { size_t size, n, used, long_, key, record; uint8_t *bytes, *work; char there[9], beside[9], middle[9]; } area;
 static ucontext_t here, there;
 static enum what now;
@@ -30,6 +35,11 @@ static void request(void)
     const char *key = now == INSERT ? area.beside : now == DIVIDE ? area.middle : area.there;
     memset(record, 'x', sizeof record);
     memcpy(record, key, k);
+    if (scanner.check) {
+        answer = (now == CHECK ? scanner.check(area.size, 0, k, r, area.work, area.long_)
+                               : scanner.get(area.size, 0, k, r, area.work, area.long_, record, k, out, sizeof out)) & 0xFF;
+        return;
+    }
     switch (now) {
     case CHECK: answer = build.check(area.work, area.long_, area.size, 0, k, r, &x, &y); break;
     case GET: answer = build.get(area.work, area.long_, area.size, 0, k, r, record, k, out, sizeof out, &x); break;
@@ -91,16 +101,21 @@ int main(int argc, char **argv)
     void *lib = dlopen(argv[2], RTLD_NOW | RTLD_LOCAL);
     if (!lib)
         return fprintf(stderr, "%s\n", dlerror()), 1;
-    build.check = need(lib, "belquita_check");
-    build.get = need(lib, "belquita_get");
-    build.insert = need(lib, "belquita_insert");
-    build.update = need(lib, "belquita_update");
-    build.erase = need(lib, "belquita_erase");
+    if (dlsym(lib, "belquita_insert")) {
+        build.check = need(lib, "belquita_check");
+        build.get = need(lib, "belquita_get");
+        build.insert = need(lib, "belquita_insert");
+        build.update = need(lib, "belquita_update");
+        build.erase = need(lib, "belquita_erase");
+    } else {
+        scanner.check = need(lib, "belquita_check");
+        scanner.get = need(lib, "belquita_get");
+    }
     uint8_t *stack = aligned_alloc(4096, STACK);
     for (int k = 0; k < 6; k++) {
         read_area(argv[1], areas[k]);
         printf("S %zu, records of %zu:", area.size, area.record);
-        for (now = 0; now < KINDS; now++) {
+        for (now = 0; now < (scanner.check ? GET + 1 : KINDS); now++) {
             size_t t = taken(stack);
             printf("  %s %zu%s", names[now], t, answer ? " (refused)" : "");
         }

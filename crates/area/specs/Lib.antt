@@ -5,3 +5,4 @@ pub mod Layout
 pub mod Roles
 pub mod Example
 pub mod Checked
+pub mod Leads

@@ -1,5 +1,5 @@
 -- The promises of one request, said of what a caller of the register's function learns: each is the promise of that name, through `allowed`.
-use Prim.Native.Nat.{ℕ}
+use Prim.Native.Nat.{ℕ, _+_}
 use mathlib.Core.Path.{_≡_, refl}
 use mathlib.Core.List.{List}
 use mathlib.Core.Logic.{_↔_}
@@ -7,13 +7,15 @@ use lib.ListN.{length}
 use Rattle.fields.specs.Bytes.{Octets}
 use Rattle.measures.specs.Judgement.{measures, countOf}
 use Rattle.measures.specs.declared.Measures.{Measures}
-use Rattle.area.specs.Content.{Content, recordsOf}
+use Rattle.index.specs.Meaning.{Meaning}
+use Rattle.area.specs.Content.{Content, indexIn, recordsOf}
+use Rattle.area.specs.Layout.{Lent, IndexInterval}
 use Rattle.area.specs.Reading.{whole, readArea}
 use Rattle.requests.specs.Answers.{numberOf}
 use Rattle.requests.specs.Model.{Change, insert, update, erase, Legal}
 use Rattle.requests.specs.Allowed.{Request, check, get, getAt, changes, Allowed}
 use Rattle.requests.specs.declared.Answer.{Answer}
-use Rattle.requests.specs.declared.Answer.the-variants.{Intact}
+use Rattle.requests.specs.declared.Answer.the-variants.{Intact, Damaged}
 use Rattle.promises.specs.Harmless.{Refusal}
 use Rattle.promises.specs.Alike.{handedBack}
 use Rattle.promises.specs.Wrong.{lentBy}
@@ -22,12 +24,14 @@ use Rattle.promises.specs.Trace.{Sound}
 use Rattle.promises.specs.Changes.{SpreadsFewest, OnlyNamedWritten, CountsTrue, CutPrescribed}
 use Rattle.promises.specs.Tables.{First, WantOfInterval, WantOfRoom, tableFor}
 use Rattle.promises.specs.Values.{ValuesExact}
+use Rattle.promises.specs.Local.{SameFor, DamagedHome}
 use Rattle.promises.proofs.Refused.{refused-harmless}
 use Rattle.promises.proofs.Exact.{refusals-exact}
 use Rattle.promises.proofs.Values.{values-exact}
 use Rattle.promises.proofs.Wants.{want-of-interval, want-of-room}
 use Rattle.promises.proofs.Changes.{spreads-fewest, only-named-written, counts-true, cut-prescribed, check-true}
 use Rattle.promises.proofs.Unique.{one-result}
+use Rattle.promises.proofs.Local.{get-local, get-damage-placed}
 use Rattle.called.proofs.Called.{Called, allowed}
 
 module _ (size offset key most : ℕ) (area : List ℕ) where
@@ -61,6 +65,21 @@ module _ (size offset key most : ℕ) (area : List ℕ) where
   pub check-true-called : (m : Measures) (n : ℕ) (c : Content) → Sound size offset key most m n area c → (a : Answer) (after out : List ℕ)
       → Called size offset key most area check a after out → a ≡ Intact (length (recordsOf (c .filled))) (length (c .free))
   check-true-called m n c s a after out k = check-true size offset key most m n area c s a (allowed size offset key most area check a after out k .1)
+
+  -- ---- get by key
+
+  pub get-local-called : (area' wanted : List ℕ) → SameFor size offset key most area area' wanted → (lent : List ℕ) (a b : Answer) (after after' out out' : List ℕ)
+      → Called size offset key most area (get wanted lent) a after out → Called size offset key most area' (get wanted lent) b after' out' → (a ≡ b) × (out ≡ out')
+  get-local-called area' wanted s lent a b after after' out out' k l =
+      get-local size offset key most area area' wanted s lent a b after after' out out' (allowed size offset key most area (get wanted lent) a after out k)
+      (allowed size offset key most area' (get wanted lent) b after' out' l)
+
+  pub get-damage-placed-called : Lent (measures size offset key most) (countOf size (length area)) area → (wanted : List ℕ) → Octets wanted
+      → (lent : List ℕ) (a : Answer) (after out : List ℕ) → Called size offset key most area (get wanted lent) a after out
+      → ((a ≡ Damaged 0) ↔ ((ix : Meaning) → IndexInterval (measures size offset key most) (countOf size (length area)) ix (indexIn (measures size offset key most) area) → ⊥))
+      × ((k : ℕ) → (a ≡ Damaged (k + 1)) ↔ DamagedHome (measures size offset key most) (countOf size (length area)) area wanted k)
+  get-damage-placed-called l wanted b lent a after out k =
+      get-damage-placed size offset key most area l wanted b lent a after out (allowed size offset key most area (get wanted lent) a after out k)
 
 -- ---- changes
 

@@ -1,15 +1,20 @@
--- What the check's answer says, for those who asked.
+-- What the check's answer says, alone and with a key, for those who asked.
 use Prim.Native.Nat.{ℕ}
-use mathlib.Core.Path.{_≡_, refl}
+use mathlib.Core.Path.{_≡_, refl, _∙_, sym, ap}
 use mathlib.Core.Bool.{Bool, true, false}
 use mathlib.Core.List.{List, []}
-use lib.ListN.{length}
+use lib.ListN.{length, take}
 use native.Mathlib.Omega.{arith}
 use Rattle.fields.specs.Choice.{pick}
+use Rattle.fields.specs.Bytes.{splice}
+use Rattle.fields.proofs.Splices.{take-front}
 use Rattle.measures.specs.Judgement.{widthFor}
 use Rattle.sections.specs.Reading.{readIndex, soundIndex}
-use Rattle.index_read.specs.Check.{indexBy, indexOf}
+use Rattle.index_read.specs.Check.{indexBy, indexOf, soundFor, lowFor, entryAt, spotOf, soughtOf, Seeks}
 use Rattle.index_read.specs.declared.Index.the-variants.{Sound, Unsound}
+use Rattle.index_read.specs.declared.Spot.{Spot}
+use Rattle.index_read.specs.declared.Sought.{Sought}
+use Rattle.index_read.specs.declared.Sought.the-variants as sought
 
 pub record Judged (K n : ℕ) (ib : List ℕ) (free entries : ℕ) : Type 0 where
   pub sound : soundIndex (widthFor n) K n [] [] ib ≡ true
@@ -35,3 +40,37 @@ answer-unsound K n ib = go (soundIndex (widthFor n) K n [] [] ib)
     go : (t : Bool) → pick t (Sound (length (readIndex (widthFor n) n ib .free)) (length (readIndex (widthFor n) n ib .entries))) Unsound ≡ Unsound → t ≡ false
     go true h = absurd (let z : _≡_ {A = ℕ} 0 1 = cc in omega arith)
     go false h = refl
+
+-- ---- with a key
+
+-- the record is sound, the entry is the one that the key leads to, and both buffers begin with the separators
+pub record Led (n : ℕ) (ib key : List ℕ) (s : Spot) (before own : List ℕ) : Type 0 where
+  pub sound : soundFor n ib key ≡ true
+  pub spot : s ≡ spotOf n ib key
+  pub low : take (s .before) before ≡ lowFor n ib key
+  pub high : take (s .own) own ≡ entryAt n ib key .sep
+
+module _ (n : ℕ) (ib key before own : List ℕ) (r : Sought) (before' own' : List ℕ) (k : Seeks n ib key before own r before' own') where
+  pub answer-led : (s : Spot) → r ≡ sought.At s → Led n ib key s before' own'
+  unfolding soughtOf
+  answer-led s e = go (soundFor n ib key) refl (sym e ∙ k .answers) (k .low) (k .high)
+    where
+      go : (t : Bool) → soundFor n ib key ≡ t → sought.At s ≡ pick t (sought.At (spotOf n ib key)) sought.Unsound → before' ≡ pick t (splice before 0 (lowFor n ib key)) before
+          → own' ≡ pick t (splice own 0 (entryAt n ib key .sep)) own → Led n ib key s before' own'
+      go true t h b o =
+          let m : s ≡ spotOf n ib key = cc in
+          record {
+            sound = t;
+            spot = m;
+            low = rw b (take-front before (lowFor n ib key) (s .before) (ap (λ (x : Spot). x .before) m));
+            high = rw o (take-front own (entryAt n ib key .sep) (s .own) (ap (λ (x : Spot). x .own) m));
+          }
+      go false t h b o = absurd (let z : _≡_ {A = ℕ} 0 1 = cc in omega arith)
+
+  pub answer-not-led : r ≡ sought.Unsound → soundFor n ib key ≡ false
+  unfolding soughtOf
+  answer-not-led e = go (soundFor n ib key) (sym e ∙ k .answers)
+    where
+      go : (t : Bool) → sought.Unsound ≡ pick t (sought.At (spotOf n ib key)) sought.Unsound → t ≡ false
+      go true h = absurd (let z : _≡_ {A = ℕ} 0 1 = cc in omega arith)
+      go false h = refl

@@ -9,7 +9,7 @@ use borrow.Author.Tests.{eq-eqb, le-leb}
 use Rattle.fields.specs.Choice.{both}
 use Rattle.fields.specs.Bytes.{part, number}
 use Rattle.fields.proofs.Choices.{false-true, both-split, both-join, off}
-use Rattle.measures.specs.Judgement.{limit}
+use Rattle.measures.specs.Judgement.{limit, widthFor}
 use Rattle.index.specs.Meaning.{Entry, named, namedOnce}
 use Rattle.index.specs.Rules.{closed, baseFine}
 use Rattle.index.specs.Reading.{unusedAt, lastAt, sectionAt, freeCount, numbersAt, frame}
@@ -21,13 +21,14 @@ use Rattle.sections.specs.Reading.{partsAt, partsIn, readIndex, places, soundIn
 use Rattle.sections.proofs.Sounding.{Sound, sound-apart}
 use Rattle.sections.proofs.Chains.{Followed, followed}
 use Rattle.sections.proofs.Laying.{ahead-some, ahead-most}
-use Rattle.sections.proofs.Sizes.{length-spellAll}
 use Rattle.sections.proofs.Apart.{length-partsAt, entries-are}
 use Rattle.index_step.proofs.Stepping.{entries-count}
-use Rattle.index_read.specs.Check.{indexBy}
 use Rattle.index_read.specs.AidWalk.{placesOf, chain, partNumbers, marking, seenAfter, fineFrom}
+use Rattle.index_read.specs.AidSeek.{FoundBy}
+use Rattle.index_read.specs.AidJudged.{JudgedAs}
 use Rattle.index_read.specs.declared.Limits.{Limits}
-use Rattle.index_read.specs.declared.Index.the-variants.{Sound as SoundWith, Unsound}
+use Rattle.index_read.specs.declared.Spot.{Spot}
+use Rattle.index_read.specs.declared.Verdict.the-variants.{Sound as SoundWith}
 use Rattle.index_read.specs.declared.Places.the-variants.{At, Nowhere}
 use Rattle.index_read.proofs.Header.{Lies, place-good, place-bad}
 use Rattle.index_read.proofs.Ending.{closed-long, last-field, spread-apart, spread-joined}
@@ -210,20 +211,22 @@ module _ (w K n : ℕ) (ib : List ℕ) where
 
 -- ---- the ways out
 
-module _ (w K n : ℕ) (ib : List ℕ) where
-  pub unsound : (soundIndex w K n [] [] ib ≡ true → ⊥) → Unsound ≡ indexBy w K n ib
-  unfolding indexBy
-  unsound h = sym (rw (off (soundIndex w K n [] [] ib) h))
+module _ (w K n : ℕ) (ib : List ℕ) (is : w ≡ widthFor n) where
+  abbrev Refused : Type 0
+  Refused = soundIndex (widthFor n) K n [] [] ib ≡ false
 
-  pub no-frame : false ≡ frame w ib → Unsound ≡ indexBy w K n ib
+  unsound : (soundIndex w K n [] [] ib ≡ true → ⊥) → Refused
+  unsound h = ap (λ (x : ℕ). soundIndex x K n [] [] ib) (sym is) ∙ off (soundIndex w K n [] [] ib) h
+
+  pub no-frame : false ≡ frame w ib → Refused
   unfolding soundIndex
   no-frame h = unsound (λ p. false-true (h ∙ both-split (frame w ib) _ p .0))
 
-  pub no-base : false ≡ baseFine (length ib) n (part ib 4 12) → Unsound ≡ indexBy w K n ib
+  pub no-base : false ≡ baseFine (length ib) n (part ib 4 12) → Refused
   unfolding readIndex
   no-base h = unsound (λ p. false-true (h ∙ rules-apart (length ib) K n [] [] (readIndex w n ib) (sound-apart w K n [] [] ib p .rules) .base))
 
-  pub no-places : placesOf w n ib ≡ Nowhere → Unsound ≡ indexBy w K n ib
+  pub no-places : placesOf w n ib ≡ Nowhere → Refused
   no-places h = unsound (λ p. place-bad w n ib h (sound-lies w K n ib p))
 
   module _ (f : true ≡ frame w ib) (b : true ≡ baseFine (length ib) n (part ib 4 12)) (big : n ≤ limit) (c e : ℕ) (at : placesOf w n ib ≡ At c e) where
@@ -265,22 +268,29 @@ module _ (w K n : ℕ) (ib : List ℕ) where
     by-both = rw (c-is, e-is) (sound-by w K n ib (sym f) (sym b) l big)
 
     module _ (m₀ : List ℕ) (em : m₀ ≡ none-yet) where
-      pub no-free : false ≡ marking n m₀ free → Unsound ≡ indexBy w K n ib
+      pub no-free : false ≡ marking n m₀ free → Refused
       no-free h = unsound (λ p. false-true (h ∙ ap (λ (m : List ℕ). marking n m free) em ∙ both-split (marking n none-yet free) _ (sym by-both ∙ p) .0))
 
       module _ (ok₁ : true ≡ marking n m₀ free) (seen : List ℕ) (marked : seen ≡ seenAfter m₀ free) where
         by-walk : soundIndex w K n [] [] ib ≡ fineFrom by ib seen (n - c)
         by-walk = by-both ∙ rw (← em, ← ok₁, ← marked)
 
-        pub no-chain : false ≡ fineFrom by ib seen (n - c) → Unsound ≡ indexBy w K n ib
+        pub no-chain : false ≡ fineFrom by ib seen (n - c) → Refused
         no-chain h = unsound (λ p. false-true (h ∙ sym by-walk ∙ p))
 
-        pub all-fine : true ≡ fineFrom by ib seen (n - c) → (x y : ℕ) → x ≡ c → y ≡ n - c → SoundWith x y ≡ indexBy w K n ib
-        unfolding indexBy readIndex partsIn
-        all-fine ok₂ x y x-is y-is =
-            let s : soundIndex w K n [] [] ib ≡ true = by-walk ∙ sym ok₂ in
-            let ps' : List Part = partsAt w ib (length ib - 7) (sectionAt ib) (n - c) in
-            let a : x ≡ length free = x-is ∙ sym (length-numbersAt w ib 24 c) in
-            let d : y ≡ length ps' = y-is ∙ sym (length-partsAt w ib (length ib - 7) (sectionAt ib) (n - c)) in
-            let z : SoundWith x y ≡ SoundWith (length free) (length ps') = ap (λ (u : ℕ). SoundWith u y) a ∙ ap (λ (u : ℕ). SoundWith (length free) u) d in
-            z ∙ sym (rw (s, ← c-is, length-spellAll [] [] ps'))
+        free-long : c ≡ length (readIndex w n ib .free)
+        unfolding readIndex
+        free-long = c-is ∙ sym (length-numbersAt w ib 24 (freeCount w ib))
+
+        entries-long : n - c ≡ length (readIndex w n ib .entries)
+        entries-long = omega (arith, entries-count w n ib, c-is)
+
+        pub all-fine : true ≡ fineFrom by ib seen (n - c) → (wanted before own : List ℕ) (spot : Spot) → (0 < length wanted → FoundBy w (n - c) ib wanted spot before own)
+            → (x y : ℕ) → x ≡ c → y ≡ n - c → JudgedAs K n ib wanted before own (SoundWith x y spot)
+        all-fine ok₂ wanted before own spot found x y x-is y-is =
+            rw (← is) (
+              by-walk ∙ sym ok₂,
+              x-is ∙ free-long,
+              y-is ∙ entries-long,
+              λ (x : 0 < length wanted). rw (← entries-long) (found x),
+            )

@@ -4,8 +4,11 @@ pub mod Header
 pub mod Next
 pub mod Chain
 pub mod Marking
+pub mod Reaching
 pub mod Walking
+pub mod Finding
 pub mod Ending
 pub mod Judging
+pub mod Seeking
 pub mod Answers
 pub mod Unique

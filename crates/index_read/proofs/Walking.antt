@@ -3,11 +3,12 @@ use Prim.Native.Nat.{ℕ, suc, _+_, _-_, _≤_, _<_}
 use mathlib.Core.Path.{_≡_, refl, _∙_, sym, ap}
 use mathlib.Core.Bool.{Bool, true, false}
 use mathlib.Core.List.{List, [], _∷_, _++_}
+use mathlib.Core.Logic.{_⊎_, inl, inr, ⊎-elim}
 use lib.ListN.{length, getD, take, set, replicate, length-append, length-replicate}
 use lib.Seq.{length-take-le, take-take}
 use lib.Dec.{eqb, leb, ltb}
 use native.Mathlib.Omega.{arith}
-use borrow.Author.Tests.{lt-ltb, eq-eqb, ne-eqb, le-leb, ltb-true, eqb-true, leb-true}
+use borrow.Author.Tests.{lt-ltb, eq-eqb, ne-eqb, le-leb, ltb-true, eqb-true, eqb-false, leb-true}
 use Rattle.fields.specs.Choice.{pick, both, no}
 use Rattle.fields.specs.Bytes.{number}
 use Rattle.fields.specs.Order.{orderOf, less}
@@ -27,7 +28,9 @@ use Rattle.index_step.proofs.Passing.{held-on}
 use Rattle.index_step.proofs.Stepping.{held-start}
 use Rattle.index_read.specs.AidParsing.{closesAt, parses}
 use Rattle.index_read.specs.AidWalk.{boundRises, Before, nextIn, entryOf, Taken, chain, marking, fineFrom}
-use Rattle.index_read.specs.AidStand.{Walkable, fineAt, lowOf, Stand, Stopped}
+use Rattle.index_read.specs.AidSeek.{reachOf, reachPast, lookOf, Search}
+use Rattle.index_read.specs.AidStand.{Walkable, fineAt, lowOf, Stand, Paused, Stopped}
+use Rattle.index_read.specs.declared.Leg.{Leg}
 use Rattle.index_read.specs.declared.Limits.{Limits}
 use Rattle.index_read.specs.declared.Parsed.{Parsed}
 use Rattle.index_read.specs.declared.Parsed.the-variants.{Of, Bad}
@@ -35,6 +38,7 @@ use Rattle.index_read.specs.declared.Stop.{Stop}
 use Rattle.index_read.specs.declared.Stop.the-variants.{At, Wrong}
 use Rattle.index_read.proofs.Entry.{Good, good, passes, parses-joined}
 use Rattle.index_read.proofs.Next.{closes-is, entry-good, entry-bad, taken-of}
+use Rattle.index_read.proofs.Reaching.{search-start, search-skip, search-look, search-turn, not-sought-at-end}
 
 -- ---- the tests, entry by entry
 
@@ -136,9 +140,9 @@ fine-open by ib seen low h t u left more = fine-step by ib seen low h t left mor
 
 -- ---- how far the walk has come
 
-pub reclosed : (ib : List ℕ) (by : Limits) (old seen buf high : List ℕ) (p : Place) (t u : Bool) (left : ℕ) → 0 < left → Stand ib by old seen buf high p t left
-    → Stand ib by old seen buf high p u left
-reclosed ib by old seen buf high p t u left more st =
+pub reclosed : (ib : List ℕ) (by : Limits) (key old seen buf high : List ℕ) (p : Place) (t u : Bool) (left reach : ℕ) → 0 < left
+    → Stand ib by key old seen buf high p t left reach → Stand ib by key old seen buf high p u left reach
+reclosed ib by key old seen buf high p t u left reach more st =
     record {
       h = st .h;
       held = st .held;
@@ -150,13 +154,15 @@ reclosed ib by old seen buf high p t u left more st =
       inside = st .inside;
       few = st .few;
       same = st .same ∙ fine-open by ib seen (lowOf (eqb left (by .count)) (by .key) (st .h .ref)) (st .h) t u left more;
+      search = st .search;
+      keyed = st .keyed;
     }
 
-pub start : (ib : List ℕ) (by : Limits) (old : List ℕ) (p : Place) → p ≡ placeStart ib → 31 ≤ length ib → 0 < by .count
-    → Stand ib by old old (replicate 263 0) (replicate 263 0) p true (by .count)
-start ib by old p is large some =
+pub start : (ib : List ℕ) (by : Limits) (key old : List ℕ) (p : Place) (reach : ℕ) → p ≡ placeStart ib → 31 ≤ length ib → 0 < by .count → reach ≤ 1
+    → (0 < reach → length key ≡ by .key) → Stand ib by key old old (replicate 263 0) (replicate 263 0) p true (by .count) reach
+start ib by key old p reach is large some few keyed =
     let k : length {A = ℕ} (replicate 263 0) ≡ 263 = length-replicate {A = ℕ} 263 0 in
-    reclosed ib by old old (replicate 263 0) (replicate 263 0) p false true (by .count) some
+    reclosed ib by key old old (replicate 263 0) (replicate 263 0) p false true (by .count) reach some
     (record {
       h = hereFirst ib;
       held = rw is (held-start ib (replicate 263 0) (replicate 263 0) (omega (arith, k)) (omega (arith, k)));
@@ -168,6 +174,8 @@ start ib by old p is large some =
       inside = omega arith;
       few = omega arith;
       same = fine-first by ib old (by .count) ∙ rw (eq-eqb (by .count) (by .count) refl);
+      search = search-start ib by key reach few;
+      keyed = keyed;
     })
 
 -- a separator for keys of one length is one for any length that it fits in
@@ -191,6 +199,9 @@ both-yes : (x : Bool) → both x true ≡ x
 both-yes true = refl
 both-yes false = refl
 
+none-closed : (a b x t : Bool) → t ≡ false → both a (both b (both x t)) ≡ false
+none-closed a b x t e = rw (e, both-false x, both-false b) (both-false a)
+
 empty-is : (xs : List ℕ) → empty xs ≡ eqb (length xs) 0
 empty-is [] = refl
 empty-is (x ∷ xs) = sym (ne-eqb (suc (length xs)) 0 (omega arith))
@@ -202,6 +213,36 @@ pick-length false a b = refl
 pick-short : (t : Bool) (a b : List ℕ) (K : ℕ) → length a ≤ K → length b ≤ K → length (pick t a b) ≤ K
 pick-short true a b K x y = x
 pick-short false a b K x y = y
+
+-- the reach past an entry that is no section's highest: by a look at it where its F is below the reach, else the same
+abbrev pub Reached : List ℕ → Place → Limits → List ℕ → ℕ → ℕ → Type 0
+Reached ib p by key reach r =
+    ((frontAt (by .width) ib (p .right) < reach) × (r ≡ lookOf ib p by key reach) × (0 < r)) ⊎ ((reach ≤ frontAt (by .width) ib (p .right)) × (r ≡ reach))
+
+-- as code finds it: f is the entry's F
+module _ (ib : List ℕ) (p : Place) (by : Limits) (key : List ℕ) (reach r f : ℕ) (is : f ≡ frontAt (by .width) ib (p .right)) where
+  pub by-look : (l : ℕ) → f < reach → l ≡ lookOf ib p by key reach → (l ≡ 0 → ⊥) → r ≡ l → Reached ib p by key reach r
+  by-look l z l-is some e = inl (omega (arith, z, is), e ∙ l-is, omega (arith, some, e))
+
+  pub by-front : reach ≤ f → r ≡ reach → Reached ib p by key reach r
+  by-front z e = inr (omega (arith, z, is), e)
+
+reached-sought : (ib : List ℕ) (p : Place) (by : Limits) (key : List ℕ) (reach r : ℕ) → Reached ib p by key reach r → 0 < reach → 0 < r
+reached-sought ib p by key reach r x some =
+    ⊎-elim (λ (y : (frontAt (by .width) ib (p .right) < reach) × (r ≡ lookOf ib p by key reach) × (0 < r)). y .2)
+    (λ (y : (reach ≤ frontAt (by .width) ib (p .right)) × (r ≡ reach)). rw (y .1) some) x
+
+sought-reached : (ib : List ℕ) (p : Place) (by : Limits) (key : List ℕ) (reach r : ℕ) → Reached ib p by key reach r → 0 < r → 0 < reach
+sought-reached ib p by key reach r x some =
+    ⊎-elim (λ (y : (frontAt (by .width) ib (p .right) < reach) × (r ≡ lookOf ib p by key reach) × (0 < r)). omega (arith, y .0))
+    (λ (y : (reach ≤ frontAt (by .width) ib (p .right)) × (r ≡ reach)). omega (arith, y .1, some)) x
+
+pick-sought : (was x : ℕ) → 0 < pick (ltb 0 was) x 0 → 0 < was
+pick-sought was x = go (ltb 0 was) refl
+  where
+    go : (t : Bool) → ltb 0 was ≡ t → 0 < pick t x 0 → 0 < was
+    go true e h = ltb-true 0 was e
+    go false e h = absurd (omega arith)
 
 -- ---- the next entry, by the place and the buffers and by the entries
 
@@ -257,12 +298,12 @@ module _ (by : Limits) (ib : List ℕ) (h : Here) (p : Place) (buf high : List �
   same-end : (x y : Bool) → both (eqb r (by .edge)) (both (empty (h .ref)) (both x y)) ≡ both (eqb (p .right) (by .edge)) (both (eqb (p .len) 0) (both x y))
   same-end x y = rw (empty-is (h .ref), held .long, held .right)
 
-module _ (ib : List ℕ) (by : Limits) (old seen buf high : List ℕ) (p : Place) (closed : Bool) (left : ℕ) (st : Stand ib by old seen buf high p closed left) where
+module _ (ib : List ℕ) (by : Limits) (key old seen buf high : List ℕ) (p : Place) (closed : Bool) (left reach : ℕ) (st : Stand ib by key old seen buf high p closed left reach) where
   abbrev count : ℕ
   count = by .count
 
   -- for the calls
-  pub ready : Walkable ib by → by .edge + (by .width + 2) ≤ p .right → Before ib p by buf
+  pub ready : Walkable ib by key → by .edge + (by .width + 2) ≤ p .right → Before ib p by buf
   ready w room =
       record {
         some = w .some;
@@ -278,6 +319,10 @@ module _ (ib : List ℕ) (by : Limits) (old seen buf high : List ℕ) (p : Place
 
   pub tall : by .key ≤ 255 → by .key + 8 ≤ length high
   tall most = omega (arith, st .whole')
+
+  pub sighted : Walkable ib by key → by .edge + (by .width + 2) ≤ p .right → 0 < reach
+      → (1 ≤ by .width) × (by .width ≤ 4) × (p .right ≤ length ib) × (by .edge + (by .width + 2) ≤ p .right) × (by .edge < 65536) × (length key ≡ by .key)
+  sighted w room sought = (w .some, w .few, omega (arith, st .inside, st .held .right), room, w .edge, st .keyed sought)
 
   pub within : p .right + 7 ≤ length ib
   within = omega (arith, st .inside, st .held .right)
@@ -343,7 +388,7 @@ module _ (ib : List ℕ) (by : Limits) (old seen buf high : List ℕ) (p : Place
       steps : s ≡ stepAt w' ib (h' .right) (h' .end)
       steps = step-is by ib h' p buf high (st .held) s fits
 
-      num-is : s .number ≡ part' .piece .num
+      pub num-is : s .number ≡ part' .piece .num
       num-is = ap (λ (x : Step). x .number) steps
 
       pub passes-top : K ≤ 255 → (s .front + s .len ≤ 510) × (s .at ≤ length ib) × (pick (s .closes) 2 0 ≤ s .at)
@@ -375,6 +420,9 @@ module _ (ib : List ℕ) (by : Limits) (old seen buf high : List ℕ) (p : Place
       fine : separator K sep' ≡ true
       fine = ap (λ (x : List ℕ). separator K x) (sym (nexts front)) ∙ entry-good ib p by (eqb left count) buf high s entry .2
 
+      pub sep-fits : length sep' ≤ K
+      sep-fits = separator-short K sep' fine
+
       rising : less low (bound K sep') ≡ true
       rising = less-low (eqb left count) K (h' .ref) sep' least ∙ rw (← nexts front, ← st .held .ref) (entry-good ib p by (eqb left count) buf high s entry .1)
 
@@ -393,30 +441,72 @@ module _ (ib : List ℕ) (by : Limits) (old seen buf high : List ℕ) (p : Place
           let c : s .closes ≡ part' .closes = ap (λ (y : Step). y .closes) steps in
           st .same ∙ fine-on by ib seen low h' closed left more x ∙ rw (← num-is, ← c)
 
+      -- the key past it, with the reach that a look at it gives
+      module _ (inner : closesAt w' p ≡ false) where
+        unclosed : part' .closes ≡ false
+        unclosed = sym (ap (λ (x : Step). x .closes) steps) ∙ closes-is ib p by s (entry-good ib p by (eqb left count) buf high s entry .0) false inner
+
+        front-inner : F' ≤ length (h' .ref)
+        front-inner = rw unclosed at front
+
+        looks : lookOf ib p by key reach ≡ reachOf key F' (part' .piece .chars)
+        looks = ap (λ (x : Parsed). reachPast ib key reach x) (entry-good ib p by (eqb left count) buf high s entry .0) ∙ rw steps
+
+        pub reached : (r : ℕ) → Reached ib p by key reach r → Search ib by key (hereNext w' ib h') (left - 1) r
+        reached r x =
+            ⊎-elim (λ (y : (frontAt w' ib (p .right) < reach) × (r ≡ lookOf ib p by key reach) × (0 < r)). looked y)
+            (λ (y : (reach ≤ frontAt w' ib (p .right)) × (r ≡ reach)). skipped y) x
+          where
+            looked : (frontAt w' ib (p .right) < reach) × (r ≡ lookOf ib p by key reach) × (0 < r) → Search ib by key (hereNext w' ib h') (left - 1) r
+            looked y =
+                let f : F' < reach = rw (st .held .right) at (y .0) in
+                search-look ib by key h' left reach (st .search) more unclosed f front-inner r (y .1 ∙ looks) (y .2)
+
+            skipped : (reach ≤ frontAt w' ib (p .right)) × (r ≡ reach) → Search ib by key (hereNext w' ib h') (left - 1) r
+            skipped y =
+                let f : reach ≤ F' = rw (st .held .right) at (y .0) in
+                rw (y .1) (search-skip ib by key h' left reach (st .search) more unclosed f front-inner)
+
       module _ (buf' high' : List ℕ) (renewed : Renewed ib s buf high buf' high') (long : length buf' ≡ length buf) (long' : length high' ≡ length high) (p' : Place)
           (past : p' ≡ placePast ib s p) (most : K ≤ 255) where
-        pub onward : s .number < by .n → getD seen (s .number) 0 ≡ 0 → Stand ib by old (set seen (s .number) 1) buf' high' p' (s .closes) (left - 1)
-        onward k z =
+        pub held-past : Held (hereNext w' ib h') p' buf' high'
+        held-past = rw past (held-on w' ib h' p buf high (st .held) (st .inside) (lies most) s steps buf' high' renewed)
+
+        pub onward : (r : ℕ) → Search ib by key (hereNext w' ib h') (left - 1) r → (0 < r → 0 < reach) → s .number < by .n → getD seen (s .number) 0 ≡ 0
+            → Stand ib by key old (set seen (s .number) 1) buf' high' p' (s .closes) (left - 1) r
+        onward r search still k z =
             let u : eqb (left - 1) count ≡ false = ne-eqb (left - 1) count (omega (arith, st .few)) in
-            let short : length sep' ≤ K = separator-short K sep' fine in
             record {
               h = hereNext w' ib h';
-              held = rw past (held-on w' ib h' p buf high (st .held) (st .inside) (lies most) s steps buf' high' renewed);
+              held = held-past;
               whole = long ∙ st .whole;
               whole' = long' ∙ st .whole';
-              short = short;
-              low = pick-short (part' .closes) sep' (h' .high) K short (st .low);
+              short = sep-fits;
+              low = pick-short (part' .closes) sep' (h' .high) K sep-fits (st .low);
               fine = separator-own K sep' fine;
               inside = omega (arith, st .inside);
               few = omega (arith, st .few);
               same = same-on k z ∙ rw u;
+              search = search;
+              keyed = λ (y : 0 < r). st .keyed (still y);
             }
 
-        pub onward-top : closesAt w' p ≡ true → s .number < by .n → getD seen (s .number) 0 ≡ 0 → Stand ib by old (set seen (s .number) 1) buf' high' p' true (left - 1)
-        onward-top which k z =
-            let c : s .closes ≡ true = closes-is ib p by s (entry-good ib p by (eqb left count) buf high s entry .0) true which in
-            let y = onward k z in
-            rw c at y
+        -- one turn of the walk over all entries; by `was` it tells whether a key is sought
+        pub turned : (was : ℕ) → (0 < was → 0 < reach) → (r : ℕ) → r ≡ pick (ltb 0 was) (reachOf key 0 (take (p' .len) buf')) 0
+            → s .number < by .n → getD seen (s .number) 0 ≡ 0 → (left ≡ 1 → closesAt w' p ≡ true) → Stand ib by key old (set seen (s .number) 1) buf' high' p' true (left - 1) r
+        turned was sought r is k z last = go (eqb left 1) refl
+          where
+            is' : r ≡ pick (ltb 0 was) (reachOf key 0 sep') 0
+            is' = is ∙ ap (λ (x : List ℕ). pick (ltb 0 was) (reachOf key 0 x) 0) (held-past .ref)
+
+            on : Stand ib by key old (set seen (s .number) 1) buf' high' p' (s .closes) (left - 1) r
+            on = onward r (search-turn ib by key h' left reach (st .search) more was sought r is') (λ (y : 0 < r). sought (pick-sought was (reachOf key 0 sep') (rw is' at y))) k z
+
+            go : (t : Bool) → eqb left 1 ≡ t → Stand ib by key old (set seen (s .number) 1) buf' high' p' true (left - 1) r
+            go true e =
+                let c : s .closes ≡ true = closes-is ib p by s (entry-good ib p by (eqb left count) buf high s entry .0) true (last (eqb-true left 1 e)) in
+                rw c at on
+            go false e = reclosed ib by key old (set seen (s .number) 1) buf' high' p' (s .closes) true (left - 1) r (omega (arith, eqb-false left 1 e, more)) on
 
   -- ---- the end
 
@@ -424,47 +514,83 @@ module _ (ib : List ℕ) (by : Limits) (old seen buf high : List ℕ) (p : Place
     last : all ≡ both (eqb (p .right) (by .edge)) (both (eqb (p .len) 0) (both (eqb (number 2 ib (by .edge)) 0) closed))
     last = st .same ∙ fine-done by ib seen low h' closed left done ∙ same-end by ib h' p buf high (st .held) (eqb (number 2 ib (by .edge)) 0) closed
 
-    pub not-there : (p .right ≡ by .edge → ⊥) → false ≡ all
-    not-there z = sym (last ∙ rw (ne-eqb (p .right) (by .edge) z))
-
-    pub not-empty : p .right ≡ by .edge → (p .len ≡ 0 → ⊥) → false ≡ all
-    not-empty there z = sym (last ∙ rw (eq-eqb (p .right) (by .edge) there, ne-eqb (p .len) 0 z))
-
-    pub at-end : p .right ≡ by .edge → p .len ≡ 0 → closed ≡ true → (x : ℕ) → x ≡ number 2 ib (by .edge) → eqb x 0 ≡ all
-    at-end there none c x x-is = sym (last ∙ rw (eq-eqb (p .right) (by .edge) there, eq-eqb (p .len) 0 none, ← x-is, c) (both-yes (eqb x 0)))
+    pub at-end : closed ≡ true → both (eqb (p .right) (by .edge)) (both (eqb (p .len) 0) (eqb (number 2 ib (by .edge)) 0)) ≡ all
+    at-end c = sym (last ∙ rw (c, both-yes (eqb (number 2 ib (by .edge)) 0)))
 
     pub not-closed : closed ≡ false → false ≡ all
-    not-closed c =
-        sym (last ∙ rw (c, both-false (eqb (number 2 ib (by .edge)) 0), both-false (eqb (p .len) 0), both-false (eqb (p .right) (by .edge))))
+    not-closed c = sym (last ∙ none-closed (eqb (p .right) (by .edge)) (eqb (p .len) 0) (eqb (number 2 ib (by .edge)) 0) closed c)
 
-  -- ---- an entry that lies left of the edge
+    -- no key is sought past the last separator, which is empty
+    pub unsought : 0 < count → all ≡ true → reach ≡ 0
+    unsought some fine =
+        let a = both-split (eqb (p .right) (by .edge)) _ (sym last ∙ fine) in
+        let b = both-split (eqb (p .len) 0) _ (a .1) in
+        not-sought-at-end ib by key h' reach (rw done at (st .search)) some (omega (arith, eqb-true (p .len) 0 (b .0), st .held .long))
+
+  -- ---- an entry that lies left of the edge, or is the last and closes no section
 
   pub no-room : 0 < left → p .right < by .edge + (by .width + 2) → false ≡ all
   no-room more z =
       sym (st .same ∙ off _ (λ y. omega (arith, fine-apart by ib seen low h' closed left more y .room, st .held .right)))
 
+  pub last-open : left ≡ 1 → closesAt w' p ≡ false → false ≡ all
+  last-open one which = sym (st .same ∙ off _ (λ y. false-true (sym (none y) ∙ y)))
+    where
+      unclosed' : part' .closes ≡ false
+      unclosed' = rw (st .held .right, st .held .end) at which
+
+      none : fineAt by ib seen closed low h' left ≡ true → fineAt by ib seen closed low h' left ≡ false
+      none y =
+          fine-on by ib seen low h' closed left (omega arith) (fine-apart by ib seen low h' closed left (omega arith) y)
+          ∙ fine-done by ib (set seen (part' .piece .num) 1) (bound K sep') (hereNext w' ib h') (part' .closes) (left - 1) (omega arith)
+          ∙ none-closed (eqb (hereNext w' ib h' .right) (by .edge)) (empty sep') (eqb (number 2 ib (by .edge)) 0) (part' .closes) unclosed'
+
 -- ---- the walk over a section's entries
 
--- How far it has come from its own start: whatever walk stood there stands here now; past an entry that closed no section, unless it still is at its start.
-pub record Along (ib : List ℕ) (by : Limits) (seen₀ buf₀ : List ℕ) (p₀ : Place) (more : ℕ) (seen buf : List ℕ) (p : Place) (left : ℕ) : Type 0 where
-  pub few : left ≤ more
-  pub goes : (old high : List ℕ) → Stand ib by old seen₀ buf₀ high p₀ true more → Stand ib by old seen buf high p (eqb left more) left
+-- How far it has come from its own start: whatever walk stood there stands here now; past an entry that closed no section, unless it still is at its start. A key
+-- that was sought still is.
+pub record Along (ib : List ℕ) (by : Limits) (key seen₀ buf₀ : List ℕ) (from : Leg) (seen buf : List ℕ) (p : Place) (left reach : ℕ) : Type 0 where
+  pub few : left ≤ from .left
+  pub still : 0 < from .reach → 0 < reach
+  pub goes : (old high : List ℕ) → Stand ib by key old seen₀ buf₀ high (from .p) true (from .left) (from .reach)
+      → Stand ib by key old seen buf high p (eqb left (from .left)) left reach
 
-pub set-out : (ib : List ℕ) (by : Limits) (seen buf : List ℕ) (p : Place) (more : ℕ) → Along ib by seen buf p more seen buf p more
-set-out ib by seen buf p more = record { few = omega arith; goes = λ (old high : List ℕ) st. rw (eq-eqb more more refl) st }
+pub set-out : (ib : List ℕ) (by : Limits) (key seen buf : List ℕ) (from : Leg) → Along ib by key seen buf from seen buf (from .p) (from .left) (from .reach)
+set-out ib by key seen buf from =
+    record { few = omega arith; still = λ (x : 0 < from .reach). x; goes = λ (old high : List ℕ) st. rw (eq-eqb (from .left) (from .left) refl) st }
 
-module _ (ib : List ℕ) (by : Limits) (seen₀ buf₀ : List ℕ) (p₀ : Place) (more : ℕ) (seen buf : List ℕ) (p : Place) (left : ℕ)
-    (g : Along ib by seen₀ buf₀ p₀ more seen buf p left) (some : 0 < left) (wk : Walkable ib by) where
+module _ (ib : List ℕ) (by : Limits) (key seen₀ buf₀ : List ℕ) (from : Leg) (seen buf : List ℕ) (p : Place) (left reach : ℕ)
+    (g : Along ib by key seen₀ buf₀ from seen buf p left reach) (some : 0 < left) (wk : Walkable ib by key) where
   -- each way out
   abbrev Ends : List ℕ → List ℕ → Stop → Type 0
-  Ends seen' buf' r = (old high : List ℕ) → Stand ib by old seen₀ buf₀ high p₀ true more → Stopped ib by old more seen' buf' high r
+  Ends seen' buf' r = (old high : List ℕ) → Stand ib by key old seen₀ buf₀ high (from .p) true (from .left) (from .reach) → Stopped ib by key old from seen' buf' high r
+
+  abbrev more : ℕ
+  more = from .left
 
   pub ends-left : (seen' buf' : List ℕ) → p .right < by .edge + (by .width + 2) → Ends seen' buf' Wrong
-  ends-left seen' buf' z = λ old high st. no-room ib by old seen buf high p (eqb left more) left (g .goes old high st) some z
+  ends-left seen' buf' z = λ old high st. no-room ib by key old seen buf high p (eqb left more) left reach (g .goes old high st) some z
+
+  pub ends-last : (seen' buf' : List ℕ) → left ≡ 1 → closesAt (by .width) p ≡ false → Ends seen' buf' Wrong
+  ends-last seen' buf' one which = λ old high st. last-open ib by key old seen buf high p (eqb left more) left reach (g .goes old high st) one which
+
+  pauses : by .edge + (by .width + 2) ≤ p .right → (left ≡ 1 → closesAt (by .width) p ≡ true) → Ends seen buf (At p left)
+  pauses room last = λ old high st.
+      record {
+        reach = reach;
+        still = g .still;
+        stand = reclosed ib by key old seen buf high p (eqb left more) true left reach some (g .goes old high st);
+        some = some;
+        few = g .few;
+        room = room;
+        last = last;
+      }
 
   pub ends-top : by .edge + (by .width + 2) ≤ p .right → p .right - (by .width + 2) ≡ p .end → Ends seen buf (At p left)
-  ends-top room z = λ old high st.
-      (reclosed ib by old seen buf high p (eqb left more) true left some (g .goes old high st), some, g .few, eq-eqb (p .right - (by .width + 2)) (p .end) z, room)
+  ends-top room z = pauses room (λ (x : left ≡ 1). eq-eqb (p .right - (by .width + 2)) (p .end) z)
+
+  pub ends-found : by .edge + (by .width + 2) ≤ p .right → (left ≡ 1 → ⊥) → Ends seen buf (At p left)
+  ends-found room z = pauses room (λ (x : left ≡ 1). absurd (z x))
 
   abbrev Answers : Parsed → Type 0
   Answers x = (high : List ℕ) → by .key + 8 ≤ length high → x ≡ entryOf ib p by (eqb left (by .count)) buf high
@@ -472,56 +598,61 @@ module _ (ib : List ℕ) (by : Limits) (seen₀ buf₀ : List ℕ) (p₀ : Place
   pub ends-bad : (seen' buf' : List ℕ) (x : Parsed) → Answers x → x ≡ Bad → Ends seen' buf' Wrong
   ends-bad seen' buf' x is bad = λ old high st.
       let t = g .goes old high st in
-      bad-entry ib by old seen buf high p (eqb left more) left t some (wk .least) (sym (is high (tall ib by old seen buf high p (eqb left more) left t (wk .most))) ∙ bad)
+      bad-entry ib by key old seen buf high p (eqb left more) left reach t some (wk .least)
+      (sym (is high (tall ib by key old seen buf high p (eqb left more) left reach t (wk .most))) ∙ bad)
 
   module _ (x : Parsed) (s : Step) (is : Answers x) (good' : x ≡ Of s) where
-    entry : (old high : List ℕ) → Stand ib by old seen buf high p (eqb left more) left → entryOf ib p by (eqb left (by .count)) buf high ≡ Of s
-    entry old high t = sym (is high (tall ib by old seen buf high p (eqb left more) left t (wk .most))) ∙ good'
+    entry : (old high : List ℕ) → Stand ib by key old seen buf high p (eqb left more) left reach → entryOf ib p by (eqb left (by .count)) buf high ≡ Of s
+    entry old high t = sym (is high (tall ib by key old seen buf high p (eqb left more) left reach t (wk .most))) ∙ good'
 
     pub ends-big : (seen' buf' : List ℕ) → by .n ≤ s .number → Ends seen' buf' Wrong
     ends-big seen' buf' z = λ old high st.
         let t = g .goes old high st in
-        too-big ib by old seen buf high p (eqb left more) left t some (wk .least) s (entry old high t) z
+        too-big ib by key old seen buf high p (eqb left more) left reach t some (wk .least) s (entry old high t) z
 
     pub ends-again : (seen' buf' : List ℕ) → (getD seen (s .number) 0 ≡ 0 → ⊥) → Ends seen' buf' Wrong
     ends-again seen' buf' z = λ old high st.
         let t = g .goes old high st in
-        again ib by old seen buf high p (eqb left more) left t some (wk .least) s (entry old high t) z
+        again ib by key old seen buf high p (eqb left more) left reach t some (wk .least) s (entry old high t) z
 
     -- for the call past it
-    pub passes-on : (old high : List ℕ) → Stand ib by old seen buf high p (eqb left more) left → (s .front + s .len ≤ 510) × (s .at ≤ length ib) × (pick (s .closes) 2 0 ≤ s .at)
+    pub passes-on : (old high : List ℕ) → Stand ib by key old seen buf high p (eqb left more) left reach
+        → (s .front + s .len ≤ 510) × (s .at ≤ length ib) × (pick (s .closes) 2 0 ≤ s .at)
     passes-on old high t =
-        passes ib p by s (good ib p by s (entry-good ib p by (eqb left (by .count)) buf high s (entry old high t) .0)) (within ib by old seen buf high p (eqb left more) left t) (wk .most)
+        passes ib p by s (good ib p by s (entry-good ib p by (eqb left (by .count)) buf high s (entry old high t) .0))
+        (within ib by key old seen buf high p (eqb left more) left reach t) (wk .most)
 
     -- and one turn
     module _ (buf' : List ℕ) (renewed : (high : List ℕ) → by .key + 8 ≤ length high → Taken ib buf high buf' high x) (long : length buf' ≡ length buf) (p' : Place)
-        (past : p' ≡ placePast ib s p) (inner : closesAt (by .width) p ≡ false) where
-      pub goes-on : s .number < by .n → getD seen (s .number) 0 ≡ 0 → Along ib by seen₀ buf₀ p₀ more (set seen (s .number) 1) buf' p' (left - 1)
+        (past : p' ≡ placePast ib s p) (inner : closesAt (by .width) p ≡ false) (r : ℕ) (new : Reached ib p by key reach r) where
+      pub goes-on : s .number < by .n → getD seen (s .number) 0 ≡ 0 → Along ib by key seen₀ buf₀ from (set seen (s .number) 1) buf' p' (left - 1) r
       goes-on k z =
           record {
             few = omega (arith, g .few);
+            still = λ (y : 0 < from .reach). reached-sought ib p by key reach r new (g .still y);
             goes = λ (old high : List ℕ) st.
                 let t = g .goes old high st in
-                let tl = tall ib by old seen buf high p (eqb left more) left t (wk .most) in
+                let tl = tall ib by key old seen buf high p (eqb left more) left reach t (wk .most) in
                 let e = entry old high t in
                 let c : s .closes ≡ false = closes-is ib p by s (entry-good ib p by (eqb left (by .count)) buf high s e .0) false inner in
                 let u : eqb (left - 1) more ≡ false = ne-eqb (left - 1) more (omega (arith, g .few, some)) in
-                let y = onward ib by old seen buf high p (eqb left more) left t some (wk .least) s e buf' high (taken-of ib buf high buf' high x s good' (renewed high tl)) long refl p' past
-                (wk .most) k z in
+                let y = onward ib by key old seen buf high p (eqb left more) left reach t some (wk .least) s e buf' high (taken-of ib buf high buf' high x s good' (renewed high tl)) long refl p'
+                past (wk .most) r (reached ib by key old seen buf high p (eqb left more) left reach t some (wk .least) s e inner r new) (sought-reached ib p by key reach r new) k z in
                 rw u (rw c at y);
           }
 
 -- at its end no entry is left, and none closed a section
-pub ends-open : (ib : List ℕ) (by : Limits) (seen₀ buf₀ : List ℕ) (p₀ : Place) (more : ℕ) (seen buf : List ℕ) (p : Place) (left : ℕ)
-    → Along ib by seen₀ buf₀ p₀ more seen buf p left → 0 < more → left ≡ 0 → (old high : List ℕ) → Stand ib by old seen₀ buf₀ high p₀ true more → false ≡ fineFrom by ib old (by .count)
-ends-open ib by seen₀ buf₀ p₀ more seen buf p left g some done old high st =
-    not-closed ib by old seen buf high p (eqb left more) left (g .goes old high st) done (ne-eqb left more (omega arith))
+pub ends-open : (ib : List ℕ) (by : Limits) (key seen₀ buf₀ : List ℕ) (from : Leg) (seen buf : List ℕ) (p : Place) (left reach : ℕ)
+    → Along ib by key seen₀ buf₀ from seen buf p left reach → 0 < from .left → left ≡ 0 → (old high : List ℕ)
+    → Stand ib by key old seen₀ buf₀ high (from .p) true (from .left) (from .reach) → false ≡ fineFrom by ib old (by .count)
+ends-open ib by key seen₀ buf₀ from seen buf p left reach g some done old high st =
+    not-closed ib by key old seen buf high p (eqb left (from .left)) left reach (g .goes old high st) done (ne-eqb left (from .left) (omega arith))
 
 -- what it tells
-pub stopped-wrong : (ib : List ℕ) (by : Limits) (old : List ℕ) (more : ℕ) (seen buf high : List ℕ) (r : Stop) → r ≡ Wrong → Stopped ib by old more seen buf high r
-    → false ≡ fineFrom by ib old (by .count)
-stopped-wrong ib by old more seen buf high r e t = rw e at t
+pub stopped-wrong : (ib : List ℕ) (by : Limits) (key old : List ℕ) (from : Leg) (seen buf high : List ℕ) (r : Stop) → r ≡ Wrong
+    → Stopped ib by key old from seen buf high r → false ≡ fineFrom by ib old (by .count)
+stopped-wrong ib by key old from seen buf high r e t = rw e at t
 
-pub stopped-at : (ib : List ℕ) (by : Limits) (old : List ℕ) (more : ℕ) (seen buf high : List ℕ) (r : Stop) (p : Place) (left : ℕ) → r ≡ At p left
-    → Stopped ib by old more seen buf high r → Stopped ib by old more seen buf high (At p left)
-stopped-at ib by old more seen buf high r p left e t = rw e at t
+pub stopped-at : (ib : List ℕ) (by : Limits) (key old : List ℕ) (from : Leg) (seen buf high : List ℕ) (r : Stop) (p : Place) (left : ℕ) → r ≡ At p left
+    → Stopped ib by key old from seen buf high r → Paused ib by key old from seen buf high p left
+stopped-at ib by key old from seen buf high r p left e t = rw e at t

@@ -3,6 +3,7 @@ use Prim.Native.Nat.{ℕ, _+_, _≤_, _<_}
 use mathlib.Core.Path.{_≡_}
 use mathlib.Core.Bool.{Bool, true, false}
 use mathlib.Core.List.{List, []}
+use mathlib.Core.Logic.{_⊎_}
 use lib.ListN.{length}
 use lib.Dec.{eqb}
 use Rattle.fields.specs.Choice.{pick, both}
@@ -12,13 +13,15 @@ use Rattle.sections.specs.Reading.{partsAt}
 use Rattle.index_step.specs.declared.Place.{Place}
 use Rattle.index_step.specs.AidEntries.{Here, Held}
 use Rattle.index_read.specs.AidParsing.{closesAt}
+use Rattle.index_read.specs.AidSeek.{Search}
 use Rattle.index_read.specs.AidWalk.{chain, partNumbers, marking, fineFrom}
 use Rattle.index_read.specs.declared.Limits.{Limits}
+use Rattle.index_read.specs.declared.Leg.{Leg}
 use Rattle.index_read.specs.declared.Stop.{Stop}
 use Rattle.index_read.specs.declared.Stop.the-variants.{At, Wrong}
 
--- what a walk asks: a width and a key that were judged, an edge that two bytes tell, a mark for each number
-pub record Walkable (ib : List ℕ) (by : Limits) : Type 0 where
+-- what a walk asks: a width and a key that were judged, an edge that two bytes tell, a mark for each number; a key that is sought has the right length
+pub record Walkable (ib : List ℕ) (by : Limits) (key : List ℕ) : Type 0 where
   pub some : 1 ≤ by .width
   pub few : by .width ≤ 4
   pub large : 31 ≤ length ib
@@ -27,6 +30,7 @@ pub record Walkable (ib : List ℕ) (by : Limits) : Type 0 where
   pub least : 1 ≤ by .key
   pub most : by .key ≤ 255
   pub marks : by .n ≤ limit
+  pub wanted : (length key ≡ 0) ⊎ (length key ≡ by .key)
 
 -- the entries that are left from a place on keep the rules, and their numbers are new
 unfoldable pub fineAt : Limits → List ℕ → List ℕ → Bool → List ℕ → Here → ℕ → Bool
@@ -39,8 +43,9 @@ abbrev pub lowOf : Bool → ℕ → List ℕ → List ℕ
 lowOf first K ref = pick first [] (bound K ref)
 
 -- How far the walk has come that began with the marks `old`: the place and the buffers stand before an entry (Held), and the whole record is fine exactly where
--- the `left` entries from there on are, with the marks made so far. `closed` tells whether the entry before closed a section, which only the end asks.
-pub record Stand (ib : List ℕ) (by : Limits) (old seen buf high : List ℕ) (p : Place) (closed : Bool) (left : ℕ) : Type 0 where
+-- the `left` entries from there on are, with the marks made so far. `closed` tells whether the entry before closed a section, which only the end asks. The search
+-- has come as far.
+pub record Stand (ib : List ℕ) (by : Limits) (key old seen buf high : List ℕ) (p : Place) (closed : Bool) (left reach : ℕ) : Type 0 where
   pub h : Here
   pub held : Held h p buf high
   pub whole : length buf ≡ 263
@@ -51,15 +56,26 @@ pub record Stand (ib : List ℕ) (by : Limits) (old seen buf high : List ℕ) (p
   pub inside : h .right + 7 ≤ length ib
   pub few : left ≤ by .count
   pub same : fineFrom by ib old (by .count) ≡ fineAt by ib seen closed (lowOf (eqb left (by .count)) (by .key) (h .ref)) h left
+  pub search : Search ib by key h left reach
+  pub keyed : 0 < reach → length key ≡ by .key
 
 -- some walk has come so far
-pub record Stood (ib : List ℕ) (by : Limits) (seen buf : List ℕ) (p : Place) (left : ℕ) : Type 0 where
+pub record Stood (ib : List ℕ) (by : Limits) (key seen buf : List ℕ) (from : Leg) : Type 0 where
   pub old : List ℕ
   pub high : List ℕ
-  pub stand : Stand ib by old seen buf high p true left
+  pub stand : Stand ib by key old seen buf high (from .p) true (from .left) (from .reach)
 
--- where the walk over a section's entries ends: before its highest, or because the record isn't fine
-abbrev pub Stopped : List ℕ → Limits → List ℕ → ℕ → List ℕ → List ℕ → List ℕ → Stop → Type 0
-Stopped ib by old more seen buf high Wrong = false ≡ fineFrom by ib old (by .count)
-Stopped ib by old more seen buf high (At p left) =
-    (Stand ib by old seen buf high p true left) × (0 < left) × (left ≤ more) × (closesAt (by .width) p ≡ true) × (by .edge + (by .width + 2) ≤ p .right)
+-- where the walk over a section's entries ends: before its highest or the entry sought, or because the record isn't fine. The key is still sought if it was
+-- before, with whatever reach; and the last entry of all is a section's highest, wherever the key leads.
+pub record Paused (ib : List ℕ) (by : Limits) (key old : List ℕ) (from : Leg) (seen buf high : List ℕ) (p : Place) (left : ℕ) : Type 0 where
+  pub reach : ℕ
+  pub still : 0 < from .reach → 0 < reach
+  pub stand : Stand ib by key old seen buf high p true left reach
+  pub some : 0 < left
+  pub few : left ≤ from .left
+  pub room : by .edge + (by .width + 2) ≤ p .right
+  pub last : left ≡ 1 → closesAt (by .width) p ≡ true
+
+abbrev pub Stopped : List ℕ → Limits → List ℕ → List ℕ → Leg → List ℕ → List ℕ → List ℕ → Stop → Type 0
+Stopped ib by key old from seen buf high Wrong = false ≡ fineFrom by ib old (by .count)
+Stopped ib by key old from seen buf high (At p left) = Paused ib by key old from seen buf high p left

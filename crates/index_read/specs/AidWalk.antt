@@ -108,7 +108,7 @@ seenAfter seen [] = seen
 seenAfter seen (x ∷ xs) = seenAfter (set seen x 1) xs
 
 abbrev pub emptyMarks : Marks
-emptyMarks = record { seen = replicate limit 0; used = 0; free = 0; ok = true }
+emptyMarks = record { seen = replicate limit 0; used = 0; free = 0; ok = true; ordinal = 0; number = 0; before = 0; own = 0 }
 
 -- the entries keep the rules, and their numbers are new
 unfoldable pub fineFrom : Limits → List ℕ → List ℕ → ℕ → Bool

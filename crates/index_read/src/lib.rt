@@ -3,29 +3,47 @@ ghost use Prim.Native.Nat.{ℕ, _+_, _-_, _*_, _≤_, _<_};
 ghost use mathlib.Core.Path.{_≡_};
 ghost use mathlib.Core.Bool.{true, false};
 ghost use mathlib.Core.List.{List};
+ghost use mathlib.Core.Logic.{_⊎_};
 ghost use lib.ListN.{length, getD, take};
+ghost use lib.Dec.{eqb, ltb};
+ghost use Rattle.fields.specs.Choice.{pick, both};
 ghost use Rattle.fields.specs.Bytes.{part, number};
 ghost use Rattle.measures.specs.Judgement.{limit};
 ghost use Rattle.index.specs.Bounds.{bound, separator};
 ghost use Rattle.index.specs.Rules.{baseFine};
 ghost use Rattle.index.specs.Reading.{numbersAt, frame};
-ghost use Rattle.index_read.specs.Check.{indexBy, indexOf};
+ghost use Rattle.index_read.specs.Check.{indexOf, Seeks, SpotWithin};
 ghost use Rattle.index_read.specs.AidParsing.{closesAt, parsedOf};
 ghost use Rattle.index_read.specs.AidWalk.{Ascends, placesOf, Before, entryOf, Taken, marking, seenAfter, emptyMarks, fineFrom};
+ghost use Rattle.index_read.specs.AidSeek.{reachOf, lookOf, noSpot, spotIn, FoundBy};
 ghost use Rattle.index_read.specs.AidStand.{Walkable, Stand, Stood, Stopped};
+ghost use Rattle.index_read.specs.AidJudged.{JudgedAs};
 use fields::Order;
+ghost use Rattle.index_step.specs.AidStep.{copiedFrom};
 use index_step::BUFFER;
 use index_step::Place;
 use index_step::Step;
 use measures::LIMIT;
 
-// Which interval numbers were met, how many of them as free and by entries, and whether all that was met kept the rules. One struct goes through both walks;
-// their loops have its marks lent, so that nothing is copied within a walk.
+// The entry that a key leads to: its place among the entries, from 0, its number, and how many bytes the separator before it and its own have.
+pub struct Spot {
+    pub ordinal: usize,
+    pub number: usize,
+    pub before: usize,
+    pub own: usize,
+}
+
+// Which interval numbers were met, how many of them as free and by entries, whether all that was met kept the rules, and where the key leads that was sought. One
+// struct goes through both walks; their loops have its marks lent, so that nothing is copied within a walk.
 pub(crate) struct Marks {
     pub seen: [u8; LIMIT],
     pub used: usize,
     pub free: usize,
     pub ok: bool,
+    pub ordinal: usize,
+    pub number: usize,
+    pub before: usize,
+    pub own: usize,
 }
 
 // One entry taken apart.
@@ -50,15 +68,46 @@ pub(crate) struct Limits {
     pub key: usize,
 }
 
-// Where a section's highest was met, and how many entries are left from it on.
+// Where a walk over a section's entries sets out: the place, the entries left, and the reach of the key that is sought. That is 0 where none is sought, or no
+// more. Else the separator before has one byte less than `reach` in common with the key, and its next one is lower, if it has so many at all: so every
+// separator whose F is at least `reach` is below the key, without a look at its characters.
+pub(crate) struct Leg {
+    pub p: Place,
+    pub left: usize,
+    pub reach: usize,
+}
+
+// Where a section's highest or the entry sought was met, and how many entries are left from it on.
 pub(crate) enum Stop {
     At { p: Place, left: usize },
     Wrong,
 }
 
+// What the walk over all entries tells: whether they kept the rules, and where the key leads that was sought.
+pub(crate) struct Walked {
+    pub ok: bool,
+    pub spot: Spot,
+}
+
+// A sound record with its free intervals and entries, and where the key leads that was sought.
+pub(crate) enum Verdict {
+    Sound {
+        free: usize,
+        entries: usize,
+        spot: Spot,
+    },
+    Unsound,
+}
+
 // What the check of an index record answers.
 pub enum Index {
     Sound { free: usize, entries: usize },
+    Unsound,
+}
+
+// What a check of an index record answers that seeks a key.
+pub enum Sought {
+    At(Spot),
     Unsound,
 }
 
@@ -210,6 +259,119 @@ pub(crate) fn next_top(
     Parsed::Of(s)
 }
 
+// The same for the one entry that the key leads to, where it is no section's highest. It stands apart from `next_inner`, whose body is then put into the loop that alone calls
+// it: with a call in that loop the walk takes more than twice as long.
+pub(crate) fn next_met(buf: &mut [u8], first: bool, ib: &[u8], p: Place, by: Limits) -> Parsed
+    requires { ⌜ Before (now ib) p by (now buf) ⌝ }
+    requires which { ⌜ closesAt (by .width) p ≡ false ⌝ }
+    ensures is { λ x. ⌜ ((high : List ℕ) → by .key + 8 ≤ length high → x ≡ entryOf (now (ib .entry)) p by first (now (buf .entry)) high) ⌝ }
+    ensures renewed { λ x. ⌜ ((high : List ℕ) → by .key + 8 ≤ length high → Taken (now (ib .entry)) (now (buf .entry)) high (now (buf .exit)) high x) ⌝ }
+{
+    let Parsed::Of(s) = piece_at(ib, p, by, false) else {
+        return Parsed::Bad;
+    };
+    if !ascends(buf, first, s.front, p.len, ib, s.at, s.len) {
+        return Parsed::Bad;
+    }
+    index_step::extend(buf, s.front, ib, s.at, s.len);
+    if last_of(buf, s.front + s.len) == 255 {
+        return Parsed::Bad;
+    }
+    Parsed::Of(s)
+}
+
+// The next entry, whichever it is.
+pub(crate) fn next_entry(
+    buf: &mut [u8],
+    high: &mut [u8],
+    first: bool,
+    ib: &[u8],
+    p: Place,
+    by: Limits,
+) -> Parsed
+    requires { ⌜ Before (now ib) p by (now buf) ⌝ }
+    requires tall { ⌜ by .key + 8 ≤ length (now high) ⌝ }
+    ensures is { λ x. ⌜ x ≡ entryOf (now (ib .entry)) p by first (now (buf .entry)) (now (high .entry)) ⌝ }
+    ensures renewed { λ x. ⌜ Taken (now (ib .entry)) (now (buf .entry)) (now (high .entry)) (now (buf .exit)) (now (high .exit)) x ⌝ }
+{
+    if p.right - (by.width + 2) == p.end {
+        return next_top(buf, high, first, ib, p, by);
+    }
+    next_met(buf, first, ib, p, by)
+}
+
+// The reach of a key past a separator, 0 where the separator is not below as many bytes of the key. Both begin with the same `front` bytes; `chars` are those
+// that follow them in the separator.
+pub(crate) fn reach_of(key: &[u8], front: usize, chars: &[u8]) -> usize
+    requires { ⌜ front + length (now chars) ≤ length (now key) ⌝ }
+    ensures { λ r. ⌜ r ≡ reachOf (now (key .entry)) front (now (chars .entry)) ⌝ }
+{
+    let e = front + chars.len();
+    let same = fields::common_front(chars, &key[front..e]);
+    if chars.len() <= same {
+        return 0;
+    }
+    if key[front + same] < chars[same] {
+        return 0;
+    }
+    front + same + 1
+}
+
+// The reach of a key past the next entry, no section's highest, whose F is below the reach before it. Of an entry that is wrong nothing is told: it ends the walk.
+pub(crate) fn look(key: &[u8], ib: &[u8], p: Place, by: Limits, reach: usize) -> usize
+    requires { ⌜ (1 ≤ by .width) × (by .width ≤ 4) × (p .right ≤ length (now ib)) × (by .edge + (by .width + 2) ≤ p .right) × (by .edge < 65536) × (length (now key) ≡ by .key) ⌝ }
+    requires which { ⌜ closesAt (by .width) p ≡ false ⌝ }
+    ensures { λ r. ⌜ r ≡ lookOf (now (ib .entry)) p by (now (key .entry)) reach ⌝ }
+{
+    let Parsed::Of(s) = piece_at(ib, p, by, false) else {
+        return reach;
+    };
+    let a = s.at;
+    let z = a + s.len;
+    reach_of(key, s.front, &ib[a..z])
+}
+
+// While a key is sought: the first `len` bytes of buf, at the front of another buffer. Behind them may stand anything.
+pub(crate) fn keep(to: &mut [u8], buf: &[u8], len: usize, reach: usize)
+    requires { ⌜ (len ≤ 255) × (263 ≤ length (now to)) × (263 ≤ length (now buf)) ⌝ }
+    ensures { λ _. ⌜ now (to .exit) ≡ pick (ltb 0 reach) (copiedFrom (now (buf .entry)) len (now (to .entry))) (now (to .entry)) ⌝ }
+{
+    if reach == 0 {
+        return;
+    }
+    index_step::extend(to, 0, buf, 0, len);
+}
+
+// While a key is sought: its reach past the separator with which buf begins.
+pub(crate) fn reach_past(key: &[u8], buf: &[u8], len: usize, reach: usize) -> usize
+    requires { ⌜ (len ≤ length (now buf)) × (0 < reach → len ≤ length (now key)) ⌝ }
+    ensures { λ r. ⌜ r ≡ pick (ltb 0 reach) (reachOf (now (key .entry)) 0 (take len (now (buf .entry)))) 0 ⌝ }
+{
+    if reach == 0 {
+        return 0;
+    }
+    reach_of(key, 0, &buf[..len])
+}
+
+// While a key is sought, the entry just met; afterwards the one that was found.
+pub(crate) fn met(found: Spot, now: Spot, reach: usize) -> Spot
+    ensures { λ r. ⌜ r ≡ pick (ltb 0 reach) now found ⌝ }
+{
+    if reach == 0 { found } else { now }
+}
+
+// No entry met yet.
+pub(crate) fn nowhere() -> Spot
+    ensures { λ r. ⌜ r ≡ noSpot ⌝ }
+{
+    Spot {
+        ordinal: 0,
+        number: 0,
+        before: 0,
+        own: 0,
+    }
+}
+
 // No number met yet: a mark for each that an area of the most intervals has.
 pub(crate) fn fresh() -> Marks
     ensures { λ r. ⌜ r ≡ emptyMarks ⌝ }
@@ -219,6 +381,10 @@ pub(crate) fn fresh() -> Marks
         used: 0,
         free: 0,
         ok: true,
+        ordinal: 0,
+        number: 0,
+        before: 0,
+        own: 0,
     }
 }
 
@@ -259,23 +425,24 @@ pub(crate) fn walk_free(marks: Marks, ib: &[u8], w: usize, count: usize, n: usiz
     m
 }
 
-// Walks the entries of a section leftwards up to its highest, and marks their numbers. Of `left` entries the last must close a section, so that one must be met.
-// These are nearly all entries, and their loop has nothing else in it: what it needs stays in registers.
+// Walks the entries of a section leftwards up to its highest, or to the one that the key leads to, and marks their numbers. Of `left` entries the last must close
+// a section, so that one must be met. These are nearly all entries, and their loop has nothing else in it: what it needs stays in registers.
 pub(crate) fn walk_inner(
     seen: &mut [u8; LIMIT],
     buf: &mut [u8],
     ib: &[u8],
-    from: Place,
-    more: usize,
+    key: &[u8],
+    from: Leg,
     by: Limits,
 ) -> Stop
-    requires { ⌜ Walkable (now ib) by × (0 < more) ⌝ }
-    requires stands { ⌜ Stood (now ib) by (now seen) (now buf) from more ⌝ }
-    ensures { λ r. ⌜ ((old high : List ℕ) → Stand (now (ib .entry)) by old (now (seen .entry)) (now (buf .entry)) high from true more → Stopped (now (ib .entry)) by old more (now (seen .exit)) (now (buf .exit)) high r) ⌝ }
+    requires { ⌜ Walkable (now ib) by (now key) × (0 < from .left) ⌝ }
+    requires stands { ⌜ Stood (now ib) by (now key) (now seen) (now buf) from ⌝ }
+    ensures { λ r. ⌜ ((old high : List ℕ) → Stand (now (ib .entry)) by (now (key .entry)) old (now (seen .entry)) (now (buf .entry)) high (from .p) true (from .left) (from .reach) → Stopped (now (ib .entry)) by (now (key .entry)) old from (now (seen .exit)) (now (buf .exit)) high r) ⌝ }
 {
     let w = by.width;
-    let mut p = from;
-    let mut left = more;
+    let mut p = from.p;
+    let mut left = from.left;
+    let mut reach = from.reach;
     while 0 < left {
         let r = p.right;
         if r < by.edge + (w + 2) {
@@ -283,6 +450,15 @@ pub(crate) fn walk_inner(
         }
         if r - (w + 2) == p.end {
             return Stop::At { p, left };
+        }
+        if fields::wide(ib[r - (w + 2)]) < reach {
+            reach = look(key, ib, p, by, reach);
+            if reach == 0 {
+                if left == 1 {
+                    return Stop::Wrong;
+                }
+                return Stop::At { p, left };
+            }
         }
         let Parsed::Of(s) = next_inner(buf, left == by.count, ib, p, by) else {
             return Stop::Wrong;
@@ -301,34 +477,11 @@ pub(crate) fn walk_inner(
     Stop::Wrong
 }
 
-// Walks all entries from the RDF leftwards, section by section, and marks their numbers. The last must close a section, begin at the edge with that section's
-// field, which must be zero, and have an empty separator. The fields are followed as they are met: one that leads nowhere leaves a section without its highest.
-pub(crate) fn mark_entries(seen: &mut [u8; LIMIT], ib: &[u8], by: Limits) -> bool
-    requires { ⌜ Walkable (now ib) by × (0 < by .count) ⌝ }
-    ensures { λ r. ⌜ r ≡ fineFrom by (now (ib .entry)) (now (seen .entry)) (by .count) ⌝ }
+// Past the last entry: it began at the edge with its section's field, which is zero, and its separator was empty.
+pub(crate) fn ends(ib: &[u8], p: Place, by: Limits) -> bool
+    requires { ⌜ by .edge + 2 ≤ length (now ib) ⌝ }
+    ensures { λ r. ⌜ r ≡ both (eqb (p .right) (by .edge)) (both (eqb (p .len) 0) (eqb (number 2 (now (ib .entry)) (by .edge)) 0)) ⌝ }
 {
-    let mut buf = [0u8; BUFFER];
-    let mut high = [0u8; BUFFER];
-    let mut p = index_step::start(ib);
-    let mut left = by.count;
-    while 0 < left {
-        let Stop::At { p: q, left: l } = walk_inner(seen, &mut buf, ib, p, left, by) else {
-            return false;
-        };
-        let Parsed::Of(s) = next_top(&mut buf, &mut high, l == by.count, ib, q, by) else {
-            return false;
-        };
-        let number = s.number;
-        if by.n <= number {
-            return false;
-        }
-        if seen[number] != 0 {
-            return false;
-        }
-        seen[number] = 1;
-        p = index_step::past(ib, s, q);
-        left = l - 1;
-    }
     if p.right != by.edge {
         return false;
     }
@@ -338,16 +491,86 @@ pub(crate) fn mark_entries(seen: &mut [u8; LIMIT], ib: &[u8], by: Limits) -> boo
     fields::read_two(ib, by.edge) == 0
 }
 
+// Walks all entries from the RDF leftwards, section by section, and marks their numbers. The last must close a section, begin at the edge with that section's
+// field, which must be zero, and have an empty separator. The fields are followed as they are met: one that leads nowhere leaves a section without its highest.
+// While a key of one byte or more is sought, each section's highest is held against it as well; the entry that it leads to is told, with the separator before
+// it and its own at the front of two lent buffers.
+pub(crate) fn mark_entries(
+    seen: &mut [u8; LIMIT],
+    ib: &[u8],
+    by: Limits,
+    key: &[u8],
+    before: &mut [u8],
+    own: &mut [u8],
+) -> Walked
+    requires { ⌜ Walkable (now ib) by (now key) × (0 < by .count) × (length (now before) ≡ 263) × (length (now own) ≡ 263) ⌝ }
+    ensures sound { λ r. ⌜ r .ok ≡ fineFrom by (now (ib .entry)) (now (seen .entry)) (by .count) ⌝ }
+    ensures found { λ r. ⌜ (0 < length (now (key .entry)) → r .ok ≡ true → FoundBy (by .width) (by .count) (now (ib .entry)) (now (key .entry)) (r .spot) (now (before .exit)) (now (own .exit))) ⌝ }
+{
+    let mut buf = [0u8; BUFFER];
+    let mut high = [0u8; BUFFER];
+    let mut p = index_step::start(ib);
+    let mut left = by.count;
+    let mut reach = if key.len() == 0 { 0 } else { 1 };
+    let mut spot = nowhere();
+    while 0 < left {
+        let leg = Leg { p, left, reach };
+        let Stop::At { p: q, left: l } = walk_inner(seen, &mut buf, ib, key, leg, by) else {
+            return Walked { ok: false, spot };
+        };
+        keep(before, &buf, q.len, reach);
+        let Parsed::Of(s) = next_entry(&mut buf, &mut high, l == by.count, ib, q, by) else {
+            return Walked { ok: false, spot };
+        };
+        let number = s.number;
+        if by.n <= number {
+            return Walked { ok: false, spot };
+        }
+        if seen[number] != 0 {
+            return Walked { ok: false, spot };
+        }
+        seen[number] = 1;
+        p = index_step::past(ib, s, q);
+        left = l - 1;
+        let here = Spot {
+            ordinal: by.count - l,
+            number,
+            before: q.len,
+            own: p.len,
+        };
+        spot = met(spot, here, reach);
+        keep(own, &buf, p.len, reach);
+        reach = reach_past(key, &buf, p.len, reach);
+    }
+    Walked {
+        ok: ends(ib, p, by),
+        spot,
+    }
+}
+
 // The walk over the entries.
-pub(crate) fn walk_entries(marks: Marks, ib: &[u8], by: Limits) -> Marks
-    requires { ⌜ Walkable (now ib) by × (0 < by .count) ⌝ }
+pub(crate) fn walk_entries(
+    marks: Marks,
+    ib: &[u8],
+    by: Limits,
+    key: &[u8],
+    before: &mut [u8],
+    own: &mut [u8],
+) -> Marks
+    requires { ⌜ Walkable (now ib) by (now key) × (0 < by .count) × (length (now before) ≡ 263) × (length (now own) ≡ 263) ⌝ }
     ensures sound { λ r. ⌜ r .ok ≡ fineFrom by (now (ib .entry)) (marks .seen) (by .count) ⌝ }
+    ensures found { λ r. ⌜ (0 < length (now (key .entry)) → r .ok ≡ true → FoundBy (by .width) (by .count) (now (ib .entry)) (now (key .entry)) (spotIn r) (now (before .exit)) (now (own .exit))) ⌝ }
     ensures counts { λ r. ⌜ (r .free ≡ marks .free) × (r .used ≡ by .count) ⌝ }
 {
     let mut m = marks;
-    let ok = mark_entries(&mut m.seen, ib, by);
-    m.ok = ok;
+    let walked = mark_entries(&mut m.seen, ib, by, key, before, own);
+    let spot = walked.spot;
+    m.ok = walked.ok;
     m.used = by.count;
+    m.ordinal = spot.ordinal;
+    m.number = spot.number;
+    m.before = spot.before;
+    m.own = spot.own;
     m
 }
 
@@ -433,24 +656,33 @@ pub(crate) fn placed(ib: &[u8], w: usize, n: usize) -> Places
     }
 }
 
-// Whether an index record of n intervals with keys of `key` bytes and pointers of w bytes is sound; with the numbers of free intervals
-// and of entries.
-pub(crate) fn check_with(ib: &[u8], key: usize, n: usize, w: usize) -> Index
-    requires { ⌜ (31 ≤ length (now ib)) × (length (now ib) ≤ 32768) × (1 ≤ key) × (key ≤ 255) × (n ≤ limit) × (1 ≤ w) × (w ≤ 4) ⌝ }
-    ensures { λ r. ⌜ r ≡ indexBy w key n (now (ib .entry)) ⌝ }
+// Whether an index record of n intervals with keys of `key` bytes is sound; with the numbers of free intervals and of entries, and where a key of that length
+// leads, if one is sought: then the separator before its entry and its own stand at the front of two lent buffers.
+pub(crate) fn judge(
+    ib: &[u8],
+    key: usize,
+    n: usize,
+    wanted: &[u8],
+    before: &mut [u8],
+    own: &mut [u8],
+) -> Verdict
+    requires { ⌜ (31 ≤ length (now ib)) × (length (now ib) ≤ 32768) × (1 ≤ key) × (key ≤ 255) × (n ≤ limit) ⌝ }
+    requires buffers { ⌜ ((length (now wanted) ≡ 0) ⊎ (length (now wanted) ≡ key)) × (length (now before) ≡ 263) × (length (now own) ≡ 263) ⌝ }
+    ensures { λ r. ⌜ JudgedAs key n (now (ib .entry)) (now (wanted .entry)) (now (before .exit)) (now (own .exit)) r ⌝ }
 {
+    let w = measures::width_for(n);
     if !framed(ib, w) {
-        return Index::Unsound;
+        return Verdict::Unsound;
     }
     if !base_fine(ib, n) {
-        return Index::Unsound;
+        return Verdict::Unsound;
     }
     let Places::At { free, edge } = placed(ib, w, n) else {
-        return Index::Unsound;
+        return Verdict::Unsound;
     };
     let f = walk_free(fresh(), ib, w, free, n);
     if !f.ok {
-        return Index::Unsound;
+        return Verdict::Unsound;
     }
     let count = n - free;
     let by = Limits {
@@ -460,22 +692,61 @@ pub(crate) fn check_with(ib: &[u8], key: usize, n: usize, w: usize) -> Index
         count: count,
         key: key,
     };
-    let e = walk_entries(f, ib, by);
+    let e = walk_entries(f, ib, by, wanted, before, own);
     if !e.ok {
-        return Index::Unsound;
+        return Verdict::Unsound;
     }
-    let spare = e.free;
-    let used = e.used;
-    Index::Sound {
-        free: spare,
-        entries: used,
+    let spot = Spot {
+        ordinal: e.ordinal,
+        number: e.number,
+        before: e.before,
+        own: e.own,
+    };
+    Verdict::Sound {
+        free: e.free,
+        entries: e.used,
+        spot,
     }
 }
 
-// The same with the width that n intervals have.
+// Whether an index record of n intervals with keys of `key` bytes is sound, with its free intervals and entries.
 pub fn check(ib: &[u8], key: usize, n: usize) -> Index
     requires { ⌜ (31 ≤ length (now ib)) × (length (now ib) ≤ 32768) × (1 ≤ key) × (key ≤ 255) × (n ≤ limit) ⌝ }
     ensures { λ r. ⌜ r ≡ indexOf key n (now (ib .entry)) ⌝ }
 {
-    check_with(ib, key, n, measures::width_for(n))
+    let mut before = [0u8; BUFFER];
+    let mut own = [0u8; BUFFER];
+    match judge(ib, key, n, &ib[..0], &mut before, &mut own) {
+        Verdict::Sound {
+            free,
+            entries,
+            spot: _,
+        } => Index::Sound { free, entries },
+        Verdict::Unsound => Index::Unsound,
+    }
+}
+
+// The same, and where a key leads, found in the same walk: the separator before its entry is put at the front of `before`, its own at the front of `own`.
+// Where the record is unsound both stay as they were.
+pub fn seek(ib: &[u8], key: &[u8], n: usize, before: &mut [u8], own: &mut [u8]) -> Sought
+    requires { ⌜ (31 ≤ length (now ib)) × (length (now ib) ≤ 32768) × (1 ≤ length (now key)) × (length (now key) ≤ 255) × (n ≤ limit) ⌝ }
+    requires buffers { ⌜ (255 ≤ length (now before)) × (255 ≤ length (now own)) ⌝ }
+    ensures is { λ r. ⌜ Seeks n (now (ib .entry)) (now (key .entry)) (now (before .entry)) (now (own .entry)) r (now (before .exit)) (now (own .exit)) ⌝ }
+    ensures within { λ r. ⌜ SpotWithin n (length (now (key .entry))) r ⌝ }
+{
+    let mut low = [0u8; BUFFER];
+    let mut high = [0u8; BUFFER];
+    let Verdict::Sound {
+        free: _,
+        entries: _,
+        spot,
+    } = judge(ib, key.len(), n, key, &mut low, &mut high)
+    else {
+        return Sought::Unsound;
+    };
+    let b = spot.before;
+    let o = spot.own;
+    fields::copy(before, 0, &low[..b]);
+    fields::copy(own, 0, &high[..o]);
+    Sought::At(spot)
 }

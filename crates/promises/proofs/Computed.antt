@@ -1,7 +1,7 @@
 -- What areas written out are read as, what each change of them is answered, and what it leaves: computed from the definitions, and nothing more.
 use Prim.Native.Nat.{ℕ, _+_}
 use mathlib.Core.Path.{_≡_, refl}
-use mathlib.Core.Bool.{true}
+use mathlib.Core.Bool.{true, false}
 use mathlib.Core.List.{List, [], _∷_, _++_}
 use lib.ListN.{length, replicate}
 use Rattle.fields.specs.Bytes.{splice, number, digits}
@@ -38,15 +38,17 @@ use Rattle.fields.proofs.Octets.{allOctets}
 use Rattle.measures.specs.Judgement.{measures, countOf, widthFor, fine, judgedOf}
 use Rattle.measures.specs.declared.Judged.the-variants.{Fine}
 use Rattle.area.specs.Content.{Content, recordsOf}
-use Rattle.area.specs.Reading.{whole, readArea}
+use Rattle.area.specs.Reading.{damaged, whole, readArea}
+use Rattle.area.specs.Leads.{indexSound, entriesFor, intervalFor, soundFor}
 use Rattle.requests.specs.Model.{Change, insert, update, erase, makeChange, replace, lost}
 use Rattle.requests.specs.Changing.{bytesOf, changeOf}
-use Rattle.requests.specs.Allowed.{changes}
-use Rattle.requests.specs.declared.Answer.the-variants.{Done, NoInterval, NoRoom, Found}
+use Rattle.requests.specs.Answers.{numberOf}
+use Rattle.requests.specs.Allowed.{get, changes}
+use Rattle.requests.specs.declared.Answer.the-variants.{Done, NoInterval, NoRoom, Absent, Found, Damaged}
 use Rattle.promises.specs.Home.{LengthFine}
 use Rattle.promises.specs.Instances.{alone, between, eight, ninth, ten, shorter, high, certificates}
-use Rattle.promises.specs.Wrong.{third, together, rightly, lastLost, fillsIndex}
-use Rattle.requests.specs.Reading.{getOf}
+use Rattle.promises.specs.Wrong.{third, together, rightly, lastLost, fillsIndex, scratched, vouchesForAll, beyondBound, looksAway}
+use Rattle.requests.specs.Reading.{getThere, getIn, getOf}
 use Rattle.requests.specs.Opening.{openingOf}
 use Rattle.promises.specs.Instances as at
 
@@ -103,7 +105,7 @@ unfolding bytes splice number digits sum concat swap every orderOf common widthF
     partsBytes ahead lastLong freeBytes header trailer indexLayout count once namedOnce separatorBefore spellAll frontsIn partsSize sectionsIn endsClosed
     numbersAt partsAt partsIn readIndex frame fieldsTrue places soundIndex rises closed keepsRules boundBefore leadsTo difference fitting better bestTo
     bestCut byCut divisionOf counts parts pieces recordsOf readArea unsoundFree unsoundUsed unsoundData lowest filledWith partedAt divided taken takenStores
-    planOf stored changeOf withKey getOf
+    planOf stored changeOf withKey getOf getIn getThere soundFor
 answers = record {
   crowded = refl;
   roomy = refl;
@@ -135,3 +137,43 @@ unfolding bytes splice number digits sum concat swap every orderOf common widthF
     bestCut byCut divisionOf counts parts pieces recordsOf readArea unsoundFree unsoundUsed unsoundData lowest filledWith partedAt divided taken takenStores
     planOf stored changeOf withKey makeChange replace
 left = record { together = refl; lost = refl; brimful = refl }
+
+-- two damaged areas, and what a get of the first certificate meets in them: where the damage is, whether the index record and the key's interval are sound, and
+-- what is right to answer; a certificate that lies in an interval to which its key does not lead is not found, and only a check tells of the damage
+pub record Damages : Type 0 where
+  pub scratched-octets : allOctets scratched ≡ true
+  pub scratched-damaged : readArea depot (countOf 512 (length scratched)) scratched ≡ damaged 2
+  pub scratched-index : indexSound depot (countOf 512 (length scratched)) scratched ≡ true
+  pub scratched-there : soundFor depot (entriesFor depot (countOf 512 (length scratched)) scratched) (keyOf depot first)
+      (intervalFor depot (countOf 512 (length scratched)) scratched (keyOf depot first))
+      ≡ true
+  pub scratched-told : numberOf (vouchesForAll scratched (get (keyOf depot first) (replicate 60 0)) .answer) ≡ 2
+  pub beyond-octets : allOctets beyondBound ≡ true
+  pub beyond-there : soundFor depot (entriesFor depot (countOf 512 (length beyondBound)) beyondBound) (keyOf depot first)
+      (intervalFor depot (countOf 512 (length beyondBound)) beyondBound (keyOf depot first))
+      ≡ false
+  pub beyond-told : numberOf (looksAway beyondBound (get (keyOf depot first) (replicate 60 0)) .answer) ≡ 0
+  pub got-scratched : getOf 512 0 8 60 scratched (keyOf depot first) (replicate 60 0) .answer ≡ Found 10
+  pub got-beyond : getOf 512 0 8 60 beyondBound (keyOf depot first) (replicate 60 0) .answer ≡ Damaged 1
+  pub got-stray : getOf 512 0 8 60 beyondBound (keyOf depot second) (replicate 60 0) .answer ≡ Absent
+
+pub damages : Damages
+unfolding bytes splice number digits sum concat swap every orderOf common widthFor fine judgedOf anyBelow permittedSize described rdfCount push groups need
+    fits groupBytes groupsBytes layout form rdfs rdfsIn wellFormed lengths cut recordsIn formSound sound ascendFrom ascending soundFree soundUsed lower
+    holds placeOf startingAt bound separator cutSeparator separators partsOf dividedAt rootFrom packedIn indexSize indexBytes pieceBytes partBytes
+    partsBytes ahead lastLong freeBytes header trailer indexLayout count once namedOnce separatorBefore spellAll frontsIn partsSize sectionsIn endsClosed
+    numbersAt partsAt partsIn readIndex frame fieldsTrue places soundIndex rises closed keepsRules boundBefore leadsTo recordsOf readArea unsoundFree
+    unsoundUsed unsoundData lowest withKey getOf getIn getThere soundFor
+damages = record {
+  scratched-octets = refl;
+  scratched-damaged = refl;
+  scratched-index = refl;
+  scratched-there = refl;
+  scratched-told = refl;
+  beyond-octets = refl;
+  beyond-there = refl;
+  beyond-told = refl;
+  got-scratched = refl;
+  got-beyond = refl;
+  got-stray = refl;
+}

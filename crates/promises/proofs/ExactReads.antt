@@ -1,30 +1,33 @@
 -- The tables of the requests that read: check, get by key, get by address.
-use Prim.Native.Nat.{ℕ, _≤_, _<_}
+use Prim.Native.Nat.{ℕ, _+_, _≤_, _<_}
 use mathlib.Core.Path.{_≡_, refl, _∙_, sym, ap}
 use mathlib.Core.Bool.{Bool, true, false}
 use mathlib.Core.List.{List, [], _∷_, cons-ne-nil}
-use mathlib.Core.Logic.{_⊎_, inl, inr}
+use mathlib.Core.Logic.{_⊎_, inl, inr, _↔_}
 use lib.ListN.{length}
 use lib.Dec.{eqb, leb}
 use native.Mathlib.Omega.{arith}
 use borrow.Author.Tests.{eqb-true, eqb-false, leb-true, leb-false}
+use Rattle.fields.proofs.Choices.{false-true}
 use Rattle.measures.specs.Judgement.{judgedOf, measures, countOf}
 use Rattle.measures.specs.declared.Measures.{Measures}
 use Rattle.measures.specs.declared.Judged.the-variants.{Fine}
 use Rattle.measures.specs.declared.Judged.the-variants as judged
-use Rattle.area.specs.Content.{Content, recordsOf, baseOf}
+use Rattle.area.specs.Content.{Content, baseOf}
 use Rattle.area.specs.Reading.{damaged, whole, readArea}
+use Rattle.area.specs.Leads.{indexSound, entriesFor, numberFor, intervalFor, soundFor}
 use Rattle.requests.specs.Answers.{numberOf}
 use Rattle.requests.specs.Records.{lyingAt}
 use Rattle.requests.specs.Reading.{Given, checkOf, getOf, getAtOf, Gives}
 use Rattle.requests.specs.Finding.{Keyed, Lies, Finds}
 use Rattle.requests.specs.declared.Answer.{Answer}
-use Rattle.requests.specs.declared.Answer.the-variants.{Found, Short}
+use Rattle.requests.specs.declared.Answer.the-variants.{Found, Damaged, Short}
 use Rattle.requests.specs.declared.Answer.the-variants as answer
-use Rattle.requests.proofs.Gets.{judged-least, get-finds, get-wrong-length, get-at-finds}
+use Rattle.requests.proofs.Gets.{judged-least, get-index-damaged, get-length-wrong, get-there-damaged, get-there-finds, get-at-finds}
 use Rattle.requests.proofs.Lying.{lying-lies, lies-lying, whole-apart}
-use Rattle.promises.specs.Tables.{done, row, First, Holding, Absent, Nowhere, KeyedTooLong, LyingTooLong, checkTable, getTable, getAtTable}
-use Rattle.promises.proofs.Rows.{first-two, held, keyed-either}
+use Rattle.promises.specs.Tables.{Table, done, row, First, Holding, Nowhere, LyingTooLong, DamagedIndex, DamagedThere, recordsThere, AbsentThere}
+use Rattle.promises.specs.Tables.{TooLongThere, checkTable, getTable, getAtTable}
+use Rattle.promises.proofs.Rows.{first-one, first-two, held, keyed-either}
 
 module _ (size offset key most : ℕ) (area : List ℕ) where
   abbrev m : Measures
@@ -46,33 +49,30 @@ module _ (size offset key most : ℕ) (area : List ℕ) where
   answered : (g : Given) (a : Answer) (out : List ℕ) → g ≡ record { answer = a; output = out } → numberOf (g .answer) ≡ numberOf a
   answered g a out e = ap (λ (h : Given). numberOf (h .answer)) e
 
-  -- The last two rows of a get: what is wanted is not there, or is longer than the output.
-  last-two : (Wanted : Content → List ℕ → Type 0) (c : Content) → readArea m n area ≡ whole c → (none : Answer) (out : List ℕ) (g : Given) → Finds (Wanted c) none out g
-      → ((r : List ℕ) × Wanted c r) ⊎ ((r : List ℕ) → Wanted c r → ⊥)
-      → First (row (numberOf none) (Holding size offset key most area (λ (d : Content). (r : List ℕ) → Wanted d r → ⊥))
-      (row 8 (Holding size offset key most area (λ (d : Content). (r : List ℕ) × Wanted d r × (length out < length r))) done)) (numberOf (g .answer))
-  last-two Wanted c w none out g f (inr x) = inl ((c, w, x), answered g none out (f .absent x))
-  last-two Wanted c w none out g f (inl x) =
-      inr (
-        λ (h : Holding size offset key most area (λ (d : Content). (r : List ℕ) → Wanted d r → ⊥)). held size offset key most area
-            (λ (d : Content). (r : List ℕ) → Wanted d r → ⊥) c w h (x .0) (x .1),
-        go (leb (length (x .0)) (length out)) refl,
-      )
+  -- The last two rows of a get, whatever words say that what is wanted is not there, or is longer than the output.
+  last-two : (Wanted : List ℕ → Type 0) (out : List ℕ) (None Long : Type 0) → None ↔ ((r : List ℕ) → Wanted r → ⊥)
+      → Long ↔ ((r : List ℕ) × Wanted r × (length out < length r)) → (none : Answer) (g : Given) → Finds Wanted none out g
+      → ((r : List ℕ) × Wanted r) ⊎ ((r : List ℕ) → Wanted r → ⊥) → First (row (numberOf none) None (row 8 Long done)) (numberOf (g .answer))
+  last-two Wanted out None Long none-is long-is none g f (inr x) = inl (none-is .1 x, answered g none out (f .absent x))
+  last-two Wanted out None Long none-is long-is none g f (inl x) = inr (λ (h : None). none-is .0 h (x .0) (x .1), go (leb (length (x .0)) (length out)) refl)
     where
-      go : (t : Bool) → leb (length (x .0)) (length out) ≡ t
-          → First (row 8 (Holding size offset key most area (λ (d : Content). (r : List ℕ) × Wanted d r × (length out < length r))) done) (numberOf (g .answer))
+      go : (t : Bool) → leb (length (x .0)) (length out) ≡ t → First (row 8 Long done) (numberOf (g .answer))
       go true e =
           let z : numberOf (g .answer) ≡ 0 = answered g (Found (length (x .0))) _ (f .found (x .0) (x .1) (leb-true (length (x .0)) (length out) e)) in
           inr (
-            λ (h : Holding size offset key most area (λ (d : Content). (r : List ℕ) × Wanted d r × (length out < length r))).
-                let y = held size offset key most area (λ (d : Content). (r : List ℕ) × Wanted d r × (length out < length r)) c w h in
+            λ (h : Long).
+                let y = long-is .0 h in
                 let q : numberOf (g .answer) ≡ 8 = answered g (Short (length (y .0))) out (f .short (y .0) (y .1) (y .2)) in
                 omega arith,
             z,
           )
       go false e =
           let l : length out < length (x .0) = leb-false (length (x .0)) (length out) e in
-          inl ((c, w, (x .0, x .1, l)), answered g (Short (length (x .0))) out (f .short (x .0) (x .1) l))
+          inl (long-is .1 (x .0, x .1, l), answered g (Short (length (x .0))) out (f .short (x .0) (x .1) l))
+
+  -- What an area holds is said of its content.
+  of-content : (P : Content → Type 0) (c : Content) → readArea m n area ≡ whole c → Holding size offset key most area P ↔ P c
+  of-content P c w = (held size offset key most area P c w, λ (p : P c). (c, w, p))
 
   -- Some record lies at an address, or none.
   lies-either : 1 ≤ m .least → (c : Content) → readArea m n area ≡ whole c → (address : ℕ)
@@ -87,32 +87,55 @@ module _ (size offset key most : ℕ) (area : List ℕ) where
           cons-ne-nil r [] (sym (lies-lying m (baseOf c) address some (c .filled) (whole-apart m n area c w) r l) ∙ e))
       go (x ∷ ws) e = inl (x, lying-lies m (baseOf c) address some (c .filled) x ws e)
 
-  -- A get by key is refused with 1, 2, 3, 5 or 8 exactly as its table says.
-  pub get-exact : (wanted lent : List ℕ) (a : Answer) (out : List ℕ) → Gives (getOf size offset key most area wanted lent) a out
-      → First (getTable size offset key most area wanted lent) (numberOf a)
-  unfolding getOf
-  get-exact wanted lent a out k =
-      let e : numberOf a ≡ numberOf (getOf size offset key most area wanted lent .answer) = ap numberOf (k .answers) in
-      first-two size offset key most area
-      (row 3 (length wanted ≡ key → ⊥) (row 5 (Absent size offset key most area wanted) (row 8 (KeyedTooLong size offset key most area wanted lent) done))) (numberOf a)
-      (λ (o : judgedOf size offset key most (length area) ≡ judged.Outside). e ∙ rw o)
-      (λ (j : judgedOf size offset key most (length area) ≡ Fine m n) (p : ℕ) (d : readArea m n area ≡ damaged p). e ∙ rw (j, d))
-      (λ (j : judgedOf size offset key most (length area) ≡ Fine m n) (c : Content) (w : readArea m n area ≡ whole c). by-length e j c w (eqb (length wanted) key) refl)
-    where
-      by-length : numberOf a ≡ numberOf (getOf size offset key most area wanted lent .answer) → judgedOf size offset key most (length area) ≡ Fine m n → (c : Content)
-          → readArea m n area ≡ whole c → (t : Bool) → eqb (length wanted) key ≡ t
-          → First (row 3 (length wanted ≡ key → ⊥) (row 5 (Absent size offset key most area wanted) (row 8 (KeyedTooLong size offset key most area wanted lent) done))) (numberOf a)
-      by-length e j c w true f =
-          let l : length wanted ≡ key = eqb-true (length wanted) key f in
+  -- A get by key is refused with 1, 2, 3, 5 or 8 exactly as its table says: 2 by the index record or by the interval that the key leads to, 5 and 8 by the
+  -- records of that interval.
+  module _ (wanted lent : List ℕ) where
+    abbrev got : Given
+    got = getOf size offset key most area wanted lent
+
+    abbrev thereRows : Table
+    thereRows = row 5 (AbsentThere size offset key most area wanted) (row 8 (TooLongThere size offset key most area wanted lent) done)
+
+    module _ (j : judgedOf size offset key most (length area) ≡ Fine m n) (i : indexSound m n area ≡ true) where
+      by-there : length wanted ≡ key → (t : Bool) → soundFor m (entriesFor m n area) wanted (intervalFor m n area wanted) ≡ t
+          → First (row 2 (DamagedThere size offset key most area wanted) thereRows) (numberOf (got .answer))
+      by-there l false d =
+          inl (d, answered got (Damaged (numberFor m n area wanted + 1)) lent (get-there-damaged size offset key most area m n j wanted lent i l d))
+      by-there l true d =
+          let rs : List (List ℕ) = recordsThere size offset key most area wanted in
           inr (
-            λ (g : length wanted ≡ key → ⊥). g l,
-            rw e
-                (last-two (λ (d : Content) (r : List ℕ). Keyed m wanted (recordsOf (d .filled)) r) c w answer.Absent lent (getOf size offset key most area wanted lent)
-                (get-finds size offset key most area m n c j w wanted lent l) (keyed-either size offset key most area wanted (recordsOf (c .filled)))),
+            λ (h : DamagedThere size offset key most area wanted). false-true (sym h ∙ d),
+            last-two (Keyed m wanted rs) lent (AbsentThere size offset key most area wanted) (TooLongThere size offset key most area wanted lent)
+                (λ x. x, λ x. x) (λ x. x, λ x. x) answer.Absent got (get-there-finds size offset key most area m n j wanted lent i l d)
+                (keyed-either size offset key most area wanted rs),
           )
-      by-length e j c w false f =
+
+      by-length : (t : Bool) → eqb (length wanted) key ≡ t
+          → First (row 3 (length wanted ≡ key → ⊥) (row 2 (DamagedThere size offset key most area wanted) thereRows)) (numberOf (got .answer))
+      by-length false f =
           let l : length wanted ≡ key → ⊥ = eqb-false (length wanted) key f in
-          inl (l, e ∙ answered (getOf size offset key most area wanted lent) answer.WrongLength lent (get-wrong-length size offset key most area m n c j w wanted lent l))
+          inl (l, answered got answer.WrongLength lent (get-length-wrong size offset key most area m n j wanted lent i l))
+      by-length true f =
+          let l : length wanted ≡ key = eqb-true (length wanted) key f in
+          inr (λ (g : length wanted ≡ key → ⊥). g l, by-there l (soundFor m (entriesFor m n area) wanted (intervalFor m n area wanted)) refl)
+
+    by-index : judgedOf size offset key most (length area) ≡ Fine m n → (t : Bool) → indexSound m n area ≡ t
+        → First (row 2 (DamagedIndex size offset key most area) (row 3 (length wanted ≡ key → ⊥) (row 2 (DamagedThere size offset key most area wanted) thereRows)))
+        (numberOf (got .answer))
+    by-index j false i = inl (i, answered got (Damaged 0) lent (get-index-damaged size offset key most area m n j wanted lent i))
+    by-index j true i = inr (λ (h : DamagedIndex size offset key most area). false-true (sym h ∙ i), by-length j i (eqb (length wanted) key) refl)
+
+    get-outside : judgedOf size offset key most (length area) ≡ judged.Outside → numberOf (got .answer) ≡ 1
+    unfolding getOf
+    get-outside o = rw o
+
+    pub get-exact : (a : Answer) (out : List ℕ) → Gives (getOf size offset key most area wanted lent) a out
+        → First (getTable size offset key most area wanted lent) (numberOf a)
+    get-exact a out k =
+        rw (ap numberOf (k .answers))
+        (first-one size offset key most area
+        (row 2 (DamagedIndex size offset key most area) (row 3 (length wanted ≡ key → ⊥) (row 2 (DamagedThere size offset key most area wanted) thereRows)))
+        (numberOf (got .answer)) get-outside (λ (j : judgedOf size offset key most (length area) ≡ Fine m n). by-index j (indexSound m n area) refl))
 
   -- A get by address is refused with 1, 2, 9 or 8 exactly as its table says.
   pub get-at-exact : (address : ℕ) (lent : List ℕ) (a : Answer) (out : List ℕ) → Gives (getAtOf size offset key most area address lent) a out
@@ -125,5 +148,8 @@ module _ (size offset key most : ℕ) (area : List ℕ) where
       (λ (j : judgedOf size offset key most (length area) ≡ Fine m n) (p : ℕ) (d : readArea m n area ≡ damaged p). e ∙ rw (j, d))
       (λ (j : judgedOf size offset key most (length area) ≡ Fine m n) (c : Content) (w : readArea m n area ≡ whole c).
       rw e
-      (last-two (λ (d : Content) (r : List ℕ). Lies m (baseOf d) address (d .filled) r) c w answer.NoRecord lent (getAtOf size offset key most area address lent)
-      (get-at-finds size offset key most area m n c j w address lent) (lies-either (judged-least size offset key most area m n c j w) c w address)))
+      (last-two (Lies m (baseOf c) address (c .filled)) lent (Nowhere size offset key most area address) (LyingTooLong size offset key most area address lent)
+      (of-content (λ (d : Content). (r : List ℕ) → Lies m (baseOf d) address (d .filled) r → ⊥) c w)
+      (of-content (λ (d : Content). (r : List ℕ) × Lies m (baseOf d) address (d .filled) r × (length lent < length r)) c w) answer.NoRecord
+      (getAtOf size offset key most area address lent) (get-at-finds size offset key most area m n c j w address lent)
+      (lies-either (judged-least size offset key most area m n c j w) c w address)))

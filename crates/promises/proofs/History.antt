@@ -180,7 +180,7 @@ module _ (size offset key most : ℕ) where
             let h = history ss area c s (p .0) in
             let now : List ℕ = areaAfter area ss in
             rw (given-is (getOf size offset key most now wanted lent) a out (p .1 .0 .1), ← h .records)
-            (area-get-finds size offset key most now m n (h .content) (h .sound .judges) (h .sound .reads) wanted lent l)
+            (area-get-finds size offset key most now m n (h .content) (h .sound .judges) (h .sound .reads) (h .sound .octets) wanted lent l)
 
         -- At any step of a history a get by address finds exactly the record whose first byte has that address in the area as it then is read.
         pub get-at-finds : (address : ℕ)

@@ -79,7 +79,8 @@ module _ (m : Measures) (n : ℕ) (area : List ℕ) (lent : Lent m n area) where
   pub area-only-laid-out : (c : Content) → readArea m n area ≡ whole c → AreaLaidOut m n area c
   area-only-laid-out c e = laying.area-only-laid-out m n area lent c e
 
-  -- Damage is told where it is: place 0 exactly if no index layout fits, else the place of the lowest interval that no layout explains in its role.
+  -- Damage is told where it is: place 0 exactly if no index layout fits, else the place of the lowest interval that no layout explains in its role. So a check, a
+  -- get by address and a change tell it; what a get by key tells, which judges two places only, is `get-damage-placed` (proofs/Local.antt).
   pub damage-placed : ((readArea m n area ≡ damaged 0) ↔ ((ix : Meaning) → IndexInterval m n ix (indexIn m area) → ⊥))
       × ((k : ℕ) → (readArea m n area ≡ damaged (k + 1)) ↔ DamagedAt m n area k)
   damage-placed = placing.damage-placed m n area lent

@@ -14,6 +14,7 @@ pub mod ExactPlans
 pub mod Exact
 pub mod Wants
 pub mod Values
+pub mod Local
 pub mod Computed
 pub mod Instances
 pub mod Wrong

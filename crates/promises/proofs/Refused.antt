@@ -1,5 +1,5 @@
 -- Refused requests do no harm: demand 1. One proof for the three changes, one for the two gets.
-use Prim.Native.Nat.{ℕ}
+use Prim.Native.Nat.{ℕ, _+_}
 use mathlib.Core.Path.{_≡_, refl, _∙_, ap}
 use mathlib.Core.Bool.{Bool, true, false}
 use mathlib.Core.List.{List, [], _∷_}
@@ -8,16 +8,23 @@ use lib.ListN.{length}
 use lib.Dec.{eqb, leb}
 use Rattle.fields.specs.Choice.{pick}
 use Rattle.fields.specs.Bytes.{splice}
+use Rattle.measures.specs.Judgement.{judgedOf}
+use Rattle.measures.specs.declared.Measures.{Measures}
+use Rattle.measures.specs.declared.Judged.{Judged}
+use Rattle.measures.specs.declared.Judged.the-variants as judged
+use Rattle.interval.specs.Reading.{recordsIn}
+use Rattle.index.specs.Meaning.{Entry}
 use Rattle.area.specs.Content.{recordsOf, baseOf}
+use Rattle.area.specs.Leads.{indexSound, entriesFor, entryFor, intervalFor, soundFor}
 use Rattle.change.specs.Plan.{planOf}
 use Rattle.requests.specs.Answers.{numberOf}
 use Rattle.requests.specs.Records.{withKey, lyingAt}
 use Rattle.requests.specs.Model.{Change, insert, update, erase, Legal}
 use Rattle.requests.specs.Opening.{Opening, shut, holding, openingOf}
-use Rattle.requests.specs.Reading.{Given, refused, handOut, getOpened, getOf, getAtOpened, getAtOf, Gives}
+use Rattle.requests.specs.Reading.{Given, refused, handOut, getThere, getIn, getJudged, getOf, getAtOpened, getAtOf, Gives}
 use Rattle.requests.specs.Changing.{Outcome, kept, keyIn, lengthFine, editOf, carryOut, ifKeyed, changeOpened, changeOf, Makes}
 use Rattle.requests.specs.declared.Answer.{Answer}
-use Rattle.requests.specs.declared.Answer.the-variants.{Found, Short, WrongLength, Absent, NoRecord}
+use Rattle.requests.specs.declared.Answer.the-variants.{Found, Damaged, Short, WrongLength, Absent, NoRecord}
 use Rattle.requests.proofs.Order.{refused-spares as carry-spares}
 use Rattle.requests.proofs.Ways.{unlawful, Decided, legal-decided}
 use Rattle.promises.specs.Harmless.{Refusal, RefusedHarmless}
@@ -69,13 +76,28 @@ hand-spares none (r ∷ ws) out n = go (leb (length r) (length out)) n
     go true n = absurd (n refl)
     go false n = refl
 
-get-opened : (d : Opening) (wanted out : List ℕ) → SparesOutput out (getOpened d wanted out)
-get-opened (shut a) wanted out n = refl
-get-opened (holding m c) wanted out n = go (eqb (length wanted) (m .key)) n
+-- the index record, the length and the key's interval are judged before anything is handed out
+there-spares : (m : Measures) (es : List Entry) (wanted ci out : List ℕ) → SparesOutput out (getThere m es wanted ci out)
+unfolding getThere
+there-spares m es wanted ci out = go (soundFor m es wanted ci)
   where
-    go : (t : Bool) → SparesOutput out (pick t (handOut Absent (withKey m wanted (recordsOf (c .filled))) out) (refused WrongLength out))
-    go true n = hand-spares Absent (withKey m wanted (recordsOf (c .filled))) out n
+    go : (t : Bool) → SparesOutput out (pick t (handOut Absent (withKey m wanted (recordsIn ci)) out) (refused (Damaged (entryFor wanted es .num + 1)) out))
+    go true n = hand-spares Absent (withKey m wanted (recordsIn ci)) out n
     go false n = refl
+
+in-spares : (m : Measures) (n : ℕ) (area wanted out : List ℕ) → SparesOutput out (getIn m n area wanted out)
+unfolding getIn
+in-spares m n area wanted out = go (indexSound m n area) (eqb (length wanted) (m .key))
+  where
+    go : (t u : Bool) → SparesOutput out
+        (pick t (pick u (getThere m (entriesFor m n area) wanted (intervalFor m n area wanted) out) (refused WrongLength out)) (refused (Damaged 0) out))
+    go true true k = there-spares m (entriesFor m n area) wanted (intervalFor m n area wanted) out k
+    go true false k = refl
+    go false u k = refl
+
+get-judged : (d : Judged) (area wanted out : List ℕ) → SparesOutput out (getJudged d area wanted out)
+get-judged judged.Outside area wanted out n = refl
+get-judged (judged.Fine m k) area wanted out n = in-spares m k area wanted out n
 
 get-at-opened : (d : Opening) (address : ℕ) (out : List ℕ) → SparesOutput out (getAtOpened d address out)
 get-at-opened (shut a) address out n = refl
@@ -95,6 +117,6 @@ refused-harmless size offset key most area =
       insert = λ (r : List ℕ). change-harmless size offset key most area (insert r);
       update = λ (r : List ℕ). change-harmless size offset key most area (update r);
       erase = λ (wanted : List ℕ). change-harmless size offset key most area (erase wanted);
-      get = λ (wanted out : List ℕ). given (getOf size offset key most area wanted out) out (get-opened (openingOf size offset key most area) wanted out);
+      get = λ (wanted out : List ℕ). given (getOf size offset key most area wanted out) out (get-judged (judgedOf size offset key most (length area)) area wanted out);
       get-at = λ (address : ℕ) (out : List ℕ). given (getAtOf size offset key most area address out) out (get-at-opened (openingOf size offset key most area) address out);
     }

@@ -41,23 +41,29 @@ module _ (size offset key most : ℕ) (area : List ℕ) where
       go true e = inr refl
       go false e = inl refl
 
-  -- The first two rows, which stand in every table.
+  -- The first row, which stands in every table.
+  pub first-one : (later : Table) (k : ℕ) → (judgedOf size offset key most (length area) ≡ judged.Outside → k ≡ 1)
+      → (judgedOf size offset key most (length area) ≡ Fine m n → First later k) → First (row 1 (OutsideLimits size offset key most area) later) k
+  first-one later k one more = by-judgement judged-either
+    where
+      by-judgement : (judgedOf size offset key most (length area) ≡ judged.Outside) ⊎ (judgedOf size offset key most (length area) ≡ Fine m n)
+          → First (row 1 (OutsideLimits size offset key most area) later) k
+      by-judgement (inl o) =
+          inl (λ (k : ℕ) (f : Fits (measures size offset key most) k (length area)). outside-fine m k (sym o ∙ accepted size offset key most (length area) k f), one o)
+      by-judgement (inr j) = inr (λ (o : OutsideLimits size offset key most area). o n (accepted-fits size offset key most (length area) n m j .1), more j)
+
+  -- The first two rows, which stand in every table but that of a get by key.
   pub first-two : (later : Table) (k : ℕ) → (judgedOf size offset key most (length area) ≡ judged.Outside → k ≡ 1)
       → (judgedOf size offset key most (length area) ≡ Fine m n → (p : ℕ) → readArea m n area ≡ damaged p → k ≡ 2)
       → (judgedOf size offset key most (length area) ≡ Fine m n → (c : Content) → readArea m n area ≡ whole c → First later k)
       → First (row 1 (OutsideLimits size offset key most area) (row 2 (DamagedSomewhere size offset key most area) later)) k
-  first-two later k one two more = by-judgement judged-either
+  first-two later k one two more =
+      first-one (row 2 (DamagedSomewhere size offset key most area) later) k one
+      (λ (j : judgedOf size offset key most (length area) ≡ Fine m n). by-reading j (readArea m n area) refl)
     where
       by-reading : judgedOf size offset key most (length area) ≡ Fine m n → (d : Reading) → readArea m n area ≡ d → First (row 2 (DamagedSomewhere size offset key most area) later) k
       by-reading j (damaged p) e = inl ((p, e), two j p e)
       by-reading j (whole c) e = inr (λ (d : DamagedSomewhere size offset key most area). damaged-whole (d .0) c (sym (d .1) ∙ e), more j c e)
-
-      by-judgement : (judgedOf size offset key most (length area) ≡ judged.Outside) ⊎ (judgedOf size offset key most (length area) ≡ Fine m n)
-          → First (row 1 (OutsideLimits size offset key most area) (row 2 (DamagedSomewhere size offset key most area) later)) k
-      by-judgement (inl o) =
-          inl (λ (k : ℕ) (f : Fits (measures size offset key most) k (length area)). outside-fine m k (sym o ∙ accepted size offset key most (length area) k f), one o)
-      by-judgement (inr j) =
-          inr (λ (o : OutsideLimits size offset key most area). o n (accepted-fits size offset key most (length area) n m j .1), by-reading j (readArea m n area) refl)
 
   -- What the area holds, it holds of the content that it is read as.
   pub held : (P : Content → Type 0) (c : Content) → readArea m n area ≡ whole c → Holding size offset key most area P → P c

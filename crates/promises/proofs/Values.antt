@@ -1,6 +1,6 @@
 -- The values that come with a refusal are exact.
 use Prim.Native.Nat.{ℕ}
-use mathlib.Core.Path.{_≡_, refl, ap}
+use mathlib.Core.Path.{_≡_, refl, _∙_, sym, ap}
 use mathlib.Core.Bool.{Bool, true, false}
 use mathlib.Core.List.{List, [], _∷_}
 use mathlib.Core.Logic.{_⊎_, inl, inr}
@@ -12,18 +12,19 @@ use Rattle.measures.specs.Judgement.{judgedOf, measures, countOf}
 use Rattle.measures.specs.declared.Measures.{Measures}
 use Rattle.measures.specs.declared.Judged.the-variants.{Fine}
 use Rattle.measures.specs.declared.Judged.the-variants as judged
-use Rattle.area.specs.Content.{Content}
-use Rattle.area.specs.Reading.{damaged, whole, readArea}
+use Rattle.area.specs.Leads.{indexSound, entriesFor, intervalFor, soundFor}
 use Rattle.requests.specs.Answers.{numberOf, valuesOf}
+use Rattle.requests.specs.Model.{Change}
 use Rattle.requests.specs.Opening.{Opening, shut, openingOf}
-use Rattle.requests.specs.Reading.{Given, checkOpened, checkOf, getOpened, getOf, getAtOpened, getAtOf}
-use Rattle.requests.specs.Finding.{Finds}
+use Rattle.requests.specs.Reading.{Given, refused, checkOpened, checkOf, getOf, getAtOpened, getAtOf}
+use Rattle.requests.specs.Finding.{Keyed, Finds}
 use Rattle.requests.specs.Changing.{changeOpened, changeOf}
 use Rattle.requests.specs.declared.Answer.{Answer}
 use Rattle.requests.specs.declared.Answer.the-variants as answer
-use Rattle.requests.proofs.Gets.{get-finds, get-wrong-length, get-at-finds}
+use Rattle.requests.proofs.Gets.{get-index-damaged, get-length-wrong, get-there-damaged, get-there-finds, get-at-finds}
 use Rattle.requests.specs.Allowed.{Request, check, get, getAt, changes, Allowed}
-use Rattle.promises.specs.Values.{Asked, ValuesExact}
+use Rattle.promises.specs.Tables.{recordsThere}
+use Rattle.promises.specs.Values.{DamagedFor, Asked, ValuesExact}
 use Rattle.promises.proofs.History.{change-makes}
 use Rattle.promises.proofs.Rows.{judged-either}
 
@@ -74,51 +75,93 @@ module _ (size offset key most : ℕ) (area : List ℕ) where
   own-is (getAt address lent) a after out k = k .1 .answers
   own-is (changes ch) a after out k = change-makes size offset key most area after ch a k .answers
 
-  -- what is told where a request comes no further than the opening
-  own-shut : (q : Request) (a : Answer) → openingOf size offset key most area ≡ shut a → own q ≡ a
-  unfolding checkOf getOf getAtOf changeOf
-  own-shut check a e = ap checkOpened e
-  own-shut (get wanted lent) a e = ap (λ (d : Opening). getOpened d wanted lent .answer) e
-  own-shut (getAt address lent) a e = ap (λ (d : Opening). getAtOpened d address lent .answer) e
-  own-shut (changes ch) a e = ap (λ (d : Opening). changeOpened d area ch .answer) e
+  -- what is told where a request comes no further than the opening; a get by key has its own way
+  check-shut : (a : Answer) → openingOf size offset key most area ≡ shut a → checkOf size offset key most area ≡ a
+  unfolding checkOf
+  check-shut a e = ap checkOpened e
+
+  get-at-shut : (address : ℕ) (lent : List ℕ) (a : Answer) → openingOf size offset key most area ≡ shut a → getAtOf size offset key most area address lent .answer ≡ a
+  unfolding getAtOf
+  get-at-shut address lent a e = ap (λ (d : Opening). getAtOpened d address lent .answer) e
+
+  change-shut : (ch : Change) (a : Answer) → openingOf size offset key most area ≡ shut a → changeOf size offset key most area ch .answer ≡ a
+  unfolding changeOf
+  change-shut ch a e = ap (λ (d : Opening). changeOpened d area ch .answer) e
+
+  get-outside : (wanted lent : List ℕ) → judgedOf size offset key most (length area) ≡ judged.Outside
+      → getOf size offset key most area wanted lent .answer ≡ answer.Outside
+  unfolding getOf
+  get-outside wanted lent o = rw o
 
   own-outside : (q : Request) → judgedOf size offset key most (length area) ≡ judged.Outside → own q ≡ answer.Outside
-  own-outside q o = own-shut q answer.Outside (rw o)
+  own-outside check o = check-shut answer.Outside (rw o)
+  own-outside (get wanted lent) o = get-outside wanted lent o
+  own-outside (getAt address lent) o = get-at-shut address lent answer.Outside (rw o)
+  own-outside (changes ch) o = change-shut ch answer.Outside (rw o)
 
-  own-damaged : (q : Request) → FineHere → (p : ℕ) → readArea m n area ≡ damaged p → own q ≡ answer.Damaged p
-  own-damaged q j p d = own-shut q (answer.Damaged p) (rw (j, d))
+  -- ---- a get by key
 
-  own-needed : (q : Request) → FineHere → numberOf (own q) ≡ 8 → (c : Content) → readArea m n area ≡ whole c → (r : List ℕ) → Asked m c q r
-      → valuesOf (own q) ≡ length r ∷ []
-  own-needed check j z c w r k = absurd k
-  own-needed (changes ch) j z c w r k = absurd k
-  own-needed (getAt address lent) j z c w r k = needed-length _ answer.NoRecord lent _ (get-at-finds size offset key most area m n c j w address lent) z r k
-  own-needed (get wanted lent) j z c w r k = go (eqb (length wanted) key) refl
-    where
-      go : (t : Bool) → eqb (length wanted) key ≡ t → valuesOf (getOf size offset key most area wanted lent .answer) ≡ length r ∷ []
-      go true e = needed-length _ answer.Absent lent _ (get-finds size offset key most area m n c j w wanted lent (eqb-true (length wanted) key e)) z r k
-      go false e =
-          let g = get-wrong-length size offset key most area m n c j w wanted lent (eqb-false (length wanted) key e) in
-          absurd (omega (arith, z, ap (λ (h : Given). numberOf (h .answer)) g))
+  module _ (wanted lent : List ℕ) (j : FineHere) where
+    abbrev got : Given
+    got = getOf size offset key most area wanted lent
+
+    abbrev soundThere : Bool
+    soundThere = soundFor m (entriesFor m n area) wanted (intervalFor m n area wanted)
+
+    told : (x : Answer) (k : ℕ) → got ≡ refused x lent → numberOf (got .answer) ≡ k → numberOf x ≡ k
+    told x k e z = ap (λ (h : Given). numberOf (h .answer)) (sym e) ∙ z
+
+    -- 2 is told of the index record or of the key's interval, with the place,
+    got-place : numberOf (got .answer) ≡ 2 → (p : ℕ) → DamagedFor size offset key most area (get wanted lent) p → valuesOf (got .answer) ≡ p ∷ []
+    got-place z p (inl d) = ap (λ (h : Given). valuesOf (h .answer)) (get-index-damaged size offset key most area m n j wanted lent (d .0)) ∙ rw (d .1)
+    got-place z p (inr d) = go (eqb (length wanted) key) refl
+      where
+        go : (t : Bool) → eqb (length wanted) key ≡ t → valuesOf (got .answer) ≡ p ∷ []
+        go true e =
+            ap (λ (h : Given). valuesOf (h .answer)) (get-there-damaged size offset key most area m n j wanted lent (d .0) (eqb-true (length wanted) key e) (d .1))
+            ∙ rw (d .2)
+        go false e =
+            absurd
+            (omega (arith, told answer.WrongLength 2 (get-length-wrong size offset key most area m n j wanted lent (d .0) (eqb-false (length wanted) key e)) z))
+
+    -- and 8 of a record of that interval, with its length.
+    got-needed : numberOf (got .answer) ≡ 8 → (r : List ℕ) → Asked size offset key most area (get wanted lent) r → valuesOf (got .answer) ≡ length r ∷ []
+    got-needed z r k = go (indexSound m n area) (eqb (length wanted) key) soundThere refl refl refl
+      where
+        go : (t u v : Bool) → indexSound m n area ≡ t → eqb (length wanted) key ≡ u → soundThere ≡ v → valuesOf (got .answer) ≡ length r ∷ []
+        go false u v i e d = absurd (omega (arith, told (answer.Damaged 0) 8 (get-index-damaged size offset key most area m n j wanted lent i) z))
+        go true false v i e d =
+            absurd (omega (arith, told answer.WrongLength 8 (get-length-wrong size offset key most area m n j wanted lent i (eqb-false (length wanted) key e)) z))
+        go true true false i e d =
+            absurd (omega (arith, told _ 8 (get-there-damaged size offset key most area m n j wanted lent i (eqb-true (length wanted) key e) d) z))
+        go true true true i e d =
+            needed-length (Keyed m wanted (recordsThere size offset key most area wanted)) answer.Absent lent got
+            (get-there-finds size offset key most area m n j wanted lent i (eqb-true (length wanted) key e) d) z r k
+
+  -- ---- all requests
+
+  own-place : (q : Request) → FineHere → numberOf (own q) ≡ 2 → (p : ℕ) → DamagedFor size offset key most area q p → valuesOf (own q) ≡ p ∷ []
+  own-place check j z p d = ap valuesOf (check-shut (answer.Damaged p) (rw (j, d)))
+  own-place (get wanted lent) j z p d = got-place wanted lent j z p d
+  own-place (getAt address lent) j z p d = ap valuesOf (get-at-shut address lent (answer.Damaged p) (rw (j, d)))
+  own-place (changes ch) j z p d = ap valuesOf (change-shut ch (answer.Damaged p) (rw (j, d)))
+
+  own-needed : (q : Request) → FineHere → numberOf (own q) ≡ 8 → (r : List ℕ) → Asked size offset key most area q r → valuesOf (own q) ≡ length r ∷ []
+  own-needed check j z r k = absurd k
+  own-needed (get wanted lent) j z r k = got-needed wanted lent j z r k
+  own-needed (getAt address lent) j z r k = needed-length _ answer.NoRecord lent _ (get-at-finds size offset key most area m n (k .0) j (k .1) address lent) z r (k .2)
+  own-needed (changes ch) j z r k = absurd k
 
   -- What comes back with a refusal is the place of the damage, the length of the record asked for, or nothing, as the number says.
   pub values-exact : (q : Request) (a : Answer) (after out : List ℕ) → Allowed size offset key most area q a after out → ValuesExact size offset key most area q a
-  values-exact q a after out k = rw (own-is q a after out k) (go judged-either-here)
+  values-exact q a after out k = rw (own-is q a after out k) (go (judged-either size offset key most area))
     where
-      judged-either-here : (judgedOf size offset key most (length area) ≡ judged.Outside) ⊎ FineHere
-      judged-either-here = judged-either size offset key most area
-
       go : (judgedOf size offset key most (length area) ≡ judged.Outside) ⊎ FineHere → ValuesExact size offset key most area q (own q)
       go (inl o) =
           let e : numberOf (own q) ≡ 1 = ap numberOf (own-outside q o) in
           record {
-            place = λ (z : numberOf (own q) ≡ 2) (p : ℕ) (d : readArea m n area ≡ damaged p). absurd (omega arith);
-            needed = λ (z : numberOf (own q) ≡ 8) (c : Content) (w : readArea m n area ≡ whole c) (r : List ℕ) (i : Asked m c q r). absurd (omega arith);
+            place = λ (z : numberOf (own q) ≡ 2) (p : ℕ) (d : DamagedFor size offset key most area q p). absurd (omega arith);
+            needed = λ (z : numberOf (own q) ≡ 8) (r : List ℕ) (i : Asked size offset key most area q r). absurd (omega arith);
             nothing = no-values (own q);
           }
-      go (inr j) =
-          record {
-            place = λ (z : numberOf (own q) ≡ 2) (p : ℕ) (d : readArea m n area ≡ damaged p). ap valuesOf (own-damaged q j p d);
-            needed = λ (z : numberOf (own q) ≡ 8) (c : Content) (w : readArea m n area ≡ whole c) (r : List ℕ) (i : Asked m c q r). own-needed q j z c w r i;
-            nothing = no-values (own q);
-          }
+      go (inr j) = record { place = own-place q j; needed = own-needed q j; nothing = no-values (own q) }

@@ -8,6 +8,8 @@ use native.Mathlib.Omega.{arith}
 use Rattle.fields.specs.Bytes.{Octets}
 use Rattle.fields.specs.Order.{orderOf}
 use Rattle.fields.specs.Lists.{sum, every}
+use Rattle.fields.proofs.Choices.{false-true}
+use Rattle.fields.proofs.Octets.{all-octets}
 use Rattle.measures.specs.Judgement.{countOf}
 use Rattle.measures.proofs.Fine.{accepted, fits-count}
 use Rattle.room.specs.Room.{rdfCount, push, groups, need, fits}
@@ -33,8 +35,9 @@ use Rattle.promises.specs.Changes.{CountsTrue}
 use Rattle.promises.specs.Tables.{First, Holding, Crowded, changed, tableFor, WantOfInterval, WantOfRoom}
 use Rattle.promises.proofs.History.{history, get-finds, total-bytes}
 use Rattle.promises.proofs.Changes.{check-true, counts-true}
-use Rattle.promises.proofs.Computed.{nine, answers, left}
+use Rattle.promises.proofs.Computed.{nine, answers, left, damages}
 use Rattle.promises.proofs.Exact.{refusals-exact}
+use Rattle.promises.proofs.Local.{rows-whole}
 use Rattle.interval.specs.Search.{holds}
 use Rattle.division.specs.Division.{counts}
 use Rattle.change.specs.Parts.{divided}
@@ -44,7 +47,7 @@ use Rattle.promises.proofs.Wants.{want-of-interval, want-of-room}
 use Rattle.interval.proofs.Form.{interval-reads-back}
 use Rattle.promises.specs.Wrong.{run, Breaks, handedBy, rightly, refusesAll, callsDamaged, alwaysFull, fullTooSoon, crampedAtHome}
 use Rattle.promises.specs.Wrong.{crampedAtBrim, inventsCounts, inventsWritten, sameRecord, third, together, untouchedDone, keepsRevoked, constantBytes}
-use Rattle.promises.specs.Wrong.{losesLast, ReadsBack}
+use Rattle.promises.specs.Wrong.{losesLast, ReadsBack, scratched, vouchesForAll, beyondBound, looksAway}
 use Rattle.promises.proofs.Instances.{six-just-not, home-not-seven, seven-just-not, roomy-six, home-seven, brimful-seven, even-sound}
 
 -- ---- the area
@@ -64,6 +67,10 @@ held-there P h =
     let e : h .0 ≡ held = cc in
     rw e at (h .2)
 
+-- the same with as many data intervals as its length says
+here-sound : Sound 512 0 8 60 depot (countOf 512 (length bytes)) bytes held
+here-sound = rw two example-sound
+
 -- ---- tables
 
 -- A register that refuses everything breaks `refusals-exact`: the first certificate is there.
@@ -72,11 +79,12 @@ unfolding recordsOf
 refuses-all (inl x) = omega (arith, x .1)
 refuses-all (inr (a, inl x)) = omega (arith, x .1)
 refuses-all (inr (a, inr (b, inl x))) = omega (arith, x .1)
-refuses-all (inr (a, inr (b, inr (d, inl x)))) =
-    held-there (λ (c : Content). (r : List ℕ) → Keyed depot (keyOf depot first) (recordsOf (c .filled)) r → ⊥) (x .0) first
-    (record { among = List·Memᴰ·head refl; has = refl })
-refuses-all (inr (a, inr (b, inr (d, inr (e, inl x))))) = omega (arith, x .1)
-refuses-all (inr (a, inr (b, inr (d, inr (e, inr x))))) = omega (arith, x .1)
+refuses-all (inr (a, inr (b, inr (d, inl x)))) = omega (arith, x .1)
+refuses-all (inr (a, inr (b, inr (d, inr (e, inl x))))) =
+    held-there (λ (c : Content). (r : List ℕ) → Keyed depot (keyOf depot first) (recordsOf (c .filled)) r → ⊥)
+    (rows-whole 512 0 8 60 bytes held here-sound (keyOf depot first) refl .absent .0 (x .0)) first (record { among = List·Memᴰ·head refl; has = refl })
+refuses-all (inr (a, inr (b, inr (d, inr (e, inr (f, inl x)))))) = omega (arith, x .1)
+refuses-all (inr (a, inr (b, inr (d, inr (e, inr (f, inr x)))))) = omega (arith, x)
 
 -- A register that calls everything damaged breaks it too: the area is sound.
 pub calls-damaged : First (tableFor 512 0 8 60 bytes check) (numberOf (callsDamaged bytes check .answer)) → ⊥
@@ -190,6 +198,28 @@ keeps-revoked f =
     let k : Keyed depot (keyOf depot first) (second ∷ []) (x .0) = rw revoked-taken at (x .1) in
     ⊎-elim (λ (e : x .0 ≡ second). let z : keyOf depot second ≡ keyOf depot first = rw e at (k .has) in let y : _≡_ {A = ℕ} 0x32 0x31 = cc in omega arith)
     (λ (i : List·Memᴰ (x .0) []). List·Memᴰ·not-nil i) (List·Memᴰ·cases-cons (k .among))
+
+-- A register that refuses a get for damage in another interval breaks `refusals-exact`: the index record and the key's interval are sound.
+pub vouches-for-all : First (tableFor 512 0 8 60 scratched (get (keyOf depot first) (replicate 60 0)))
+    (numberOf (vouchesForAll scratched (get (keyOf depot first) (replicate 60 0)) .answer))
+    → ⊥
+vouches-for-all (inl x) = omega (arith, x .1, damages .scratched-told)
+vouches-for-all (inr (a, inl x)) = false-true (sym (x .0) ∙ damages .scratched-index)
+vouches-for-all (inr (a, inr (b, inl x))) = omega (arith, x .1, damages .scratched-told)
+vouches-for-all (inr (a, inr (b, inr (d, inl x)))) = false-true (sym (x .0) ∙ damages .scratched-there)
+vouches-for-all (inr (a, inr (b, inr (d, inr (e, inl x))))) = omega (arith, x .1, damages .scratched-told)
+vouches-for-all (inr (a, inr (b, inr (d, inr (e, inr (f, inl x)))))) = omega (arith, x .1, damages .scratched-told)
+vouches-for-all (inr (a, inr (b, inr (d, inr (e, inr (f, inr x)))))) = omega (arith, x, damages .scratched-told)
+
+-- A register that hands out a certificate from a damaged interval breaks it too: a key that lies there is above the interval's bound.
+pub looks-away : First (tableFor 512 0 8 60 beyondBound (get (keyOf depot first) (replicate 60 0)))
+    (numberOf (looksAway beyondBound (get (keyOf depot first) (replicate 60 0)) .answer))
+    → ⊥
+looks-away (inl x) = omega (arith, x .1, damages .beyond-told)
+looks-away (inr (a, inl x)) = omega (arith, x .1, damages .beyond-told)
+looks-away (inr (a, inr (b, inl x))) = omega (arith, x .1, damages .beyond-told)
+looks-away (inr (a, inr (b, inr (d, inl x)))) = omega (arith, x .1, damages .beyond-told)
+looks-away (inr (a, inr (b, inr (d, inr (e, x))))) = e (damages .beyond-there)
 
 -- ---- histories
 
@@ -337,6 +367,20 @@ tellings-broken = (
       (get-finds 512 0 8 60 depot 2 bytes held example-sound (keepsRevoked bytes (changes (erase (keyOf depot first))) ∷ []) []
       (keepsRevoked bytes (get (keyOf depot first) (replicate 60 0)) .answer) bytes
       (keepsRevoked bytes (get (keyOf depot first) (replicate 60 0)) .output) (replicate 60 0) (keyOf depot first) refl t),
+)
+
+-- Gets that judge more than they read, or less.
+pub judgings-broken : Breaks 8 60 scratched vouchesForAll (get (keyOf depot first) (replicate 60 0) ∷ [])
+    × Breaks 8 60 beyondBound looksAway (get (keyOf depot first) (replicate 60 0) ∷ [])
+judgings-broken = (
+  λ t. vouches-for-all
+      (refusals-exact 512 0 8 60 scratched (all-octets scratched (damages .scratched-octets)) (get (keyOf depot first) (replicate 60 0))
+      (vouchesForAll scratched (get (keyOf depot first) (replicate 60 0)) .answer) scratched
+      (vouchesForAll scratched (get (keyOf depot first) (replicate 60 0)) .output) (t .0)),
+  λ t. looks-away
+      (refusals-exact 512 0 8 60 beyondBound (all-octets beyondBound (damages .beyond-octets)) (get (keyOf depot first) (replicate 60 0))
+      (looksAway beyondBound (get (keyOf depot first) (replicate 60 0)) .answer) beyondBound
+      (looksAway beyondBound (get (keyOf depot first) (replicate 60 0)) .output) (t .0)),
 )
 
 -- Changes.

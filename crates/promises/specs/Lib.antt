@@ -7,5 +7,6 @@ pub mod Prescribed
 pub mod Changes
 pub mod Tables
 pub mod Values
+pub mod Local
 pub mod Instances
 pub mod Wrong

@@ -1,18 +1,22 @@
 -- When each request is refused, as one table for each: document 01, 'What each number tells the depot'. A number and its condition, in the order in
 -- which they are looked at. The conditions speak of the measures, of what the area is read as, of lengths, of keys and addresses of its records, and of
--- how few intervals hold records; of no search and no plan.
+-- how few intervals hold records; of no plan, and of no search in an interval. Those of a get by key speak of the index record and of the interval to which it
+-- leads the key, and of no other: document 02, L4.
 use Prim.Native.Nat.{ℕ, _*_, _+_, _-_, _<_}
 use mathlib.Core.Path.{_≡_}
+use mathlib.Core.Bool.{false}
 use mathlib.Core.List.{List, [], _∷_, _++_}
 use mathlib.Core.Logic.{_⊎_}
 use lib.ListN.{length}
 use Rattle.measures.specs.Judgement.{Fits, measures, countOf}
 use Rattle.measures.specs.declared.Measures.{Measures}
 use Rattle.interval.specs.Records.{keyOf}
+use Rattle.interval.specs.Reading.{recordsIn}
 use Rattle.index.specs.Cuts.{separators}
 use Rattle.division.specs.Fewest.{Fewest}
 use Rattle.area.specs.Content.{Content, recordsOf, baseOf, widthIn}
 use Rattle.area.specs.Reading.{damaged, whole, readArea}
+use Rattle.area.specs.Leads.{indexSound, entriesFor, intervalFor, soundFor}
 use Rattle.requests.specs.Model.{Change, insert, update, erase, makeChange}
 use Rattle.requests.specs.Finding.{Keyed, Lies}
 use Rattle.requests.specs.Changing.{keyIn}
@@ -67,12 +71,34 @@ module _ (size offset key most : ℕ) (area : List ℕ) where
   abbrev pub Nowhere : ℕ → Type 0
   Nowhere address = Holding (λ (c : Content). (r : List ℕ) → Lies given (baseOf c) address (c .filled) r → ⊥)
 
-  -- 8: the record is longer than the output
+  -- 8: the record is longer than the output; by key it is said here of all records, as it is on a sound area (`rows-whole`)
   abbrev pub KeyedTooLong : List ℕ → List ℕ → Type 0
   KeyedTooLong wanted out = Holding (λ (c : Content). (r : List ℕ) × Keyed given wanted (recordsOf (c .filled)) r × (length out < length r))
 
   abbrev pub LyingTooLong : ℕ → List ℕ → Type 0
   LyingTooLong address out = Holding (λ (c : Content). (r : List ℕ) × Lies given (baseOf c) address (c .filled) r × (length out < length r))
+
+  -- ---- of a get by key
+
+  -- 2: the index record is unsound
+  abbrev pub DamagedIndex : Type 0
+  DamagedIndex = indexSound given many area ≡ false
+
+  -- 2: the interval that the key leads to is unsound in its role
+  abbrev pub DamagedThere : List ℕ → Type 0
+  DamagedThere wanted = soundFor given (entriesFor given many area) wanted (intervalFor given many area wanted) ≡ false
+
+  -- the records of that interval
+  abbrev pub recordsThere : List ℕ → List (List ℕ)
+  recordsThere wanted = recordsIn (intervalFor given many area wanted)
+
+  -- 5: none of them has the key
+  abbrev pub AbsentThere : List ℕ → Type 0
+  AbsentThere wanted = (r : List ℕ) → Keyed given wanted (recordsThere wanted) r → ⊥
+
+  -- 8: one of them has it, and is longer than the output
+  abbrev pub TooLongThere : List ℕ → List ℕ → Type 0
+  TooLongThere wanted out = (r : List ℕ) × Keyed given wanted (recordsThere wanted) r × (length out < length r)
 
 -- the records of the key's interval with the change made
 abbrev pub changed : (m : Measures) (c : Content) (ch : Change) → Home m c (keyIn m ch) → List (List ℕ)
@@ -129,9 +155,10 @@ module _ (size offset key most : ℕ) (area : List ℕ) where
   abbrev pub getTable : List ℕ → List ℕ → Table
   getTable wanted out =
       row 1 outside
-      (row 2 damage
+      (row 2 (DamagedIndex size offset key most area)
       (row 3 (length wanted ≡ key → ⊥)
-      (row 5 (Absent size offset key most area wanted) (row 8 (KeyedTooLong size offset key most area wanted out) done))))
+      (row 2 (DamagedThere size offset key most area wanted)
+      (row 5 (AbsentThere size offset key most area wanted) (row 8 (TooLongThere size offset key most area wanted out) done)))))
 
   abbrev pub getAtTable : ℕ → List ℕ → Table
   getAtTable address out =

@@ -4,25 +4,27 @@ use Prim.Native.Nat.{ℕ, _+_, _-_, _*_, _≤_}
 use mathlib.Core.Path.{_≡_}
 use mathlib.Core.Bool.{Bool, true, false}
 use mathlib.Core.List.{List, [], _∷_, _++_, map}
-use lib.ListN.{length, take, drop}
+use lib.ListN.{length, getD, replicate, take, drop}
 use lib.Dec.{eqb, ltb}
-use Rattle.fields.specs.Choice.{pick}
+use Rattle.fields.specs.Choice.{pick, both}
 use Rattle.fields.specs.Bytes.{splice}
 use Rattle.measures.specs.Judgement.{countOf, measures}
 use Rattle.room.specs.Room.{need}
-use Rattle.interval.specs.Records.{lengthsFine}
+use Rattle.interval.specs.Records.{keyOf, lengthsFine}
 use Rattle.interval.specs.Layout.{form}
 use Rattle.interval.specs.Reading.{recordsIn}
 use Rattle.index.specs.Search.{leadsTo}
 use Rattle.sections.specs.Form.{indexSize}
-use Rattle.area.specs.Content.{Filled, entriesOf, meaningOf, widthIn}
+use Rattle.area.specs.Content.{Filled, Content, entriesOf, meaningOf, widthIn}
 use Rattle.area.specs.Reading.{Reading, damaged, whole, readArea}
-use Rattle.area.specs.Example.{first, second}
+use Rattle.area.specs.Leads.{intervalFor}
+use Rattle.area.specs.Example.{depot, first, second, bytes}
 use Rattle.change.specs.Parts.{entryAt}
 use Rattle.requests.specs.Model.{Change, insert, update, erase, makeChange}
-use Rattle.requests.specs.Answers.{numberOf}
+use Rattle.requests.specs.Answers.{numberOf, valuesOf}
 use Rattle.requests.specs.Opening.{Opening, shut, holding, openingOf}
-use Rattle.requests.specs.Reading.{Given, checkOf, getOf, getAtOf}
+use Rattle.requests.specs.Records.{withKey}
+use Rattle.requests.specs.Reading.{Given, refused, handOut, checkOf, getOf, getAtOf}
 use Rattle.requests.specs.Changing.{Outcome, kept, bytesOf, keyIn, changeOf}
 use Rattle.requests.specs.declared.Answer.{Answer}
 use Rattle.requests.specs.declared.Answer.the-variants.{Done, Found, Intact, Damaged, Short, Outside, WrongLength, Present, Absent, NoInterval, NoRoom}
@@ -176,11 +178,57 @@ sameRecord area (get wanted out) =
 sameRecord area (getAt address out) = rightly 8 60 area (getAt address out)
 sameRecord area (changes ch) = rightly 8 60 area (changes ch)
 
--- ---- changes
+-- ---- gets that judge more than they read, or less: document 02, L4
 
 -- A0000003OU
 abbrev pub third : List ℕ
 third = 0x41 ∷ 0x30 ∷ 0x30 ∷ 0x30 ∷ 0x30 ∷ 0x30 ∷ 0x30 ∷ 0x33 ∷ 0x4F ∷ 0x55 ∷ []
+
+-- the small area with every byte of its free interval made 0: damage to which no key leads
+abbrev pub scratched : List ℕ
+scratched = splice bytes 1024 (replicate 512 0)
+
+-- what a get comes to that reads the whole area first, as gets did before: damage wherever it lies refuses it
+abbrev vouched : Opening → List ℕ → Given → Given
+vouched (shut a) out right = refused a out
+vouched (holding m c) out right = right
+
+-- vouches for the whole area in every get
+abbrev pub vouchesForAll : Register
+vouchesForAll area check = rightly 8 60 area check
+vouchesForAll area (get wanted out) =
+    let given : Given = vouched (openingOf 512 0 8 60 area) out (getOf 512 0 8 60 area wanted out) in
+    record { request = get wanted out; answer = given .answer; area = area; output = given .output }
+vouchesForAll area (getAt address out) = rightly 8 60 area (getAt address out)
+vouchesForAll area (changes ch) = rightly 8 60 area (changes ch)
+
+-- Two intervals in use: the first entry's separator is the first certificate's key, but in its interval lies also the second certificate, whose key is above
+-- that bound. The third lies in the other interval.
+abbrev pub strayed : Content
+strayed =
+    record {
+      kept = replicate 12 0;
+      spare = 0;
+      free = [];
+      filled = record { sep = keyOf depot first; num = 0; records = first ∷ second ∷ [] } ∷ record { sep = []; num = 1; records = third ∷ [] } ∷ [];
+    }
+
+abbrev pub beyondBound : List ℕ
+beyondBound = laid strayed ((first ∷ second ∷ []) ∷ (third ∷ []) ∷ [])
+
+-- Where the interval that the key leads to is damaged, it hands out what it finds there all the same.
+abbrev pub looksAway : Register
+looksAway area check = rightly 8 60 area check
+looksAway area (get wanted out) =
+    let right : Given = getOf 512 0 8 60 area wanted out in
+    let there : Bool = both (eqb (numberOf (right .answer)) 2) (ltb 0 (getD (valuesOf (right .answer)) 0 0)) in
+    let rs : List (List ℕ) = recordsIn (intervalFor depot (countOf 512 (length area)) area wanted) in
+    let given : Given = pick there (handOut Absent (withKey depot wanted rs) out) right in
+    record { request = get wanted out; answer = given .answer; area = area; output = given .output }
+looksAway area (getAt address out) = rightly 8 60 area (getAt address out)
+looksAway area (changes ch) = rightly 8 60 area (changes ch)
+
+-- ---- changes
 
 -- the small area with the third certificate in its interval
 abbrev pub together : List ℕ

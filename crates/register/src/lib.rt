@@ -4,19 +4,24 @@ ghost use Prim.Native.Nat.{_+_, _≤_};
 ghost use mathlib.Core.Path.{_≡_};
 ghost use mathlib.Core.List.{[], _∷_};
 ghost use lib.ListN.{length};
+ghost use Rattle.fields.specs.Choice.{pick};
 ghost use Rattle.fields.specs.Bytes.{part};
 ghost use Rattle.measures.specs.Judgement.{Fits};
+ghost use Rattle.area.specs.Leads.{indexSound};
 ghost use Rattle.area_find.specs.AidSought.{Whole};
 ghost use Rattle.requests.specs.Reading.{checkOf, getIn, getOf, getAtIn, getAtOf, handOut, Gives};
 ghost use Rattle.requests.specs.Changing.{changeIn, insertOf, updateOf, eraseOf, Makes};
-ghost use Rattle.requests.specs.declared.Answer.the-variants.{Absent};
+ghost use Rattle.requests.specs.declared.Answer.the-variants.{Absent, WrongLength, Damaged};
 ghost use Rattle.register.specs.AidTold.{answerFor, GivesIn, MakesIn};
 ghost use Rattle.register.specs.AidChange.{changeFor, changeAt, MakesKeyed, changeBy, aimOf, Asked};
 use area_find::Lying;
 use area_find::Spot;
+use area_seek::Looked;
 use change_write::Made;
+use index_read::Index;
 use interval::Found;
 use interval_edit::Site;
+use measures::Judged;
 use measures::Measures;
 use measures::Numbers;
 use opening::Opened;
@@ -57,29 +62,39 @@ pub(crate) fn hand_out(area: &[u8], from: usize, bytes: usize, out: &mut [u8]) -
     Answer::Found(bytes)
 }
 
-// In a sound area, the record with a key.
-pub(crate) fn get_in(area: &[u8], m: Measures, n: usize, wanted: &[u8], out: &mut [u8]) -> Answer
-    requires { ⌜ Fits m n (length (now area)) × Whole m n (now area) ⌝ }
-    ensures { λ r. ⌜ GivesIn m n (now (area .entry)) (λ c. getIn m c (now (wanted .entry)) (now (out .entry))) r (now (out .exit)) ⌝ }
+// A key of a wrong length: 3, if the index record is sound. Where the key would lead is then not known, so that no data interval is looked at.
+pub(crate) fn wrong_length(area: &[u8], m: Measures, n: usize) -> Answer
+    requires { ⌜ Fits m n (length (now area)) ⌝ }
+    ensures { λ r. ⌜ r ≡ pick (indexSound m n (now (area .entry))) WrongLength (Damaged 0) ⌝ }
 {
-    if wanted.len() != m.key {
-        return Answer::WrongLength;
-    }
-    let spot = area_find::find(area, m, n, wanted);
-    let number = spot.number;
-    let found = spot.found;
-    let Found::At {
-        ordinal: _,
-        start,
-        length,
-    } = found
+    let size = m.size;
+    let Index::Sound {
+        free: _,
+        entries: _,
+    } = index_read::check(&area[..size], m.key, n)
     else {
-        return Answer::Absent;
+        return Answer::Damaged(0);
     };
-    hand_out(area, (number + 1) * m.size + start, length, out)
+    Answer::WrongLength
 }
 
-// The record with a key: refusals 1, 2, 3, 5, 8. Done writes it at the front of the output; later bytes of the output stay.
+// The record with a key, of an area whose measures were found right. Only the index record and the interval that the key leads to are judged.
+pub(crate) fn get_in(area: &[u8], m: Measures, n: usize, wanted: &[u8], out: &mut [u8]) -> Answer
+    requires { ⌜ Fits m n (length (now area)) ⌝ }
+    ensures { λ r. ⌜ Gives (getIn m n (now (area .entry)) (now (wanted .entry)) (now (out .entry))) r (now (out .exit)) ⌝ }
+{
+    if wanted.len() != m.key {
+        return wrong_length(area, m, n);
+    }
+    match area_seek::look_up(area, m, n, wanted) {
+        Looked::Damaged { place } => Answer::Damaged(place),
+        Looked::Nowhere => Answer::Absent,
+        Looked::Here { from, length } => hand_out(area, from, length, out),
+    }
+}
+
+// The record with a key: refusals 1, 2 at the index record, 3, 2 at the interval that the key leads to, 5, 8. It vouches for these two places only: a caller
+// who wants to know of the whole area asks for the check. Done writes the record at the front of the output; later bytes of the output stay.
 pub fn get(
     area: &[u8],
     size: usize,
@@ -97,15 +112,10 @@ pub fn get(
         key,
         most,
     };
-    match opening::open(area, numbers) {
-        Opened::Refused { answer } => answer,
-        Opened::Whole {
-            measures,
-            count,
-            records: _,
-            free: _,
-        } => get_in(area, measures, count, wanted, out),
-    }
+    let Judged::Fine { measures, count } = measures::judge(numbers, area.len()) else {
+        return Answer::Outside;
+    };
+    get_in(area, measures, count, wanted, out)
 }
 
 // In a sound area, the record at an address.

@@ -1,6 +1,6 @@
 -- What the two gets give: exactly the record that is wanted, by its key or by its address.
 use Prim.Native.Nat.{ℕ, _+_, _≤_, _<_}
-use mathlib.Core.Path.{_≡_, refl, sym, ap}
+use mathlib.Core.Path.{_≡_, refl, _∙_, sym, ap}
 use mathlib.Core.Bool.{Bool, true, false}
 use mathlib.Core.List.{List, [], _∷_, map, List·Memᴰ, List·Memᴰ·head, List·Memᴰ·tail, List·Memᴰ·not-nil, List·Memᴰ·cases-cons, List·Memᴰ·eq-of-singleton}
 use mathlib.Core.Logic.{⊎-elim}
@@ -10,7 +10,7 @@ use native.Mathlib.Omega.{arith}
 use native.Mathlib.Nat.{le-trans}
 use borrow.Author.Tests.{eq-eqb, ne-eqb, leb-true, leb-false}
 use Rattle.fields.specs.Choice.{pick}
-use Rattle.fields.specs.Bytes.{splice}
+use Rattle.fields.specs.Bytes.{Octets, splice}
 use Rattle.fields.specs.Table.{sameList}
 use Rattle.fields.proofs.Splices.{splice-front}
 use Rattle.fields.proofs.Choices.{same-same, same-means}
@@ -19,15 +19,19 @@ use Rattle.measures.specs.declared.Measures.{Measures}
 use Rattle.measures.specs.declared.Judged.the-variants.{Fine}
 use Rattle.measures.proofs.Fine.{accepted-fits}
 use Rattle.interval.specs.Records.{keyOf, keysOf, ascending, allWithin}
+use Rattle.interval.specs.Reading.{recordsIn}
 use Rattle.interval.proofs.Lengths.{within-low, within-rest, key-long}
 use Rattle.area.specs.Content.{Content, recordsOf, baseOf}
 use Rattle.area.specs.Reading.{whole, readArea}
+use Rattle.area.specs.Leads.{indexSound, entriesFor, numberFor, intervalFor, soundFor}
 use Rattle.area.proofs.Ascending.{records-ascend}
+use Rattle.area.proofs.Sounding.{sound-apart}
 use Rattle.requests.specs.Records.{withKey, lyingAt}
-use Rattle.requests.specs.Reading.{Given, refused, handOut, getOf, getAtOf}
+use Rattle.requests.specs.Reading.{Given, refused, handOut, getThere, getIn, getOf, getAtOf}
 use Rattle.requests.specs.Finding.{Keyed, Lies, Finds}
 use Rattle.requests.specs.declared.Answer.{Answer}
-use Rattle.requests.specs.declared.Answer.the-variants.{Found, Short, WrongLength, Absent, NoRecord}
+use Rattle.requests.specs.declared.Answer.the-variants.{Found, Damaged, Short, WrongLength, Absent, NoRecord}
+use Rattle.requests.proofs.Quick.{there-apart, get-same}
 use Rattle.requests.proofs.Around.{standing}
 use Rattle.requests.proofs.Lying.{lying-lies, lies-lying, lying-one, whole-apart, whole-fine}
 
@@ -143,6 +147,46 @@ fine-among least most (x ∷ rs) r a i =
     ⊎-elim (λ (e : r ≡ x). rw e (within-low least most (length x) (map length rs) a))
     (λ (j : List·Memᴰ r rs). fine-among least most rs r (within-rest least most (length x) (map length rs) a) j) (List·Memᴰ·cases-cons i)
 
+-- Among records whose keys ascend, found by its key is exactly the one that has the key.
+finds-among : (m : Measures) (rs : List (List ℕ)) → ascending (keysOf m rs) ≡ true → (key out : List ℕ)
+    → Finds (Keyed m key rs) Absent out (handOut Absent (withKey m key rs) out)
+finds-among m rs up key out =
+    handed (Keyed m key rs) Absent out absent-found absent-short (withKey m key rs) (λ (r : List ℕ) (k : Keyed m key rs r). keyed-with m key rs up r k)
+    (λ (x : List ℕ) (xs : List (List ℕ)) (e : withKey m key rs ≡ x ∷ xs). with-keyed m key rs x xs e)
+
+-- ---- the ways of a get by key
+
+module _ (size offset key most : ℕ) (area : List ℕ) (m : Measures) (n : ℕ) (j : judgedOf size offset key most (length area) ≡ Fine m n) (wanted out : List ℕ) where
+  -- 2 at place 0 where the index record is unsound, whatever the key,
+  pub get-index-damaged : indexSound m n area ≡ false → getOf size offset key most area wanted out ≡ refused (Damaged 0) out
+  unfolding getOf getIn
+  get-index-damaged i = rw (j, i)
+
+  module _ (i : indexSound m n area ≡ true) where
+    -- 3 where the key has not the length of a key, whatever the data intervals are,
+    pub get-length-wrong : (length wanted ≡ m .key → ⊥) → getOf size offset key most area wanted out ≡ refused WrongLength out
+    unfolding getOf getIn
+    get-length-wrong l = rw (j, i, ne-eqb (length wanted) (m .key) l)
+
+    module _ (l : length wanted ≡ m .key) where
+      -- 2 at the key's interval where that is unsound, whatever the others are,
+      pub get-there-damaged : soundFor m (entriesFor m n area) wanted (intervalFor m n area wanted) ≡ false
+          → getOf size offset key most area wanted out ≡ refused (Damaged (numberFor m n area wanted + 1)) out
+      unfolding getOf getIn getThere
+      get-there-damaged d = rw (j, i, eq-eqb (length wanted) (m .key) l, d)
+
+      there-handed : soundFor m (entriesFor m n area) wanted (intervalFor m n area wanted) ≡ true
+          → getOf size offset key most area wanted out ≡ handOut Absent (withKey m wanted (recordsIn (intervalFor m n area wanted))) out
+      unfolding getOf getIn getThere
+      there-handed d = rw (j, i, eq-eqb (length wanted) (m .key) l, d)
+
+      -- and else exactly the record with the key among those of that interval.
+      pub get-there-finds : soundFor m (entriesFor m n area) wanted (intervalFor m n area wanted) ≡ true
+          → Finds (Keyed m wanted (recordsIn (intervalFor m n area wanted))) Absent out (getOf size offset key most area wanted out)
+      get-there-finds d =
+          rw (there-handed d)
+          (finds-among m (recordsIn (intervalFor m n area wanted)) (there-apart m (entriesFor m n area) wanted (intervalFor m n area wanted) d .1) wanted out)
+
 -- ---- on a whole area
 
 module _ (m : Measures) (n : ℕ) (area : List ℕ) (c : Content) (w : readArea m n area ≡ whole c) where
@@ -162,10 +206,7 @@ module _ (m : Measures) (n : ℕ) (area : List ℕ) (c : Content) (w : readArea 
 
   -- Found by its key is exactly the record of the reading that has the key.
   pub finds-key : (key out : List ℕ) → Finds (Keyed m key (recordsOf (c .filled))) Absent out (handOut Absent (withKey m key (recordsOf (c .filled))) out)
-  finds-key key out =
-      handed (Keyed m key (recordsOf (c .filled))) Absent out absent-found absent-short (withKey m key (recordsOf (c .filled)))
-      (λ (r : List ℕ) (k : Keyed m key (recordsOf (c .filled)) r). keyed-with m key (recordsOf (c .filled)) (records-ascend m n area c w) r k)
-      (λ (x : List ℕ) (xs : List (List ℕ)) (e : withKey m key (recordsOf (c .filled)) ≡ x ∷ xs). with-keyed m key (recordsOf (c .filled)) x xs e)
+  finds-key key out = finds-among m (recordsOf (c .filled)) (records-ascend m n area c w) key out
 
   -- Found by its address is exactly the record of an interval in use whose first byte has the address.
   pub finds-address : 1 ≤ m .least → (address : ℕ) (out : List ℕ)
@@ -189,9 +230,10 @@ module _ (size offset key most : ℕ) (area : List ℕ) (m : Measures) (n : ℕ)
   pub judged-least : 1 ≤ m .least
   judged-least = omega (arith, judged-key, judged-inside)
 
-  get-is : (wanted out : List ℕ) → length wanted ≡ m .key → getOf size offset key most area wanted out ≡ handOut Absent (withKey m wanted (recordsOf (c .filled))) out
+  get-is : Octets area → (wanted out : List ℕ) → length wanted ≡ m .key
+      → getOf size offset key most area wanted out ≡ handOut Absent (withKey m wanted (recordsOf (c .filled))) out
   unfolding getOf
-  get-is wanted out l = rw (j, w, eq-eqb (length wanted) (m .key) l)
+  get-is o wanted out l = rw j (get-same m n area c w wanted judged-key o out ∙ rw (eq-eqb (length wanted) (m .key) l))
 
   get-at-is : (address : ℕ) (out : List ℕ) → getAtOf size offset key most area address out ≡ handOut NoRecord (lyingAt m (baseOf c) address (c .filled)) out
   unfolding getAtOf
@@ -199,14 +241,13 @@ module _ (size offset key most : ℕ) (area : List ℕ) (m : Measures) (n : ℕ)
 
   -- On a whole area, a get by a key of the right length finds exactly the record that has the key: it is handed out if the output is long enough, else its
   -- length is told, and where there is none that is told.
-  pub get-finds : (wanted out : List ℕ) → length wanted ≡ m .key
+  pub get-finds : Octets area → (wanted out : List ℕ) → length wanted ≡ m .key
       → Finds (Keyed m wanted (recordsOf (c .filled))) Absent out (getOf size offset key most area wanted out)
-  get-finds wanted out l = rw (get-is wanted out l) (finds-key m n area c w wanted out)
+  get-finds o wanted out l = rw (get-is o wanted out l) (finds-key m n area c w wanted out)
 
   -- By a key of another length it is refused,
   pub get-wrong-length : (wanted out : List ℕ) → (length wanted ≡ m .key → ⊥) → getOf size offset key most area wanted out ≡ refused WrongLength out
-  unfolding getOf
-  get-wrong-length wanted out l = rw (j, w, ne-eqb (length wanted) (m .key) l)
+  get-wrong-length wanted out l = get-length-wrong size offset key most area m n j wanted out (sound-apart m n area c w .index) l
 
   -- and no record has such a key.
   pub get-wrong-none : (wanted : List ℕ) → (length wanted ≡ m .key → ⊥) → (r : List ℕ) → Keyed m wanted (recordsOf (c .filled)) r → ⊥

@@ -1,6 +1,7 @@
 pub mod Keys
 pub mod Quick
 pub mod Words
+pub mod Bounded
 pub mod Around
 pub mod Making
 pub mod Edits

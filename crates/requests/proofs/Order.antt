@@ -1,7 +1,7 @@
--- The order of refusals, and that a refusal leaves what was lent: 2 before 3 and 9, 4 before 6 and 7.
-use Prim.Native.Nat.{ℕ}
+-- The order of refusals, and that a refusal leaves what was lent: 2 before 3 and 9, but for a get by key only 2 at the index record before 3; 4 before 6 and 7.
+use Prim.Native.Nat.{ℕ, _+_}
 use mathlib.Core.Path.{_≡_, refl}
-use mathlib.Core.Bool.{true}
+use mathlib.Core.Bool.{true, false}
 use mathlib.Core.List.{List, _∷_}
 use lib.ListN.{length}
 use Rattle.measures.specs.Judgement.{judgedOf}
@@ -10,24 +10,31 @@ use Rattle.measures.specs.declared.Judged.the-variants.{Fine}
 use Rattle.interval.specs.Records.{keyOf, within}
 use Rattle.area.specs.Content.{Content, recordsOf}
 use Rattle.area.specs.Reading.{damaged, whole, readArea}
+use Rattle.area.specs.Leads.{indexSound, entriesFor, numberFor, intervalFor, soundFor}
 use Rattle.change.specs.Plan.{Plan, noInterval, noRoom, stores}
 use Rattle.requests.specs.Answers.{numberOf}
 use Rattle.requests.specs.Records.{withKey}
 use Rattle.requests.specs.Reading.{getOf, getAtOf}
 use Rattle.requests.specs.Changing.{kept, carryOut, insertOf, changeOf}
 use Rattle.requests.specs.declared.Answer.the-variants.{Damaged, Present}
+use Rattle.requests.proofs.Gets.{get-index-damaged, get-there-damaged}
 
-module _ (size offset key most : ℕ) (area : List ℕ) (m : Measures) (n : ℕ) (j : judgedOf size offset key most (length area) ≡ Fine m n)
-    (place : ℕ) (d : readArea m n area ≡ damaged place) (out : List ℕ) where
-  -- 2 comes before 3: whatever the key's length
-  pub get-damaged : (wanted : List ℕ) → getOf size offset key most area wanted out ≡ record { answer = Damaged place; output = out }
-  unfolding getOf
-  get-damaged wanted = rw (j, d) refl
+module _ (size offset key most : ℕ) (area : List ℕ) (m : Measures) (n : ℕ) (j : judgedOf size offset key most (length area) ≡ Fine m n) (out : List ℕ) where
+  -- For a get by key 2 at the index record comes before 3: whatever the key's length. 2 at the interval that the key leads to comes after it, and before 5 and 8.
+  pub get-damaged : (wanted : List ℕ)
+      → (indexSound m n area ≡ false → getOf size offset key most area wanted out ≡ record { answer = Damaged 0; output = out })
+      × (indexSound m n area ≡ true → length wanted ≡ m .key → soundFor m (entriesFor m n area) wanted (intervalFor m n area wanted) ≡ false
+      → getOf size offset key most area wanted out ≡ record { answer = Damaged (numberFor m n area wanted + 1); output = out })
+  get-damaged wanted = (
+    get-index-damaged size offset key most area m n j wanted out,
+    get-there-damaged size offset key most area m n j wanted out,
+  )
 
-  -- and before 9
-  pub get-at-damaged : (address : ℕ) → getAtOf size offset key most area address out ≡ record { answer = Damaged place; output = out }
+  -- For a get by address it comes before 9.
+  pub get-at-damaged : (place : ℕ) → readArea m n area ≡ damaged place → (address : ℕ)
+      → getAtOf size offset key most area address out ≡ record { answer = Damaged place; output = out }
   unfolding getAtOf
-  get-at-damaged address = rw (j, d) refl
+  get-at-damaged place d address = rw (j, d) refl
 
 -- 4 comes before 6 and 7: a key that is present is told whatever room there is
 pub insert-present : (size offset key most : ℕ) (area : List ℕ) (m : Measures) (n : ℕ) → judgedOf size offset key most (length area) ≡ Fine m n

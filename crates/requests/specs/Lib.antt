@@ -4,7 +4,6 @@ pub mod Model
 pub mod Opening
 pub mod Reading
 pub mod Finding
-pub mod Quick
 pub mod Words
 pub mod Changing
 pub mod Accepted

@@ -1,4 +1,5 @@
--- What every request does first: it judges the measures and reads the area: document 01, 'What each number tells the depot', numbers 1 and 2.
+-- What every request but a get by key does first: it judges the measures and reads the whole area: document 01, 'What each number tells the depot', numbers 1
+-- and 2. A get by key judges the measures and then only what it reads: document 02, L4 (specs/Reading.antt).
 use Prim.Native.Nat.{ℕ}
 use mathlib.Core.List.{List}
 use lib.ListN.{length}

@@ -1,18 +1,24 @@
 -- The requests that read, what each answers and what the output holds afterwards: document 01, 'What each number tells the depot'. The area is not lent
 -- for change.
-use Prim.Native.Nat.{ℕ}
+use Prim.Native.Nat.{ℕ, _+_}
 use mathlib.Core.Path.{_≡_}
 use mathlib.Core.List.{List, [], _∷_}
 use lib.ListN.{length}
 use lib.Dec.{eqb, leb}
 use Rattle.fields.specs.Choice.{pick}
 use Rattle.fields.specs.Bytes.{splice}
+use Rattle.measures.specs.Judgement.{judgedOf}
 use Rattle.measures.specs.declared.Measures.{Measures}
+use Rattle.measures.specs.declared.Judged.{Judged}
+use Rattle.measures.specs.declared.Judged.the-variants as judged
+use Rattle.interval.specs.Reading.{recordsIn}
+use Rattle.index.specs.Meaning.{Entry}
 use Rattle.area.specs.Content.{Content, recordsOf, baseOf}
+use Rattle.area.specs.Leads.{indexSound, entriesFor, entryFor, intervalFor, soundFor}
 use Rattle.requests.specs.Records.{withKey, lyingAt}
 use Rattle.requests.specs.Opening.{Opening, shut, holding, openingOf}
 use Rattle.requests.specs.declared.Answer.{Answer}
-use Rattle.requests.specs.declared.Answer.the-variants.{Found, Intact, Short, WrongLength, Absent, NoRecord}
+use Rattle.requests.specs.declared.Answer.the-variants.{Found, Intact, Damaged, Short, Outside, WrongLength, Absent, NoRecord}
 
 -- ---- check: 1, 2
 
@@ -40,17 +46,31 @@ handOut none [] out = refused none out
 handOut none (r ∷ rs) out =
     pick (leb (length r) (length out)) (record { answer = Found (length r); output = splice out 0 r }) (refused (Short (length r)) out)
 
--- ---- get by key: 1, 2, 3, 5, 8
+-- ---- get by key: 1, 2 at the index record, 3, 2 at the interval that the key leads to, 5, 8. Document 02, L4: nothing else is judged.
 
-abbrev pub getIn : Measures → Content → List ℕ → List ℕ → Given
-getIn m c wanted out = pick (eqb (length wanted) (m .key)) (handOut Absent (withKey m wanted (recordsOf (c .filled))) out) (refused WrongLength out)
+-- 2 at the key's interval, then 5 and 8 by its records
+unfoldable pub getThere : Measures → List Entry → List ℕ → List ℕ → List ℕ → Given
+getThere m es wanted ci out =
+    pick (soundFor m es wanted ci) (handOut Absent (withKey m wanted (recordsIn ci)) out) (refused (Damaged (entryFor wanted es .num + 1)) out)
 
-abbrev pub getOpened : Opening → List ℕ → List ℕ → Given
-getOpened (shut a) wanted out = refused a out
-getOpened (holding m c) wanted out = getIn m c wanted out
+-- 2 at the index record, then 3, then the key's interval
+unfoldable pub getIn : Measures → ℕ → List ℕ → List ℕ → List ℕ → Given
+getIn m n area wanted out =
+    pick (indexSound m n area)
+    (pick (eqb (length wanted) (m .key)) (getThere m (entriesFor m n area) wanted (intervalFor m n area wanted) out) (refused WrongLength out))
+    (refused (Damaged 0) out)
 
+abbrev pub getJudged : Judged → List ℕ → List ℕ → List ℕ → Given
+getJudged judged.Outside area wanted out = refused Outside out
+getJudged (judged.Fine m n) area wanted out = getIn m n area wanted out
+
+-- 1 before all of them
 unfoldable pub getOf : ℕ → ℕ → ℕ → ℕ → List ℕ → List ℕ → List ℕ → Given
-getOf size offset key most area wanted out = getOpened (openingOf size offset key most area) wanted out
+getOf size offset key most area wanted out = getJudged (judgedOf size offset key most (length area)) area wanted out
+
+-- what that comes to on a sound area (proofs/Quick.antt, get-same): 3, 5 and 8 by all its records
+abbrev pub getWhole : Measures → Content → List ℕ → List ℕ → Given
+getWhole m c wanted out = pick (eqb (length wanted) (m .key)) (handOut Absent (withKey m wanted (recordsOf (c .filled))) out) (refused WrongLength out)
 
 -- ---- get by address: 1, 2, 9, 8
 

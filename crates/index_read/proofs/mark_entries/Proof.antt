@@ -1,34 +1,39 @@
 -- Invariant (Stand): the walk stands before an entry that ends within the record; the place says where, and both buffers begin with the separator before it and
 -- with the highest of the section before (Held). Both have at most a key's length, and the last byte of the separator before isn't X'FF'.
 -- The whole record is fine exactly where the entries from there on are fine after that separator and that highest, with the marks made so far; the entry before
--- closed a section, or is none.
--- What the walk over a section's entries hands on is such a place again, before its highest (stopped-at); the highest is the step of this loop (onward-top).
+-- closed a section, or is none, or others come. The search has come as far; once the key is sought no more, the entry that it leads to was found (Finding).
+-- What the walk over a section's entries hands on is such a place again, before its highest or the entry that the key leads to (stopped-at); that entry is the step
+-- of this loop (Turn): turn-on, turn-finds. Past the last entry, whose separator is empty, no key is sought (finding-end).
 -- Measure: the entries left.
 use mathlib.Core.Path.{_≡_, refl, sym, _∙_}
 use mathlib.Core.Bool.{true}
-use lib.Dec.{eqb}
+use mathlib.Core.Logic.{⊎-elim, inl, inr}
+use lib.ListN.{length}
 use native.Mathlib.Omega.{arith}
 use denote.Ref.{now}
 use borrow.Author.Needs.{needs}
-use Rattle.index_step.specs.AidStep.{Renewed}
-use Rattle.index_read.specs.AidWalk.{entryOf}
-use Rattle.index_read.specs.AidStand.{Walkable, Stand, Stopped}
-use Rattle.index_read.specs.declared.Parsed.the-variants.{Of}
-use Rattle.index_read.specs.declared.Stop.the-variants.{At}
+use Rattle.fields.proofs.Choices.{false-true}
+use Rattle.index_read.specs.AidStand.{Walkable, Stand, Paused}
+use Rattle.index_read.specs.declared.Leg.{Leg}
 use Rattle.index_read.proofs.Next.{taken-of}
-use Rattle.index_read.proofs.Walking.{start, ready, tall, bad-entry, too-big, again, passes-top, onward-top, not-there, not-empty, at-end, stopped-wrong, stopped-at}
+use Rattle.index_read.proofs.Walking.{start, ready, tall, bad-entry, at-end, stopped-wrong, stopped-at}
+use Rattle.index_read.proofs.Finding.{Begun, begun-few, begun-keyed, Finding, finding-start, Turn, turn-big, turn-again, turn-passes, turn-keeps, turn-reaches, turn-on, turn-finds, finding-end}
 use Rattle.index_read.proofs.mark_entries.Statement.{statement}
 use Rattle.index_read.proofs.mark_entries.Tie as tie
 
 abbrev Inv-loop : tie.InvT-loop
-Inv-loop seen₀ ib by buf₀ high₀ p₀ left₀ seen buf high p left = Stand ib by seen₀ seen buf high p true left
+Inv-loop seen₀ ib by key before₀ own₀ buf₀ high₀ p₀ left₀ reach₀ spot₀ seen before own buf high p left reach spot =
+    Stand ib by key seen₀ seen buf high p true left reach × Finding ib by key before own spot reach
 
 abbrev μ-loop : tie.MeasureT-loop
-μ-loop seen₀ ib by buf₀ high₀ p₀ left₀ seen buf high p left = left
+μ-loop seen₀ ib by key before₀ own₀ buf₀ high₀ p₀ left₀ reach₀ spot₀ seen before own buf high p left reach spot = left
 
 -- The states that the proof looks back to, by their names.
+abbrev start-from-begun : tie.Joined1 Inv-loop μ-loop → tie.Start Inv-loop μ-loop
+start-from-begun k = k .before .before .before .before .before .before
+
 abbrev start-from-loop : tie.At-loop Inv-loop μ-loop → tie.Start Inv-loop μ-loop
-start-from-loop k = k .before .before .before
+start-from-loop k = start-from-begun (k .before .before)
 
 abbrev loop-from-walk : tie.After-walk-inner Inv-loop μ-loop → tie.At-loop Inv-loop μ-loop
 loop-from-walk k = k .before .before .before .before
@@ -39,64 +44,112 @@ start-from-walk k = start-from-loop (loop-from-walk k)
 abbrev walk-from-met : tie.After-known-told Inv-loop μ-loop → tie.After-walk-inner Inv-loop μ-loop
 walk-from-met k = k .before .before .before .before
 
-abbrev met-from-next : tie.After-next-top Inv-loop μ-loop → tie.After-known-told Inv-loop μ-loop
-met-from-next k = k .before .before .before .before
+abbrev met-from-keep : tie.After-keep Inv-loop μ-loop → tie.After-known-told Inv-loop μ-loop
+met-from-keep k = k .before .before .before
 
-abbrev next-from-told : tie.After-known-told2 Inv-loop μ-loop → tie.After-next-top Inv-loop μ-loop
+abbrev keep-from-next : tie.After-next-entry Inv-loop μ-loop → tie.After-keep Inv-loop μ-loop
+keep-from-next k = k .before .before .before .before .before .before
+
+abbrev met-from-next : tie.After-next-entry Inv-loop μ-loop → tie.After-known-told Inv-loop μ-loop
+met-from-next k = met-from-keep (keep-from-next k)
+
+abbrev next-from-told : tie.After-known-told2 Inv-loop μ-loop → tie.After-next-entry Inv-loop μ-loop
 next-from-told k = k .before .before .before .before .before
 
-abbrev told-from-mark : tie.After-if22 Inv-loop μ-loop → tie.After-known-told2 Inv-loop μ-loop
+abbrev met-from-told : tie.After-known-told2 Inv-loop μ-loop → tie.After-known-told Inv-loop μ-loop
+met-from-told k = met-from-next (next-from-told k)
+
+abbrev told-from-mark : tie.After-if32 Inv-loop μ-loop → tie.After-known-told2 Inv-loop μ-loop
 told-from-mark k = k .before .before .before
 
-abbrev loop-from-end : tie.After-struct-known4 Inv-loop μ-loop → tie.At-loop Inv-loop μ-loop
-loop-from-end k = k .before .before .before
+abbrev told-from-past : tie.After-past Inv-loop μ-loop → tie.After-known-told2 Inv-loop μ-loop
+told-from-past k = told-from-mark (k .before .before)
+
+abbrev past-from-met : tie.After-met Inv-loop μ-loop → tie.After-past Inv-loop μ-loop
+past-from-met k = k .before .before
+
+abbrev met-from-own : tie.After-keep2 Inv-loop μ-loop → tie.After-met Inv-loop μ-loop
+met-from-own k = k .before .before .before
+
+abbrev own-from-reach : tie.After-reach-past Inv-loop μ-loop → tie.After-keep2 Inv-loop μ-loop
+own-from-reach k = k .before .before .before .before
+
+-- before the first entry
+begun : (c : tie.Joined1 Inv-loop μ-loop) → Begun (now (start-from-begun c .args .key)) (c .if1 .reach)
+begun c = ⊎-elim (λ h. inl (h .0 .taken, h .1)) (λ h. inr (h .0 .left, h .1)) (c .if1 .came)
 
 -- past a section's entries
-walkable : (c : tie.After-walk-inner Inv-loop μ-loop) → Walkable (now (start-from-walk c .args .ib)) (start-from-walk c .args .by)
+walkable : (c : tie.After-walk-inner Inv-loop μ-loop) → Walkable (now (start-from-walk c .args .ib)) (start-from-walk c .args .by) (now (start-from-walk c .args .key))
 walkable c = start-from-walk c .pre .0
 
-met : (c : tie.After-known-told Inv-loop μ-loop)
-    → Stopped (now (start-from-walk (walk-from-met c) .args .ib)) (start-from-walk (walk-from-met c) .args .by) (now (start-from-walk (walk-from-met c) .args .seen))
-    (loop-from-walk (walk-from-met c) .loop .left) (walk-from-met c .walk-inner .last .0) (walk-from-met c .walk-inner .last .1 .0) (loop-from-walk (walk-from-met c) .loop .high)
-    (At (c .before .q .given .0 .0) (c .before .q .given .0 .1 .0))
-met c =
+abbrev leg : tie.At-loop Inv-loop μ-loop → Leg
+leg l = record { p = l .loop .p; left = l .loop .left; reach = l .loop .reach }
+
+paused : (c : tie.After-known-told Inv-loop μ-loop)
+    → Paused (now (start-from-walk (walk-from-met c) .args .ib)) (start-from-walk (walk-from-met c) .args .by) (now (start-from-walk (walk-from-met c) .args .key))
+    (now (start-from-walk (walk-from-met c) .args .seen)) (leg (loop-from-walk (walk-from-met c))) (walk-from-met c .walk-inner .last .0) (walk-from-met c .walk-inner .last .1 .0)
+    (loop-from-walk (walk-from-met c) .loop .high) (c .before .q .given .0 .0) (c .before .q .given .0 .1 .0)
+paused c =
     let k = walk-from-met c in
     let x = k .walk-inner in
-    let o = loop-from-walk k .loop in
+    let l = loop-from-walk k in
+    let o = l .loop in
     let a = start-from-walk k .args in
-    stopped-at (now (a .ib)) (a .by) (now (a .seen)) (o .left) (x .last .0) (x .last .1 .0) (o .high) (x .result) (c .before .q .given .0 .0) (c .before .q .given .0 .1 .0)
-    (c .before .q .given .1) (x .ensures (now (a .seen)) (o .high) (o .inv))
+    stopped-at (now (a .ib)) (a .by) (now (a .key)) (now (a .seen)) (leg l) (x .last .0) (x .last .1 .0) (o .high) (x .result) (c .before .q .given .0 .0) (c .before .q .given .0 .1 .0)
+    (c .before .q .given .1) (x .ensures (now (a .seen)) (o .high) (o .inv .0))
 
--- what its highest says
-entry : (c : tie.After-known-told2 Inv-loop μ-loop)
-    → entryOf (now (start-from-walk (walk-from-met (met-from-next (next-from-told c))) .args .ib)) (met-from-next (next-from-told c) .before .q .given .0 .0)
-    (start-from-walk (walk-from-met (met-from-next (next-from-told c))) .args .by)
-    (eqb (met-from-next (next-from-told c) .before .q .given .0 .1 .0) (start-from-walk (walk-from-met (met-from-next (next-from-told c))) .args .by .count))
-    (walk-from-met (met-from-next (next-from-told c)) .walk-inner .last .1 .0) (loop-from-walk (walk-from-met (met-from-next (next-from-told c))) .loop .high)
-    ≡ Of (c .before .s .given .0 .0)
-entry c = sym (next-from-told c .next-top .ensures .0) ∙ c .before .s .given .1
+-- what the next entry says
+turn : (c : tie.After-known-told2 Inv-loop μ-loop)
+    → Turn (now (start-from-walk (walk-from-met (met-from-told c)) .args .ib)) (start-from-walk (walk-from-met (met-from-told c)) .args .by)
+    (now (start-from-walk (walk-from-met (met-from-told c)) .args .key)) (now (start-from-walk (walk-from-met (met-from-told c)) .args .seen))
+    (leg (loop-from-walk (walk-from-met (met-from-told c)))) (walk-from-met (met-from-told c) .walk-inner .last .0) (walk-from-met (met-from-told c) .walk-inner .last .1 .0)
+    (loop-from-walk (walk-from-met (met-from-told c)) .loop .high) (met-from-told c .before .q .given .0 .0) (met-from-told c .before .q .given .0 .1 .0) (c .before .s .given .0 .0)
+    (next-from-told c .next-entry .last .0) (next-from-told c .next-entry .last .1 .0)
+turn c =
+    let n = next-from-told c .next-entry in
+    let m = met-from-told c in
+    let k = walk-from-met m in
+    record {
+      paused = paused m;
+      walkable = walkable k;
+      entry = sym (n .ensures .0) ∙ c .before .s .given .1;
+      renewed =
+          taken-of (now (start-from-walk k .args .ib)) (k .walk-inner .last .1 .0) (loop-from-walk k .loop .high) (n .last .0) (n .last .1 .0) (n .result) (c .before .s .given .0 .0)
+          (c .before .s .given .1) (n .ensures .1);
+      long = n .kept .0;
+      long' = n .kept .1 .0;
+    }
 
-renewed : (c : tie.After-known-told2 Inv-loop μ-loop)
-    → Renewed (now (start-from-walk (walk-from-met (met-from-next (next-from-told c))) .args .ib)) (c .before .s .given .0 .0)
-    (walk-from-met (met-from-next (next-from-told c)) .walk-inner .last .1 .0) (loop-from-walk (walk-from-met (met-from-next (next-from-told c))) .loop .high)
-    (next-from-told c .next-top .last .0) (next-from-told c .next-top .last .1 .0)
-renewed c =
-    let n = next-from-told c .next-top in
-    let k = walk-from-met (met-from-next (next-from-told c)) in
-    taken-of (now (start-from-walk k .args .ib)) (k .walk-inner .last .1 .0) (loop-from-walk k .loop .high) (n .last .0) (n .last .1 .0) (n .result) (c .before .s .given .0 .0)
-    (c .before .s .given .1) (n .ensures .1)
+-- the two buffers keep their lengths
+whole-before : (l : tie.At-loop Inv-loop μ-loop) → length (l .loop .before) ≡ length (now (start-from-loop l .args .before))
+whole-before l = l .loop .inv .1 .low ∙ sym (start-from-loop l .pre .2)
+
+whole-own : (l : tie.At-loop Inv-loop μ-loop) → length (l .loop .own) ≡ length (now (start-from-loop l .args .own))
+whole-own l = l .loop .inv .1 .high ∙ sym (start-from-loop l .pre .3)
+
+kept-before : (c : tie.After-keep Inv-loop μ-loop) → length (c .keep .last .0) ≡ length (now (start-from-walk (walk-from-met (met-from-keep c)) .args .before))
+kept-before c = c .keep .kept .0 ∙ whole-before (loop-from-walk (walk-from-met (met-from-keep c)))
 
 start-requires : tie.Need-start-requires Inv-loop μ-loop
-start-requires c κs = omega (arith, c .before .pre .0 .large)
+start-requires c κs = omega (arith, c .before .before .before .before .pre .0 .large)
+
+nowhere-requires : tie.Need-nowhere-requires Inv-loop μ-loop
+nowhere-requires c κs = search needs
 
 loop-holds : tie.Need-loop-holds Inv-loop μ-loop
 loop-holds c =
-    let q = c .before .before in
+    let j = c .before in
+    let s = j .before in
+    let q = start-from-begun j in
     let a = q .args in
-    (start (now (a .ib)) (a .by) (now (a .seen)) (c .start .result) (c .start .ensures) (q .pre .0 .large) (q .pre .1))
+    let b = begun j in (
+      start (now (a .ib)) (a .by) (now (a .key)) (now (a .seen)) (s .start .result) (j .if1 .reach) (s .start .ensures) (q .pre .0 .large) (q .pre .1) (begun-few (now (a .key)) (j .if1 .reach) b)
+          (begun-keyed (now (a .key)) (j .if1 .reach) b (a .by .key) (q .pre .0 .wanted)),
+      finding-start (now (a .ib)) (a .by) (now (a .key)) (now (a .before)) (now (a .own)) (c .nowhere .result) (j .if1 .reach) b (q .pre .2) (q .pre .3),
+    )
 
 slice-aggregate-walk-inner : tie.Need-slice-aggregate-walk-inner Inv-loop μ-loop
-slice-aggregate-walk-inner c = sym (c .before .before .before .loop .inv .whole)
+slice-aggregate-walk-inner c = sym (c .before .before .before .loop .inv .0 .whole)
 
 walk-inner-requires : tie.Need-walk-inner-requires Inv-loop μ-loop
 walk-inner-requires c κs =
@@ -105,7 +158,7 @@ walk-inner-requires c κs =
     let q = start-from-loop l in
     let a = q .args in (
       (q .pre .0, c .before .before .loop-test .taken),
-      record { old = now (a .seen); high = o .high; stand = o .inv },
+      record { old = now (a .seen); high = o .high; stand = o .inv .0 },
     )
 
 enum-known-q : tie.Need-enum-known-q Inv-loop μ-loop
@@ -114,34 +167,50 @@ enum-known-q c = search needs
 enum-told : tie.Need-enum-told Inv-loop μ-loop
 enum-told c = search needs
 
+same-length : tie.Need-same-length Inv-loop μ-loop
+same-length c = whole-before (loop-from-walk (c .before .before .before))
+
+same-length-2 : tie.Need-same-length-2 Inv-loop μ-loop
+same-length-2 c = whole-own (loop-from-walk (c .before .before .before))
+
 returns : tie.Need-returns Inv-loop μ-loop
 returns c =
     let k = c .before .before .before in
     let x = k .walk-inner in
-    let o = loop-from-walk k .loop in
-    let a = start-from-walk k .args in
-    stopped-wrong (now (a .ib)) (a .by) (now (a .seen)) (o .left) (x .last .0) (x .last .1 .0) (o .high) (x .result) (c .enum-told .given .1) (x .ensures (now (a .seen)) (o .high) (o .inv))
+    let l = loop-from-walk k in
+    let o = l .loop in
+    let a = start-from-walk k .args in (
+      stopped-wrong (now (a .ib)) (a .by) (now (a .key)) (now (a .seen)) (leg l) (x .last .0) (x .last .1 .0) (o .high) (x .result) (c .enum-told .given .1)
+          (x .ensures (now (a .seen)) (o .high) (o .inv .0)),
+      λ _ f. absurd (false-true f),
+    )
 
-slice-aggregate-next-top : tie.Need-slice-aggregate-next-top Inv-loop μ-loop
-slice-aggregate-next-top c = sym (met (c .before) .0 .whole)
+slice-aggregate-keep : tie.Need-slice-aggregate-keep Inv-loop μ-loop
+slice-aggregate-keep c = sym (paused (c .before .before) .stand .whole)
 
-slice-aggregate-next-top-2 : tie.Need-slice-aggregate-next-top-2 Inv-loop μ-loop
-slice-aggregate-next-top-2 c = sym (met (c .before .before) .0 .whole')
+keep-requires : tie.Need-keep-requires Inv-loop μ-loop
+keep-requires c κs =
+    let m = c .before .before in
+    let t = paused m .stand in
+    (t .held .short, omega (arith, loop-from-walk (walk-from-met m) .loop .inv .1 .low), t .held .whole)
 
-next-top-requires : tie.Need-next-top-requires Inv-loop μ-loop
-next-top-requires c κs =
-    let m = c .before .before .before in
+slice-aggregate-next-entry : tie.Need-slice-aggregate-next-entry Inv-loop μ-loop
+slice-aggregate-next-entry c = sym (paused (met-from-keep (c .before .before .before)) .stand .whole)
+
+slice-aggregate-next-entry-2 : tie.Need-slice-aggregate-next-entry-2 Inv-loop μ-loop
+slice-aggregate-next-entry-2 c = sym (paused (met-from-keep (c .before .before .before .before)) .stand .whole')
+
+next-entry-requires : tie.Need-next-entry-requires Inv-loop μ-loop
+next-entry-requires c κs =
+    let m = met-from-keep (c .before .before .before .before .before) in
     let k = walk-from-met m in
     let x = k .walk-inner in
     let o = loop-from-walk k .loop in
     let a = start-from-walk k .args in
-    let t = met m in
+    let t = paused m in
     let w = walkable k in (
-      ready (now (a .ib)) (a .by) (now (a .seen)) (x .last .0) (x .last .1 .0) (o .high) (m .before .q .given .0 .0) true (m .before .q .given .0 .1 .0) (t .0) w (t .4),
-      (
-        t .3,
-        tall (now (a .ib)) (a .by) (now (a .seen)) (x .last .0) (x .last .1 .0) (o .high) (m .before .q .given .0 .0) true (m .before .q .given .0 .1 .0) (t .0) (w .most),
-      ),
+      ready (now (a .ib)) (a .by) (now (a .key)) (now (a .seen)) (x .last .0) (x .last .1 .0) (o .high) (m .before .q .given .0 .0) true (m .before .q .given .0 .1 .0) (t .reach) (t .stand) w (t .room),
+      tall (now (a .ib)) (a .by) (now (a .key)) (now (a .seen)) (x .last .0) (x .last .1 .0) (o .high) (m .before .q .given .0 .0) true (m .before .q .given .0 .1 .0) (t .reach) (t .stand) (w .most),
     )
 
 enum-known-s : tie.Need-enum-known-s Inv-loop μ-loop
@@ -149,6 +218,12 @@ enum-known-s c = search needs
 
 enum-told-2 : tie.Need-enum-told-2 Inv-loop μ-loop
 enum-told-2 c = search needs
+
+same-length-3 : tie.Need-same-length-3 Inv-loop μ-loop
+same-length-3 c = kept-before (keep-from-next (c .before .before .before .before))
+
+same-length-4 : tie.Need-same-length-4 Inv-loop μ-loop
+same-length-4 c = whole-own (loop-from-walk (walk-from-met (met-from-next (c .before .before .before .before))))
 
 returns-2 : tie.Need-returns-2 Inv-loop μ-loop
 returns-2 c =
@@ -158,99 +233,110 @@ returns-2 c =
     let x = k .walk-inner in
     let o = loop-from-walk k .loop in
     let a = start-from-walk k .args in
-    let t = met m in
-    bad-entry (now (a .ib)) (a .by) (now (a .seen)) (x .last .0) (x .last .1 .0) (o .high) (m .before .q .given .0 .0) true (m .before .q .given .0 .1 .0) (t .0) (t .1) (walkable k .least)
-    (sym (n .next-top .ensures .0) ∙ c .enum-told2 .given .1)
+    let t = paused m in (
+      bad-entry (now (a .ib)) (a .by) (now (a .key)) (now (a .seen)) (x .last .0) (x .last .1 .0) (o .high) (m .before .q .given .0 .0) true (m .before .q .given .0 .1 .0) (t .reach) (t .stand)
+          (t .some) (walkable k .least) (sym (n .next-entry .ensures .0) ∙ c .enum-told2 .given .1),
+      λ _ f. absurd (false-true f),
+    )
+
+same-length-5 : tie.Need-same-length-5 Inv-loop μ-loop
+same-length-5 c = kept-before (keep-from-next (next-from-told (c .before .before)))
+
+same-length-6 : tie.Need-same-length-6 Inv-loop μ-loop
+same-length-6 c = whole-own (loop-from-walk (walk-from-met (met-from-told (c .before .before))))
 
 returns-3 : tie.Need-returns-3 Inv-loop μ-loop
-returns-3 c =
-    let d = c .before .before in
-    let m = met-from-next (next-from-told d) in
-    let k = walk-from-met m in
-    let x = k .walk-inner in
-    let o = loop-from-walk k .loop in
-    let a = start-from-walk k .args in
-    let t = met m in
-    too-big (now (a .ib)) (a .by) (now (a .seen)) (x .last .0) (x .last .1 .0) (o .high) (m .before .q .given .0 .0) true (m .before .q .given .0 .1 .0) (t .0) (t .1) (walkable k .least)
-    (d .before .s .given .0 .0) (entry d) (c .if1 .taken)
+returns-3 c = (turn-big (turn (c .before .before)) (c .if2 .taken), λ _ f. absurd (false-true f))
 
-element-copy-out-if2 : tie.Need-element-copy-out-if2 Inv-loop μ-loop
-element-copy-out-if2 c = omega (arith, c .if1 .left, walkable (walk-from-met (met-from-next (next-from-told (c .before .before)))) .marks)
+element-copy-out-if3 : tie.Need-element-copy-out-if3 Inv-loop μ-loop
+element-copy-out-if3 c = omega (arith, c .if2 .left, walkable (walk-from-met (met-from-told (c .before .before))) .marks)
+
+same-length-7 : tie.Need-same-length-7 Inv-loop μ-loop
+same-length-7 c = kept-before (keep-from-next (next-from-told (told-from-mark (c .before))))
+
+same-length-8 : tie.Need-same-length-8 Inv-loop μ-loop
+same-length-8 c = whole-own (loop-from-walk (walk-from-met (met-from-told (told-from-mark (c .before)))))
 
 returns-4 : tie.Need-returns-4 Inv-loop μ-loop
-returns-4 c =
-    let d = told-from-mark (c .before) in
-    let m = met-from-next (next-from-told d) in
-    let k = walk-from-met m in
-    let x = k .walk-inner in
-    let o = loop-from-walk k .loop in
-    let a = start-from-walk k .args in
-    let t = met m in
-    again (now (a .ib)) (a .by) (now (a .seen)) (x .last .0) (x .last .1 .0) (o .high) (m .before .q .given .0 .0) true (m .before .q .given .0 .1 .0) (t .0) (t .1) (walkable k .least)
-    (d .before .s .given .0 .0) (entry d) (c .if2 .taken)
+returns-4 c = (turn-again (turn (told-from-mark (c .before))) (c .if3 .taken), λ _ f. absurd (false-true f))
 
 element-write-seen : tie.Need-element-write-seen Inv-loop μ-loop
-element-write-seen c = omega (arith, c .before .before .if1 .left, walkable (walk-from-met (met-from-next (next-from-told (told-from-mark (c .before))))) .marks)
+element-write-seen c = omega (arith, c .before .before .if2 .left, walkable (walk-from-met (met-from-told (told-from-mark (c .before)))) .marks)
 
 past-requires : tie.Need-past-requires Inv-loop μ-loop
-past-requires c κs =
-    let d = told-from-mark (c .before) in
-    let m = met-from-next (next-from-told d) in
-    let k = walk-from-met m in
-    let x = k .walk-inner in
-    let o = loop-from-walk k .loop in
-    let a = start-from-walk k .args in
-    let t = met m in
-    passes-top (now (a .ib)) (a .by) (now (a .seen)) (x .last .0) (x .last .1 .0) (o .high) (m .before .q .given .0 .0) true (m .before .q .given .0 .1 .0) (t .0) (t .1) (walkable k .least)
-    (d .before .s .given .0 .0) (entry d) (walkable k .most)
+past-requires c κs = turn-passes (turn (told-from-mark (c .before)))
 
 sub-left : tie.Need-sub-left Inv-loop μ-loop
-sub-left c = omega (arith, met (met-from-next (next-from-told (told-from-mark (c .before .before)))) .1)
+sub-left c = omega (arith, paused (met-from-told (told-from-past c)) .some)
+
+sub-t42 : tie.Need-sub-t42 Inv-loop μ-loop
+sub-t42 c = omega (arith, paused (met-from-told (told-from-past (c .before))) .stand .few)
+
+met-requires : tie.Need-met-requires Inv-loop μ-loop
+met-requires c κs = search needs
+
+slice-aggregate-keep-2 : tie.Need-slice-aggregate-keep-2 Inv-loop μ-loop
+slice-aggregate-keep-2 c =
+    let d = told-from-past (past-from-met (c .before .before)) in
+    sym (turn d .long ∙ paused (met-from-told d) .stand .whole)
+
+keep-requires-2 : tie.Need-keep-requires-2 Inv-loop μ-loop
+keep-requires-2 c κs =
+    let a = past-from-met (c .before .before) in
+    let d = told-from-past a in
+    turn-keeps (turn d) (a .past .result) (a .past .ensures) (loop-from-walk (walk-from-met (met-from-told d)) .loop .own) (loop-from-walk (walk-from-met (met-from-told d)) .loop .inv .1 .high)
+
+slice-aggregate-reach-past : tie.Need-slice-aggregate-reach-past Inv-loop μ-loop
+slice-aggregate-reach-past c =
+    let d = told-from-past (past-from-met (met-from-own (c .before .before .before))) in
+    sym (turn d .long ∙ paused (met-from-told d) .stand .whole)
+
+reach-past-requires : tie.Need-reach-past-requires Inv-loop μ-loop
+reach-past-requires c κs =
+    let a = past-from-met (met-from-own (c .before .before .before)) in
+    turn-reaches (turn (told-from-past a)) (a .past .result) (a .past .ensures)
 
 loop-less : tie.Need-loop-less Inv-loop μ-loop
-loop-less c = let t = met (met-from-next (next-from-told (told-from-mark (c .before .before)))) in omega (arith, t .1, t .2)
+loop-less c =
+    let t = paused (met-from-told (told-from-past (past-from-met (met-from-own (own-from-reach c))))) in
+    omega (arith, t .some, t .few)
 
 loop-again : tie.Need-loop-again Inv-loop μ-loop
 loop-again c =
-    let d = told-from-mark (c .before .before) in
-    let n = next-from-told d in
-    let m = met-from-next n in
-    let k = walk-from-met m in
-    let x = k .walk-inner in
-    let y = n .next-top in
-    let o = loop-from-walk k .loop in
-    let a = start-from-walk k .args in
-    let t = met m in
-    onward-top (now (a .ib)) (a .by) (now (a .seen)) (x .last .0) (x .last .1 .0) (o .high) (m .before .q .given .0 .0) true (m .before .q .given .0 .1 .0) (t .0) (t .1) (walkable k .least)
-    (d .before .s .given .0 .0) (entry d) (y .last .0) (y .last .1 .0) (renewed d) (y .kept .0) (y .kept .1 .0) (c .past .result) (c .past .ensures) (walkable k .most) (t .3)
-    (c .before .before .before .if1 .left) (c .before .if2 .left)
+    let y = own-from-reach c in
+    let e = met-from-own y in
+    let a = past-from-met e in
+    let m = a .before .before in
+    let d = told-from-mark m in
+    let k = keep-from-next (next-from-told d) in
+    let o = loop-from-walk (walk-from-met (met-from-told d)) .loop in
+    let t = turn d in (
+      turn-on t (a .past .result) (a .past .ensures) (c .reach-past .result) (c .reach-past .ensures) (m .before .if2 .left) (a .before .if3 .left),
+      turn-finds t (a .past .result) (a .past .ensures) (o .before) (o .own) (o .spot) (o .inv .1) (k .keep .last .0) (y .keep2 .last .0) (e .met .result) (c .reach-past .result) (k .keep .ensures)
+          (y .keep2 .ensures) (e .met .ensures) (c .reach-past .ensures),
+    )
+
+ends-requires : tie.Need-ends-requires Inv-loop μ-loop
+ends-requires c κs = start-from-loop (c .before) .pre .0 .inside
+
+same-length-9 : tie.Need-same-length-9 Inv-loop μ-loop
+same-length-9 c = whole-before (c .before .before)
+
+same-length-10 : tie.Need-same-length-10 Inv-loop μ-loop
+same-length-10 c = whole-own (c .before .before)
 
 returns-5 : tie.Need-returns-5 Inv-loop μ-loop
 returns-5 c =
-    let l = loop-from-end (c .before) in
+    let l = c .before .before in
     let o = l .loop in
-    let a = start-from-loop l .args in
-    not-there (now (a .ib)) (a .by) (now (a .seen)) (o .seen) (o .buf) (o .high) (o .p) true (o .left) (o .inv) (omega arith) (c .if3 .taken)
-
-returns-6 : tie.Need-returns-6 Inv-loop μ-loop
-returns-6 c =
-    let e = c .before .before in
-    let l = loop-from-end (e .before) in
-    let o = l .loop in
-    let a = start-from-loop l .args in
-    not-empty (now (a .ib)) (a .by) (now (a .seen)) (o .seen) (o .buf) (o .high) (o .p) true (o .left) (o .inv) (omega arith) (e .if3 .left) (c .if4 .taken)
-
-read-two-requires : tie.Need-read-two-requires Inv-loop μ-loop
-read-two-requires c κs = start-from-loop (loop-from-end (c .before .before .before)) .pre .0 .inside
-
-returns-7 : tie.Need-returns-7 Inv-loop μ-loop
-returns-7 c =
-    let e = c .before .before .before in
-    let l = loop-from-end (e .before) in
-    let o = l .loop in
-    let a = start-from-loop l .args in
-    at-end (now (a .ib)) (a .by) (now (a .seen)) (o .seen) (o .buf) (o .high) (o .p) true (o .left) (o .inv) (omega arith) (e .if3 .left) (c .before .if4 .left) refl (c .read-two .result)
-    (c .read-two .ensures .0)
+    let q = start-from-loop l in
+    let a = q .args in
+    let fine = at-end (now (a .ib)) (a .by) (now (a .key)) (now (a .seen)) (o .seen) (o .buf) (o .high) (o .p) true (o .left) (o .reach) (o .inv .0) (omega arith) refl in (
+      c .ends .ensures ∙ fine,
+      λ sought ok.
+          finding-end (now (a .ib)) (a .by) (now (a .key)) (now (a .seen)) (o .seen) (o .buf) (o .high) (o .p) (o .left) (o .reach) (o .inv .0) (omega arith) (q .pre .1) (o .before) (o .own) (o .spot)
+          (o .inv .1) sought (sym (c .ends .ensures ∙ fine) ∙ ok),
+    )
 
 pub mark-entries-spec : {M : Type 1} → statement M
 mark-entries-spec =
@@ -259,27 +345,44 @@ mark-entries-spec =
     Inv-loop
     μ-loop
     start-requires
+    nowhere-requires
     loop-holds
     slice-aggregate-walk-inner
     walk-inner-requires
     enum-known-q
     enum-told
+    same-length
+    same-length-2
     returns
-    slice-aggregate-next-top
-    slice-aggregate-next-top-2
-    next-top-requires
+    slice-aggregate-keep
+    keep-requires
+    slice-aggregate-next-entry
+    slice-aggregate-next-entry-2
+    next-entry-requires
     enum-known-s
     enum-told-2
+    same-length-3
+    same-length-4
     returns-2
+    same-length-5
+    same-length-6
     returns-3
-    element-copy-out-if2
+    element-copy-out-if3
+    same-length-7
+    same-length-8
     returns-4
     element-write-seen
     past-requires
     sub-left
+    sub-t42
+    met-requires
+    slice-aggregate-keep-2
+    keep-requires-2
+    slice-aggregate-reach-past
+    reach-past-requires
     loop-less
     loop-again
-    returns-5
-    returns-6
-    read-two-requires
-    returns-7)
+    ends-requires
+    same-length-9
+    same-length-10
+    returns-5)

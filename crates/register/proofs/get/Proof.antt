@@ -1,49 +1,50 @@
--- No loop. A refusal is told on and leaves the output (get-shut); of a whole area get_in says the rest (get-whole), which may be asked there (whole-there).
+-- No loop. Numbers that are not fine are refusal 1, and the output stays (get-outside); where they are fine the area is as get_in asks (fits-lent), which says the rest
+-- (get-fine).
 use mathlib.Core.Path.{_≡_, _∙_, sym}
+use lib.ListN.{length}
+use denote.Ref.{now}
 use borrow.Author.Needs.{needs}
 use Rattle.measures.specs.declared.Numbers.{Numbers}
-use Rattle.opening.specs.AidOpened.{openedOf}
-use Rattle.opening.specs.declared.Opened.the-variants.{Whole}
-use Rattle.register.proofs.Reading.{get-shut, whole-there, get-whole}
+use Rattle.measures.specs.declared.Judged.the-variants.{Fine}
+use Rattle.opening.proofs.Opening.{judgedFor, fits-lent}
+use Rattle.register.proofs.Reading.{get-outside, get-fine}
 use Rattle.register.proofs.get.Statement.{statement}
 use Rattle.register.proofs.get.Tie as tie
 
-abbrev start : tie.After-open → tie.Start
+abbrev start : tie.After-judge → tie.Start
 start k = k .before .before .before .before
 
-abbrev asked : tie.After-open → Numbers
+abbrev asked : tie.After-judge → Numbers
 asked k = let a = start k .args in record { size = a .size; offset = a .offset; key = a .key; most = a .most }
 
--- the area is whole
-abbrev opened : tie.After-known-told2 → tie.After-open
-opened q = q .before .before .before
+-- the numbers are fine
+abbrev judged : tie.After-known-told → tie.After-judge
+judged q = q .before .before .before
 
-is-whole : (q : tie.After-known-told2)
-    → openedOf (asked (opened q)) (start (opened q) .args .area .now) ≡ Whole (q .before .measures .given .0 .0) (q .before .measures .given .0 .1 .0)
-    (q .before .measures .given .0 .1 .1 .0) (q .before .measures .given .0 .1 .1 .1 .0)
-is-whole q = sym (opened q .open .ensures) ∙ q .before .measures .given .1
+fine : (q : tie.After-known-told)
+    → judgedFor (asked (judged q)) (length (now (start (judged q) .args .area))) ≡ Fine (q .before .measures .given .0 .0) (q .before .measures .given .0 .1 .0)
+fine q = sym (judged q .judge .ensures) ∙ q .before .measures .given .1
 
-open-requires : tie.Need-open-requires
-open-requires c κs = search needs
-
-enum-known-answer : tie.Need-enum-known-answer
-enum-known-answer c = search needs
+judge-requires : tie.Need-judge-requires
+judge-requires c κs = search needs
 
 enum-known-measures : tie.Need-enum-known-measures
 enum-known-measures c = search needs
 
-get-in-requires : tie.Need-get-in-requires
-get-in-requires c κs =
-    let q = c .before in
-    let g = q .before .measures .given in
-    whole-there (asked (opened q)) (start (opened q) .args .area .now) (g .0 .0) (g .0 .1 .0) (g .0 .1 .1 .0) (g .0 .1 .1 .1 .0) (is-whole q)
+enum-told : tie.Need-enum-told
+enum-told c = search needs
 
 returns : tie.Need-returns
 returns c =
-    let k = c .before .before .before in
+    let k = c .before .before in
     let a = start k .args in
-    let g = c .before .answer .given in
-    get-shut (asked k) (a .area .now) (g .0 .0) (sym (k .open .ensures) ∙ g .1) (a .wanted .now) (a .out .now)
+    get-outside (asked k) (now (a .area)) (now (a .wanted)) (now (a .out)) (sym (k .judge .ensures) ∙ c .enum-told .given .1)
+
+get-in-requires : tie.Need-get-in-requires
+get-in-requires c κs =
+    let q = c .before in
+    let g = q .before .measures .given .0 in
+    fits-lent (asked (judged q)) (now (start (judged q) .args .area)) (g .0) (g .1 .0) (fine q)
 
 same-length : tie.Need-same-length
 same-length c = search needs
@@ -52,19 +53,18 @@ returns-2 : tie.Need-returns-2
 returns-2 c =
     let i = c .before .before in
     let q = i .before .before in
-    let a = start (opened q) .args in
-    let g = q .before .measures .given in
-    get-whole (asked (opened q)) (a .area .now) (g .0 .0) (g .0 .1 .0) (g .0 .1 .1 .0) (g .0 .1 .1 .1 .0) (is-whole q) (a .wanted .now) (a .out .now)
-    (i .get-in .result) (i .get-in .last .1 .1 .1 .1 .0) (i .get-in .ensures)
+    let a = start (judged q) .args in
+    let g = q .before .measures .given .0 in
+    get-fine (asked (judged q)) (now (a .area)) (now (a .wanted)) (now (a .out)) (g .0) (g .1 .0) (fine q) (i .get-in .result) (i .get-in .last .1 .1 .1 .1 .0) (i .get-in .ensures)
 
 pub get-spec : {M : Type 1} → statement M
 get-spec =
     tie.close
     (tie.spec
-    open-requires
-    enum-known-answer
+    judge-requires
     enum-known-measures
-    get-in-requires
+    enum-told
     returns
+    get-in-requires
     same-length
     returns-2)

@@ -1,111 +1,78 @@
--- No loop. The search looks at one interval only. That is enough: all records with the key are those of the interval that it leads to (with-there).
--- There the search ends at the one record (key-found), which lies within the area (key-inside), or in a gap (key-absent).
--- A key of another length is refused with the output untouched (get-wrong).
-use mathlib.Core.Path.{_≡_, refl}
-use mathlib.Core.List.{[]}
-use native.Mathlib.Omega.{arith}
+-- No loop. A key of another length is answered by the index record alone, with the output untouched (get-wrong). Else the search says all (get-looked): damage at the
+-- index record or at the interval that the key leads to, no record there, or one that lies within the area (Inside) and is handed out.
+use mathlib.Core.Path.{_≡_, refl, _∙_, sym, ap}
+use denote.Ref.{now}
 use borrow.Author.Needs.{needs}
-use Rattle.fields.specs.Bytes.{Octets}
-use Rattle.area.specs.Content.{Content}
-use Rattle.area.specs.Reading.{readArea, whole}
-use Rattle.area.proofs.Places.{data-small}
-use Rattle.register.proofs.KeyFound.{key-found, key-absent, key-inside}
-use Rattle.register.proofs.Reading.{gives-as, get-wrong, get-hands}
+use Rattle.area_seek.specs.declared.Looked.{Looked}
+use Rattle.requests.specs.Reading.{getIn}
+use Rattle.register.proofs.Reading.{gives-as, givenBy, get-wrong, get-looked}
 use Rattle.register.proofs.get_in.Statement.{statement}
 use Rattle.register.proofs.get_in.Tie as tie
 
 -- what was given, where the search has ended
-abbrev start : tie.After-find → tie.Start
-start f = f .before .before .before .before .before .before
+abbrev start : tie.After-look-up → tie.Start
+start k = k .before .before .before .before .before .before
 
-abbrev find-from-hand-out : tie.After-hand-out → tie.After-find
-find-from-hand-out k = k .before .before .before .before .before .before
+-- what the search told is what is to be given
+given : (k : tie.After-look-up) (r : Looked) → k .look-up .result ≡ r
+    → givenBy (now (start k .args .area)) (now (start k .args .out)) r
+    ≡ getIn (start k .args .m) (start k .args .n) (now (start k .args .area)) (now (start k .args .wanted)) (now (start k .args .out))
+given k r e =
+    let s = start k in
+    let a = s .args in
+    ap (givenBy (now (a .area)) (now (a .out))) (sym e ∙ k .look-up .ensures .0)
+    ∙ get-looked (a .m) (a .n) (now (a .area)) (now (a .wanted)) (now (a .out)) (s .pre) (k .before .if1 .left)
 
--- the key is of bytes
-octets : (f : tie.After-find) → Octets (start f .args .wanted .now)
-octets f i = omega (arith, f .before .before .before .before .shared-slice-known2 .given i)
+wrong-length-requires : tie.Need-wrong-length-requires
+wrong-length-requires c κs = search needs
 
 returns : tie.Need-returns
 returns c =
-    let a = c .before .before .before .before .before .args in
-    λ (d : Content) (h : readArea (a .m) (a .n) (a .area .now) ≡ whole d). get-wrong (a .m) d (a .wanted .now) (a .out .now) (c .if1 .taken)
+    let a = c .before .before .before .before .before .before .args in
+    get-wrong (a .m) (a .n) (now (a .area)) (now (a .wanted)) (now (a .out)) (c .before .if1 .taken) (c .wrong-length .result) (c .wrong-length .ensures)
 
-find-requires : tie.Need-find-requires
-find-requires c κs = search needs
+look-up-requires : tie.Need-look-up-requires
+look-up-requires c κs = search needs
 
-enum-known-found : tie.Need-enum-known-found
-enum-known-found c = search needs
+enum-known-place : tie.Need-enum-known-place
+enum-known-place c = search needs
 
 enum-told : tie.Need-enum-told
 enum-told c = search needs
 
-returns-2 : tie.Need-returns-2
-returns-2 c =
-    let f = c .before .before in
-    let a = start f .args in
-    let g = c .enum-told .given in
-    let l = f .before .if1 .left in
-    λ (d : Content) (h : readArea (a .m) (a .n) (a .area .now) ≡ whole d).
-    gives-as
-    (get-hands (a .m) d (a .wanted .now) (a .out .now) l []
-    (key-absent (a .m) (a .n) (a .area .now) (start f .pre .0) (record { content = d; reads = h }) (a .wanted .now) l (octets f) (f .find .result) (f .find .ensures) (g .0 .0) (g .0 .1 .0) (g .1)))
-    (record { answers = refl; outputs = refl })
-
-add-hand-out : tie.Need-add-hand-out
-add-hand-out c = search needs
-
-mul-hand-out : tie.Need-mul-hand-out
-mul-hand-out c =
-    let f = c .before .before .before .before in
-    let a = start f .args in
-    omega (arith, data-small (a .m) (a .n) (a .area .now) (start f .pre .0) (f .find .result .number) (f .find .ensures .within))
-
-add-hand-out-2 : tie.Need-add-hand-out-2
-add-hand-out-2 c =
-    let f = c .before .before .before .before in
-    let a = start f .args in
-    let g = c .before .before .found .given in
-    let y = key-inside (a .m) (a .n) (a .area .now) (start f .pre .0) (start f .pre .1) (a .wanted .now) (f .before .if1 .left) (octets f) (f .find .result) (f .find .ensures)
-    (g .0 .0) (g .0 .1 .0) (g .0 .1 .1 .0) (g .1) in
-    omega (arith, y)
+enum-known-from : tie.Need-enum-known-from
+enum-known-from c = search needs
 
 hand-out-requires : tie.Need-hand-out-requires
-hand-out-requires c κs =
-    let f = c .before .before .before .before .before in
-    let a = start f .args in
-    let g = c .before .before .before .found .given in
-    key-inside (a .m) (a .n) (a .area .now) (start f .pre .0) (start f .pre .1) (a .wanted .now) (f .before .if1 .left) (octets f) (f .find .result) (f .find .ensures)
-    (g .0 .0) (g .0 .1 .0) (g .0 .1 .1 .0) (g .1)
+hand-out-requires c κs = rw (c .before .before .from .given .1) at (c .before .before .before .before .look-up .ensures .1)
+
+returns-2 : tie.Need-returns-2
+returns-2 c = gives-as (given (c .before .before .before) _ (c .before .place .given .1)) (record { answers = refl; outputs = refl })
+
+returns-3 : tie.Need-returns-3
+returns-3 c = gives-as (given (c .before .before) _ (c .enum-told .given .1)) (record { answers = refl; outputs = refl })
 
 same-length : tie.Need-same-length
 same-length c = search needs
 
-returns-3 : tie.Need-returns-3
-returns-3 c =
+returns-4 : tie.Need-returns-4
+returns-4 c =
     let k = c .before .before in
-    let f = find-from-hand-out k in
-    let a = start f .args in
-    let g = k .before .before .before .before .found .given in
-    let l = f .before .if1 .left in
-    λ (d : Content) (h : readArea (a .m) (a .n) (a .area .now) ≡ whole d).
-    gives-as
-    (get-hands (a .m) d (a .wanted .now) (a .out .now) l _
-    (key-found (a .m) (a .n) (a .area .now) (start f .pre .0) (record { content = d; reads = h }) (a .wanted .now) l (octets f) (f .find .result) (f .find .ensures)
-    (g .0 .0) (g .0 .1 .0) (g .0 .1 .1 .0) (g .1)))
-    (k .hand-out .ensures)
+    let f = k .before .before .before in
+    gives-as (given (f .before .before) _ (f .from .given .1)) (k .hand-out .ensures)
 
 pub get-in-spec : {M : Type 1} → statement M
 get-in-spec =
     tie.close
     (tie.spec
+    wrong-length-requires
     returns
-    find-requires
-    enum-known-found
+    look-up-requires
+    enum-known-place
     enum-told
-    returns-2
-    add-hand-out
-    mul-hand-out
-    add-hand-out-2
+    enum-known-from
     hand-out-requires
+    returns-2
+    returns-3
     same-length
-    returns-3)
+    returns-4)

@@ -1,0 +1,161 @@
+-- Laws of the walk over all entries: one turn, and the entry that a key leads to, which is kept as it is met.
+use Prim.Native.Nat.{ℕ, _+_, _-_, _≤_, _<_}
+use mathlib.Core.Path.{_≡_, refl, _∙_, sym, ap}
+use mathlib.Core.Bool.{Bool, true, false}
+use mathlib.Core.List.{List}
+use mathlib.Core.Logic.{_⊎_, ⊎-elim}
+use lib.ListN.{length, getD, take, set}
+use lib.Dec.{eqb, ltb}
+use native.Mathlib.Omega.{arith}
+use borrow.Author.Tests.{ltb-true, ltb-false}
+use Rattle.fields.specs.Choice.{pick}
+use Rattle.index_step.specs.declared.Place.{Place}
+use Rattle.index_step.specs.declared.Step.{Step}
+use Rattle.index_step.specs.AidStep.{placePast, copiedFrom, Renewed}
+use Rattle.index_step.specs.AidEntries.{Here, sepHere, hereNext, Held}
+use Rattle.index_step.proofs.Reaching.{reach-most, extended-chars, extended-length}
+use Rattle.index_read.specs.AidWalk.{entryOf, fineFrom}
+use Rattle.index_read.specs.AidSeek.{reachOf, FoundBy}
+use Rattle.index_read.specs.AidStand.{Walkable, Stand, Paused}
+use Rattle.index_read.specs.declared.Leg.{Leg}
+use Rattle.index_read.specs.declared.Limits.{Limits}
+use Rattle.index_read.specs.declared.Parsed.the-variants.{Of}
+use Rattle.index_read.specs.declared.Spot.{Spot}
+use Rattle.index_read.proofs.Reaching.{found-here}
+use Rattle.index_read.proofs.Walking.{too-big, again, passes-top, num-is, sep-fits, held-past, turned, unsought}
+
+-- ---- a buffer to whose front another's was copied
+
+module _ (other b : List ℕ) (l : ℕ) (short : l ≤ 255) (whole : 263 ≤ length b) (whole' : 263 ≤ length other) where
+  copied-front : take l (copiedFrom other l b) ≡ take l other
+  copied-front =
+      let z : 0 + l ≡ l = omega arith in
+      let m = reach-most l in
+      rw z at (extended-chars other b (copiedFrom other l b) 0 l 0 (omega (arith, m)) (omega (arith, m)) refl)
+
+  copied-long : length (copiedFrom other l b) ≡ length b
+  copied-long =
+      let m = reach-most l in
+      extended-length other b (copiedFrom other l b) 0 l 0 (omega (arith, m)) (omega (arith, m)) refl
+
+-- ---- before the first entry
+
+-- the reach is 1 where a key is sought
+abbrev pub Begun : List ℕ → ℕ → Type 0
+Begun key reach = ((length key ≡ 0) × (reach ≡ 0)) ⊎ ((length key ≡ 0 → ⊥) × (reach ≡ 1))
+
+module _ (key : List ℕ) (reach : ℕ) (b : Begun key reach) where
+  pub begun-few : reach ≤ 1
+  begun-few = ⊎-elim (λ (x : (length key ≡ 0) × (reach ≡ 0)). omega (arith, x .1)) (λ (x : (length key ≡ 0 → ⊥) × (reach ≡ 1)). omega (arith, x .1)) b
+
+  pub begun-keyed : (K : ℕ) → (length key ≡ 0) ⊎ (length key ≡ K) → 0 < reach → length key ≡ K
+  begun-keyed K w sought =
+      ⊎-elim (λ (x : (length key ≡ 0) × (reach ≡ 0)). absurd (omega (arith, x .1)))
+      (λ (x : (length key ≡ 0 → ⊥) × (reach ≡ 1)). ⊎-elim (λ (y : length key ≡ 0). absurd (x .0 y)) (λ (y : length key ≡ K). y) w) b
+
+  begun-sought : reach ≡ 0 → 0 < length key → ⊥
+  begun-sought off some =
+      ⊎-elim (λ (x : (length key ≡ 0) × (reach ≡ 0)). omega (arith, x .0)) (λ (x : (length key ≡ 0 → ⊥) × (reach ≡ 1)). omega (arith, x .1)) b
+
+-- ---- what was found
+
+-- the two buffers, and the entry that the key leads to, once it is sought no more
+pub record Finding (ib : List ℕ) (by : Limits) (key before own : List ℕ) (spot : Spot) (reach : ℕ) : Type 0 where
+  pub low : length before ≡ 263
+  pub high : length own ≡ 263
+  pub found : reach ≡ 0 → 0 < length key → FoundBy (by .width) (by .count) ib key spot before own
+
+pub finding-start : (ib : List ℕ) (by : Limits) (key before own : List ℕ) (spot : Spot) (reach : ℕ) → Begun key reach → length before ≡ 263 → length own ≡ 263
+    → Finding ib by key before own spot reach
+finding-start ib by key before own spot reach b low high =
+    record { low = low; high = high; found = λ (x : reach ≡ 0) (y : 0 < length key). absurd (begun-sought key reach b x y) }
+
+-- ---- one turn
+
+-- Past an entry that is fine: where the walk over its section paused, and what the entry says. `from` is what the walk set out from.
+pub record Turn (ib : List ℕ) (by : Limits) (key old : List ℕ) (from : Leg) (seen buf high : List ℕ) (p : Place) (left : ℕ) (s : Step) (buf' high' : List ℕ) : Type 0 where
+  pub paused : Paused ib by key old from seen buf high p left
+  pub walkable : Walkable ib by key
+  pub entry : entryOf ib p by (eqb left (by .count)) buf high ≡ Of s
+  pub renewed : Renewed ib s buf high buf' high'
+  pub long : length buf' ≡ length buf
+  pub long' : length high' ≡ length high
+
+module _ {ib : List ℕ} {by : Limits} {key old : List ℕ} {from : Leg} {seen buf high : List ℕ} {p : Place} {left : ℕ} {s : Step} {buf' high' : List ℕ}
+    (t : Turn ib by key old from seen buf high p left s buf' high') where
+  abbrev st : Stand ib by key old seen buf high p true left (t .paused .reach)
+  st = t .paused .stand
+
+  pub turn-big : by .n ≤ s .number → false ≡ fineFrom by ib old (by .count)
+  turn-big = too-big ib by key old seen buf high p true left (t .paused .reach) st (t .paused .some) (t .walkable .least) s (t .entry)
+
+  pub turn-again : (getD seen (s .number) 0 ≡ 0 → ⊥) → false ≡ fineFrom by ib old (by .count)
+  turn-again = again ib by key old seen buf high p true left (t .paused .reach) st (t .paused .some) (t .walkable .least) s (t .entry)
+
+  pub turn-passes : (s .front + s .len ≤ 510) × (s .at ≤ length ib) × (pick (s .closes) 2 0 ≤ s .at)
+  turn-passes = passes-top ib by key old seen buf high p true left (t .paused .reach) st (t .paused .some) (t .walkable .least) s (t .entry) (t .walkable .most)
+
+  module _ (p' : Place) (past : p' ≡ placePast ib s p) where
+    abbrev here : Here
+    here = st .h
+
+    abbrev sep : List ℕ
+    sep = sepHere (by .width) ib here
+
+    held : Held (hereNext (by .width) ib here) p' buf' high'
+    held =
+        held-past ib by key old seen buf high p true left (t .paused .reach) st (t .paused .some) (t .walkable .least) s (t .entry) buf' high' (t .renewed) (t .long) (t .long') p' past
+        (t .walkable .most)
+
+    -- for the calls
+    pub turn-keeps : (own : List ℕ) → length own ≡ 263 → (p' .len ≤ 255) × (263 ≤ length own) × (263 ≤ length buf')
+    turn-keeps own high = (held .short, omega (arith, high), held .whole)
+
+    sep-short : length sep ≤ by .key
+    sep-short = sep-fits ib by key old seen buf high p true left (t .paused .reach) st (t .paused .some) (t .walkable .least) s (t .entry)
+
+    pub turn-reaches : (p' .len ≤ length buf') × (0 < from .reach → p' .len ≤ length key)
+    turn-reaches =
+        (omega (arith, held .short, held .whole), λ (x : 0 < from .reach). omega (arith, held .long, sep-short, st .keyed (t .paused .still x)))
+
+    pub turn-on : (r : ℕ) → r ≡ pick (ltb 0 (from .reach)) (reachOf key 0 (take (p' .len) buf')) 0 → s .number < by .n → getD seen (s .number) 0 ≡ 0
+        → Stand ib by key old (set seen (s .number) 1) buf' high' p' true (left - 1) r
+    turn-on r is small new =
+        turned ib by key old seen buf high p true left (t .paused .reach) st (t .paused .some) (t .walkable .least) s (t .entry) buf' high' (t .renewed) (t .long) (t .long') p' past
+        (t .walkable .most) (from .reach) (t .paused .still) r is small new (t .paused .last)
+
+    -- the entry is kept while the key is sought
+    module _ (before own : List ℕ) (spot : Spot) (g : Finding ib by key before own spot (from .reach)) where
+      abbrev spot-here : Spot
+      spot-here = record { ordinal = by .count - left; number = s .number; before = p .len; own = p' .len }
+
+      kept : (b : Bool) → ltb 0 (from .reach) ≡ b
+          → Finding ib by key (pick b (copiedFrom buf (p .len) before) before) (pick b (copiedFrom buf' (p' .len) own) own) (pick b spot-here spot)
+          (pick b (reachOf key 0 (take (p' .len) buf')) 0)
+      kept true sought =
+          let long-before : length (copiedFrom buf (p .len) before) ≡ length before = copied-long buf before (p .len) (st .held .short) (omega (arith, g .low)) (st .held .whole) in
+          let long-own : length (copiedFrom buf' (p' .len) own) ≡ length own = copied-long buf' own (p' .len) (held .short) (omega (arith, g .high)) (held .whole) in
+          record {
+            low = long-before ∙ g .low;
+            high = long-own ∙ g .high;
+            found = λ (x : reachOf key 0 (take (p' .len) buf') ≡ 0) (y : 0 < length key).
+                found-here ib by key here left (t .paused .reach) (st .search) (t .paused .some) (t .paused .still (ltb-true 0 (from .reach) sought))
+                (sym (ap (λ (z : List ℕ). reachOf key 0 z) (sym (held .ref)) ∙ x)) spot-here (copiedFrom buf (p .len) before) (copiedFrom buf' (p' .len) own) refl
+                (num-is ib by key old seen buf high p true left (t .paused .reach) st (t .paused .some) (t .walkable .least) s (t .entry)) (sym (st .held .long)) (sym (held .long))
+                (copied-front buf before (p .len) (st .held .short) (omega (arith, g .low)) (st .held .whole) ∙ st .held .ref)
+                (copied-front buf' own (p' .len) (held .short) (omega (arith, g .high)) (held .whole) ∙ held .ref);
+          }
+      kept false sought = record { low = g .low; high = g .high; found = λ (x : _≡_ {A = ℕ} 0 0). g .found (omega (arith, ltb-false 0 (from .reach) sought)) }
+
+      pub turn-finds : (before' own' : List ℕ) (spot' : Spot) (r : ℕ) → before' ≡ pick (ltb 0 (from .reach)) (copiedFrom buf (p .len) before) before
+          → own' ≡ pick (ltb 0 (from .reach)) (copiedFrom buf' (p' .len) own) own → spot' ≡ pick (ltb 0 (from .reach)) spot-here spot
+          → r ≡ pick (ltb 0 (from .reach)) (reachOf key 0 (take (p' .len) buf')) 0 → Finding ib by key before' own' spot' r
+      turn-finds before' own' spot' r b-is o-is s-is r-is = rw (b-is, o-is, s-is, r-is) (kept (ltb 0 (from .reach)) refl)
+
+-- ---- past the last entry
+
+pub finding-end : (ib : List ℕ) (by : Limits) (key old seen buf high : List ℕ) (p : Place) (left reach : ℕ) → Stand ib by key old seen buf high p true left reach → left ≡ 0
+    → 0 < by .count → (before own : List ℕ) (spot : Spot) → Finding ib by key before own spot reach → 0 < length key → fineFrom by ib old (by .count) ≡ true
+    → FoundBy (by .width) (by .count) ib key spot before own
+finding-end ib by key old seen buf high p left reach st done some before own spot g sought fine =
+    g .found (unsought ib by key old seen buf high p true left reach st done some fine) sought

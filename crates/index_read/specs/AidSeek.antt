@@ -1,0 +1,62 @@
+-- Aids: a key that is sought while the entries are judged. `leadsTo` of crate index is what is believed: document 01, 'Index record'; document 02, L4.
+use Prim.Native.Nat.{ℕ, _+_, _-_, _≤_, _<_}
+use mathlib.Core.Path.{_≡_}
+use mathlib.Core.Bool.{true}
+use mathlib.Core.List.{List, [], _++_}
+use lib.ListN.{length, getD, take}
+use Rattle.fields.specs.Choice.{pick}
+use Rattle.fields.specs.Bytes.{part}
+use Rattle.fields.specs.Order.{common, less}
+use Rattle.index.specs.Meaning.{Entry, entry, separatorBefore}
+use Rattle.index.specs.Search.{leadsTo}
+use Rattle.index_step.specs.declared.Place.{Place}
+use Rattle.index_step.specs.AidEntries.{Here, hereFirst, entriesHere}
+use Rattle.index_read.specs.AidParsing.{parsedOf}
+use Rattle.index_read.specs.declared.Limits.{Limits}
+use Rattle.index_read.specs.declared.Parsed.{Parsed}
+use Rattle.index_read.specs.declared.Parsed.the-variants.{Of, Bad}
+use Rattle.index_read.specs.declared.Spot.{Spot}
+use Rattle.index_read.specs.declared.Marks.{Marks}
+
+-- the reach past a separator that begins with the key's first `front` bytes and goes on with these characters: 0 where it is not below the key
+unfoldable pub reachOf : List ℕ → ℕ → List ℕ → ℕ
+reachOf key front chars =
+    pick (less chars (part key front (length chars))) (front + common chars (part key front (length chars)) + 1) 0
+
+-- past the next entry, no section's highest; a wrong one tells nothing
+abbrev pub reachPast : List ℕ → List ℕ → ℕ → Parsed → ℕ
+reachPast ib key reach (Of s) = reachOf key (s .front) (part ib (s .at) (s .len))
+reachPast ib key reach Bad = reach
+
+abbrev pub lookOf : List ℕ → Place → Limits → List ℕ → ℕ → ℕ
+lookOf ib p by key reach = reachPast ib key reach (parsedOf ib p by)
+
+-- where it leads, as the struct with the marks has it
+abbrev pub spotIn : Marks → Spot
+spotIn m = record { ordinal = m .ordinal; number = m .number; before = m .before; own = m .own }
+
+abbrev pub noSpot : Spot
+noSpot = record { ordinal = 0; number = 0; before = 0; own = 0 }
+
+-- How far a search has come that stands before an entry with `left` entries to come: all entries are those passed and those to come; while the key is sought, those
+-- passed are below it, the separator before has one byte less than `reach` in common with it, and its next one, if it has so many, is lower.
+pub record Search (ib : List ℕ) (by : Limits) (key : List ℕ) (h : Here) (left reach : ℕ) : Type 0 where
+  pub passed : List Entry
+  pub split : entriesHere (by .width) ib (hereFirst ib) (by .count) ≡ passed ++ entriesHere (by .width) ib h left
+  pub many : length passed + left ≡ by .count
+  pub last : separatorBefore [] passed ≡ h .ref
+  pub leads : 0 < reach
+      → leadsTo key (entriesHere (by .width) ib (hereFirst ib) (by .count)) ≡ length passed + leadsTo key (entriesHere (by .width) ib h left)
+  pub same : 0 < reach → take (reach - 1) (h .ref) ≡ take (reach - 1) key
+  pub long : 0 < reach → 0 < length passed → reach ≤ length (h .ref)
+  pub ahead : 0 < reach → reach ≤ length (h .ref) → less (take reach (h .ref)) (take reach key) ≡ true
+
+-- the entry that the key leads to was found among `count` entries: its place and number, and both separators at the front of two buffers
+pub record FoundBy (w count : ℕ) (ib key : List ℕ) (spot : Spot) (before own : List ℕ) : Type 0 where
+  pub ordinal : spot .ordinal ≡ leadsTo key (entriesHere w ib (hereFirst ib) count)
+  pub inside : spot .ordinal < count
+  pub number : spot .number ≡ getD (entriesHere w ib (hereFirst ib) count) (spot .ordinal) (entry [] 0) .num
+  pub low : take (spot .before) before ≡ separatorBefore [] (take (spot .ordinal) (entriesHere w ib (hereFirst ib) count))
+  pub low-long : spot .before ≡ length (separatorBefore [] (take (spot .ordinal) (entriesHere w ib (hereFirst ib) count)))
+  pub high : take (spot .own) own ≡ getD (entriesHere w ib (hereFirst ib) count) (spot .ordinal) (entry [] 0) .sep
+  pub high-long : spot .own ≡ length (getD (entriesHere w ib (hereFirst ib) count) (spot .ordinal) (entry [] 0) .sep)

@@ -1,0 +1,48 @@
+-- What a get by key looks at, and no more: document 02, L4. It judges the index record and the interval to which that leads the key; damage elsewhere does
+-- not refuse it, so that it vouches for no other interval.
+use Prim.Native.Nat.{ℕ}
+use mathlib.Core.Path.{_≡_}
+use mathlib.Core.Bool.{true, false}
+use mathlib.Core.List.{List, [], _∷_, _++_}
+use mathlib.Core.Logic.{_↔_}
+use lib.ListN.{length}
+use Rattle.fields.specs.Order.{less}
+use Rattle.measures.specs.declared.Measures.{Measures}
+use Rattle.index.specs.Bounds.{bound}
+use Rattle.index.specs.Meaning.{Entry, Meaning, entry}
+use Rattle.index.specs.Rules.{boundBefore}
+use Rattle.area.specs.Content.{indexIn, dataIn}
+use Rattle.area.specs.Layout.{IndexInterval, UsedInterval}
+use Rattle.area.specs.Leads.{indexSound, numberFor}
+use Rattle.promises.specs.Tables.{given, many, Absent, KeyedTooLong, DamagedIndex, DamagedThere, AbsentThere, TooLongThere}
+
+-- Two areas that a get by this key meets alike: equally long, with the same index record, and with the same bytes in the interval that it leads the key to.
+-- That interval counts only where the index record is sound and the key has the length of a key; else no data interval is looked at.
+pub record SameFor (size offset key most : ℕ) (area area' wanted : List ℕ) : Type 0 where
+  pub long : length area' ≡ length area
+  pub index : indexIn (given size offset key most area) area' ≡ indexIn (given size offset key most area) area
+  pub there : indexSound (given size offset key most area) (many size offset key most area) area ≡ true → length wanted ≡ key
+      → dataIn (given size offset key most area) area' (numberFor (given size offset key most area) (many size offset key most area) area wanted)
+      ≡ dataIn (given size offset key most area) area (numberFor (given size offset key most area) (many size offset key most area) area wanted)
+
+-- On a sound area the rows of a get by key speak of all records: neither place is damaged, none of the interval's records has the key exactly where none of
+-- all records has it, and so for one that is too long.
+pub record RowsWhole (size offset key most : ℕ) (area wanted : List ℕ) : Type 0 where
+  pub index : DamagedIndex size offset key most area → ⊥
+  pub there : DamagedThere size offset key most area wanted → ⊥
+  pub absent : AbsentThere size offset key most area wanted ↔ Absent size offset key most area wanted
+  pub too-long : (out : List ℕ) → TooLongThere size offset key most area wanted out ↔ KeyedTooLong size offset key most area wanted out
+
+-- The index record is sound, and the key, which has the length of a key, belongs to interval k: it is above the bound before that entry and at most the entry's
+-- own. But k is not laid out in its role: in no way as records between these two bounds. Said by the grammars alone.
+pub record DamagedHome (m : Measures) (n : ℕ) (area wanted : List ℕ) (k : ℕ) : Type 0 where
+  pub long : length wanted ≡ m .key
+  pub meaning : Meaning
+  pub index : IndexInterval m n meaning (indexIn m area)
+  pub pre : List Entry
+  pub sep : List ℕ
+  pub post : List Entry
+  pub split : meaning .entries ≡ pre ++ (entry sep k ∷ post)
+  pub after : less (boundBefore (m .key) [] pre) wanted ≡ true
+  pub within : less (bound (m .key) sep) wanted ≡ false
+  pub unsound : (rs : List (List ℕ)) → UsedInterval m (boundBefore (m .key) [] pre) (bound (m .key) sep) rs (dataIn m area k) → ⊥
