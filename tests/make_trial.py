@@ -53,11 +53,17 @@ def case(t, free, lens, letter, byte, *lengths, come=()):
         t.lay(loaded(free, lens))
         answer = t.ask(letter, M4, filled(byte.encode() * 4, length))
         if come:
-            t.answers(answer, *come[place])
+            t.made(answer, *come[place], *numbers(free, *come[place]))
         t.ask("C", M4)
 
 
 STAYS, TWO, THREE, NO_INTERVAL = (0, 1), (0, 3), (0, 4), (6,)
+
+
+def numbers(free, number, count=0, old=0):
+    """The intervals that a change tells, by their numbers in the buffer: the old one; where there are more, the index record and those taken, from
+    the right end of the free ones."""
+    return () if number else tuple(sorted([old + 1] + [0] * (count > 1) + [k + 1 for k in free[::-1][:max(count - 2, 0)]]))
 
 
 def ends(t, d, u):
@@ -165,12 +171,12 @@ def endings(t):
         t.text(title)
         t.lay(none)
         for i, (length, end) in enumerate(zip(lens, ends)):
-            t.answers(t.ask("I", M4, filled(bytes([65 + i]) * 4, length)), 0, 1)
+            t.made(t.ask("I", M4, filled(bytes([65 + i]) * 4, length)), 0, 1, 1)
             t.says(-len(end) // 2, end)
         t.answers(t.ask("C", M4), 0, len(lens), 0)
     t.text("erased again: no record")
     t.lay(loaded([], [505]))
-    t.answers(t.ask("E", M4, b"AAAA"), 0, 1)
+    t.made(t.ask("E", M4, b"AAAA"), 0, 1, 1)
     t.says(-4, "000001fc")
 
 
@@ -193,8 +199,8 @@ def index_cut(t):
     t.says(18, "001901f601f601")
     t.says(500, "0000 000000")
     t.ask("C", M4)
-    t.answers(t.ask("I", M4, filled(bytes.fromhex("C1F1F2F3"), 300)), 0, 1)
-    t.answers(t.ask("I", M4, filled(bytes.fromhex("C2F0F0F0"), 300)), 0, 3)
+    t.made(t.ask("I", M4, filled(bytes.fromhex("C1F1F2F3"), 300)), 0, 1, 1)
+    t.made(t.ask("I", M4, filled(bytes.fromhex("C2F0F0F0"), 300)), 0, 3, 0, 1, 2)
     t.says(18, "001801f201f2")
     t.says(496, "0000 000001c1000100")
     t.ask("C", M4)
@@ -218,7 +224,7 @@ def shorter_after_longer(t):
     t.answers(t.ask("C", Measures(SIZE, 0, 1, MOST), lent=three), 2, 0)
     for key, place in (("41429999", 1), ("41430000", 2), ("42000000", 3), ("4142ffff", 1), ("41ffffff", 2), ("00000000", 1), ("ffffffff", 3)):
         t.text("insert of %s" % key)
-        t.answers(t.ask("I", M4, bytes.fromhex(key), lent=three), 0, 1)
+        t.made(t.ask("I", M4, bytes.fromhex(key), lent=three), 0, 1, place)
         assert bytes.fromhex(key) in t.area[place * SIZE:(place + 1) * SIZE]
         t.ask("G", M4, bytes.fromhex(key), out=5, lent=three)
     t.ask("C", M4, lent=three)
@@ -337,6 +343,21 @@ def behind(t):
     t.ask("C", m)
 
 
+# ---- the numbers of the intervals written
+
+def numbers_written(t):
+    """Document 02, L9: one, three and four of them, with the old interval lowest, between and highest. An update that leaves every byte tells its interval."""
+    t.text("== which intervals were written")
+    parts = [filled(b"AAAA", 250), filled(b"CCCC", 240)]
+    for old, free in ((0, [1, 2]), (0, [2, 1]), (1, [0, 2]), (1, [2, 0]), (2, [0, 1]), (2, [1, 0]), (0, [3, 2, 1]), (3, [0, 2, 1])):
+        t.text("interval %d, free %s" % (old, " ".join(map(str, free))))
+        begun = area_of(SIZE, [(b"", old)], free, {old: parts})
+        for letter, content, count in (("U", parts[0], 1), ("E", b"CCCC", 1), ("I", filled(b"DDDD", 400), 3), ("I", filled(b"BBBB", 400), 4), ("I", filled(b"AAAA", 9), None)):
+            t.lay(begun)
+            t.made(t.ask(letter, M4, content), *((4,) if count is None else (0, count, *numbers(free, 0, count, old))))
+        t.ask("C", M4)
+
+
 # ---- index records that a division writes with other Fs, just fills, or would overfill
 
 def short_fronts(t):
@@ -356,7 +377,7 @@ def full_at(t, length, last):
     t.lay(area_of(SIZE, [(b"A" * 100, 0), (b"B" * 100, 1), (b"C" * 100, 2), (b"D" * length, 3), (b"", 4)], [5], {}))
     for key in (b"EA" + b"B" * 98, b"EC" + b"B" * 98, b"EB" + b"B" * 98):
         t.ask("I", m, filled(key, 160))
-    t.answers(t.ask("I", m, filled(b"EB" + b"B" * 97 + b"A", 160)), *last)
+    t.made(t.ask("I", m, filled(b"EB" + b"B" * 97 + b"A", 160)), *last)
     t.ask("C", m)
 
 
@@ -365,7 +386,7 @@ def long_key(t, length, free, last):
     m = Measures(SIZE, 0, 255, MOST)
     t.lay(area_of(SIZE, [(b"A" * length, 0), (b"", 1)], free, {}))
     t.ask("I", m, b"B" * 255)
-    t.answers(t.ask("I", m, b"B" * 254 + b"C"), *last)
+    t.made(t.ask("I", m, b"B" * 254 + b"C"), *last)
     t.ask("C", m)
 
 
@@ -377,7 +398,7 @@ def short_fronts_counted(t):
     left, right = b"B" * 99 + b"A", b"B" * 100
     t.lay(area_of(SIZE, entries, [5], {4: [filled(left, 300)]}, found={0: index_interval(entries, [5], SIZE, fronts=[0] * 5)}))
     t.ask("C", m)
-    t.answers(t.ask("I", m, filled(right, 300)), 0, 3)
+    t.made(t.ask("I", m, filled(right, 300)), 0, 3, 0, 5, 6)
     t.ask("C", m)
 
 
@@ -430,10 +451,10 @@ def widths(t):
         t.answers(t.ask("C", m), 0, 4, n - 2)
         t.answers(t.ask("G", m, b"AA03", out=6), 8, 250)
         t.answers(t.ask("R", m, address=(n - 2) * 1024 + 500, out=6), 8, 250)
-        t.answers(t.ask("I", m, filled(b"AA10", 250)), 0, 3)
+        t.made(t.ask("I", m, filled(b"AA10", 250)), 0, 3, 0, n - 1, n)
         t.says(2, "0301" if n == 256 else "0403")
-        t.answers(t.ask("U", m, filled(b"AA10", 300)), 0, 1)
-        t.answers(t.ask("E", m, b"AA00"), 0, 1)
+        t.made(t.ask("U", m, filled(b"AA10", 300)), 0, 1, n)
+        t.made(t.ask("E", m, b"AA00"), 0, 1, n - 1)
         t.answers(t.ask("C", m), 0, 4, n - 3)
     t.text("== the record of 256 before 257 intervals, and the other way round")
     t.lay(records[256] + data_interval([], 1024))
@@ -454,7 +475,7 @@ def full_at_two(t, length, last):
     entries = [(front, i) for i, front in enumerate(fronts)] + [(b"", 3)]
     keys = [b"Z" * (length - 1) + bytes([c]) + b"z" * (120 - length) for c in b"ACEGB"]
     t.lay(area_of(1024, entries, list(range(4, 257)), {3: [filled(key, 250) for key in keys[:4]]}))
-    t.answers(t.ask("I", m, filled(keys[4], 250)), *last)
+    t.made(t.ask("I", m, filled(keys[4], 250)), *last)
     t.ask("C", m)
 
 
@@ -478,18 +499,18 @@ def main():
     t = Script()
     for part in (measures, sound_varieties, several_rules, rules_alone, gets, *trial_gets.CASES, addresses, runs, endings, largest_empty, index_cut,
                  shorter_after_longer, *trial_sections.CASES, fitting, three_parts, updates, shortenings, shortened_pairs, refusals, far_cut,
-                 record_bytes, joined, emptied, behind, short_fronts):
+                 record_bytes, joined, emptied, behind, numbers_written, short_fronts):
         part(t)
-    for length, last in ((59, (0, 3)), (60, (7,)), (64, (7,))):
+    for length, last in ((59, (0, 3, 0, 5, 6)), (60, (7,)), (64, (7,))):
         full_at(t, length, last)
-    for length, free, last in ((213, [2], (0, 3)), (214, [2], (7,)), (230, [2], (7,)), (230, [], (6,))):
+    for length, free, last in ((213, [2], (0, 3, 0, 2, 3)), (214, [2], (7,)), (230, [2], (7,)), (230, [], (6,))):
         long_key(t, length, free, last)
     short_fronts_counted(t)
     wasteful(t)
     kept(t)
     greatest(t)
     widths(t)
-    for length, last in ((114, (0, 3)), (115, (7,))):
+    for length, last in ((114, (0, 3, 0, 4, 257)), (115, (7,))):
         full_at_two(t, length, last)
     for size in (1024, 2048, 32768):
         larger(t, size)

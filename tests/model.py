@@ -1,4 +1,4 @@
-"""A model of document 01, as document 02 amends it (L4, L5, L6): what each request comes to on any bytes, under any measures.
+"""A model of document 01, as document 02 amends it (L4, L5, L6, L9): what each request comes to on any bytes, under any measures.
 
 It follows the papers (document 01; where that is open, docs/DECISIONS.md, whose points are cited as C2, D1 and so on) and knows nothing
 of the program. An area is bytes. Each request gives an answer, which is a number and its values, and the bytes of area and output
@@ -443,7 +443,19 @@ def stored(area, m, index, place, parts):
         if index_size(entries, free, width_for(len(free) + len(entries))) > m.size - 7:
             return Answer(7), area
         stores[0] = index_interval(entries, free, m.size, index.kept)
-    return Answer(0, (len(stores),)), with_stores(area, m.size, stores)
+    after = with_stores(area, m.size, stores)
+    numbers = written(area, after, m, index, old)
+    return Answer(0, (len(numbers),) + numbers), after
+
+
+def written(area, after, m, index, old):
+    """L9: the intervals written, ascending, by their numbers in the buffer: the index record is 0, data interval k is k + 1. They are told by what
+    was read before and is read after: the interval of the key, also where its bytes are the same, those that were free and no longer are, and
+    the index record if the free list got shorter. No other interval may differ."""
+    free = read_index(after[:m.size], m, len(area) // m.size - 1).free
+    numbers = {old + 1} | {k + 1 for k in index.free if k not in free} | ({0} if len(free) < len(index.free) else set())
+    assert numbers >= {at // m.size for at in range(0, len(area), m.size) if area[at:at + m.size] != after[at:at + m.size]}
+    return tuple(sorted(numbers))
 
 
 def with_stores(area, size, stores):

@@ -17,8 +17,6 @@ import random_areas
 from layout import area_of, bent, data_interval, old_index_interval
 from trial_script import replayed
 
-DONE = {"C": 2, "G": 1, "R": 1, "I": 1, "U": 1, "E": 1}
-
 
 def requests(comparing, made, count):
     """A sequence of requests; gives the area that it leaves."""
@@ -152,14 +150,17 @@ def large(comparing, size, n, used, each, count):
 
 
 def most(comparing, size):
-    """4,096 intervals, more than any program here can hold: one of them full, so that an insert divides it and takes the number 4,095."""
+    """4,096 intervals, more than any program here can hold: one of them full, so that an insert divides it and takes the number 4,095, which in the
+    buffer is 4,096, the greatest that is told."""
     m = model.Measures(size, 0, 8, 60)
     records = [b"1%07d" % (2 * i + 1) + b"." * 52 for i in range((size - 10) // 60)]
     area = area_of(size, [(b"2", 4000), (b"", 0)], [k for k in range(1, 4096) if k != 4000], {4000: records})
     for letter, content, address, out in (("C", b"", 0, b""), ("G", records[-1][:8], 0, bytes(60)), ("G", b"10000000", 0, bytes(60)), ("R", b"", 4000 * size + 60, bytes(60)),
                                           ("I", b"10000002" + b"." * 52, 0, b""), ("U", records[0][:59], 0, b""), ("E", records[1][:8], 0, b""),
                                           ("G", b"10000002", 0, bytes(60)), ("C", b"", 0, b"")):
-        area = comparing.ask(letter, area, m, content, address, out).area
+        told = comparing.ask(letter, area, m, content, address, out)
+        area = told.area
+        assert letter != "I" or told.values == (3, 0, 4001, 4096, 0)
     for at, new in ((2, b"\3\1"), (2, b"\4\1"), (24, b"\x10\x00"), (24, b"\x0f\xa0"), (18, b"\x20\x00")):
         comparing.ask("C", bent(area, at, new), m)
     hurt = bent(area, size, b"\xff" * 2 * size)     # nothing left of interval 0, where the last entry leads, and of a free one
@@ -210,7 +211,7 @@ def plain(comparing, letter, area, m, content, address, out):
     """A request asked through C and compared; gives only the values that the answer has."""
     told = comparing.program.asked(letter, area, m, content, address, out)
     comparing.ask(letter, area, m, content, address, out)
-    count = DONE[letter] if told.number == 0 else 1 if told.number in (2, 8) else 0
+    count = (1 + told.values[0] if letter in "IUE" else program.VALUES[letter]) if told.number == 0 else 1 if told.number in (2, 8) else 0
     return told.number, told.values[:count], told.area, told.out
 
 

@@ -10,6 +10,7 @@ ROOT = os.path.dirname(os.path.dirname(os.path.abspath(__file__)))
 GUARD = b"\xa5" * 64
 faulthandler.enable()   # should the program be brought down, Python still says where it stood
 UNSTORED = 0xDEADBEEF
+VALUES = {"C": 2, "G": 1, "R": 1, "I": 5, "U": 5, "E": 5}   # how many C is given: of a change the count and four numbers
 
 
 def built(path=None):
@@ -68,7 +69,7 @@ class Program:
 
     def asked(self, letter, area, m, content=b"", address=0, out=b""):
         lent, given, output = Lent(area), Lent(content), Lent(out)
-        values = [ctypes.c_size_t(UNSTORED) for _ in range(2 if letter == "C" else 1)]
+        values = [ctypes.c_size_t(UNSTORED) for _ in range(VALUES[letter])]
         words = lent.words() + [ctypes.c_size_t(each) for each in m]
         if letter == "R":
             words.append(ctypes.c_uint64(address))
@@ -84,7 +85,7 @@ class Program:
 def expected(letter, area, m, content=b"", address=0, out=b""):
     """What the model says, in the form in which C tells it."""
     came = model.asked(letter, area, m, content, address, out)
-    values = (came.answer.values + (0, 0))[:2 if letter == "C" else 1]
+    values = (came.answer.values + (0,) * 5)[:VALUES[letter]]
     return Told(came.answer.number, values, came.area, came.out, content)
 
 

@@ -73,6 +73,11 @@ class Script:
     def answers(self, answer, number, *values):
         assert answer == (number, values), (self.lines[-8:], answer, number, values)
 
+    def made(self, answer, number, count=0, *numbers):
+        """What a change came to: a refusal, or so many intervals written; which ones, where that is said (L9)."""
+        told = (count,) + (numbers or answer.values[1:]) if number == 0 else ()
+        assert answer == (number, told) and len(told) == (count + 1 if number == 0 else 0), (self.lines[-8:], answer, number, count, numbers)
+
 
 # ---- the script read back, for a check of the format that does not lean on how it was written
 

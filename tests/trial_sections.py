@@ -14,7 +14,7 @@ LONG = Measures(SIZE, 0, 255, MOST)
 
 def leads(t, m, key, number):
     """An insert under this key goes into that interval."""
-    t.answers(t.ask("I", m, key.ljust(m.least, b".")), 0, 1)
+    t.made(t.ask("I", m, key.ljust(m.least, b".")), 0, 1, number + 1)
     assert key in t.area[(number + 1) * m.size:(number + 2) * m.size], (key, number)
 
 
@@ -43,7 +43,7 @@ def figure_38(t):
     for left, right, separator in FIGURE_38:
         t.text("%s and %s: %s" % (left, right, separator))
         t.lay(area_of(SIZE, [(b"", 0)], [1], {0: [filled(left.encode(), 300)]}))
-        t.answers(t.ask("I", m, filled(right.encode(), 300)), 0, 3)
+        t.made(t.ask("I", m, filled(right.encode(), 300)), 0, 3, 0, 1, 2)
         t.says(505 - 3 - len(separator), separator.encode().hex() + "00%02x00" % len(separator))
     t.text("all entries")
     entries = [(separator.encode(), number) for number, (_, _, separator) in enumerate(FIGURE_38)] + [(b"", 6)]
@@ -70,9 +70,9 @@ def digits(text):
 def cut(t, m, left, right):
     """A cut between two keys: records that no interval holds together, and that go again."""
     for key, count in ((digits(left), 1), (digits(right), 3)):
-        t.answers(t.ask("I", m, filled(key, m.size * 3 // 5)), 0, count)
+        t.made(t.ask("I", m, filled(key, m.size * 3 // 5)), 0, count)
     for key in (digits(left), digits(right)):
-        t.answers(t.ask("E", m, key), 0, 1)
+        t.made(t.ask("E", m, key), 0, 1)
 
 
 def empty(size, n):
@@ -125,7 +125,7 @@ def growing(t):
     t.text("== from 1 entry to 17")
     t.lay(empty(SIZE, 18))
     for count in range(1, 18):
-        t.answers(t.ask("I", M4, filled(bytes([64 + count]) * 4, 300)), 0, 1 if count == 1 else 3)
+        t.made(t.ask("I", M4, filled(bytes([64 + count]) * 4, 300)), 0, *((1, 1) if count == 1 else (3, 0, count - 1, count)))
         if count in GROWN:
             t.says(20, GROWN[count])
     t.answers(t.ask("C", M4), 0, 17, 1)
@@ -134,7 +134,7 @@ def growing(t):
     t.text("== from 15 entries to 17 at once")
     entries = [(bytes([65 + i]), i) for i in range(14)] + [(b"", 14)]
     t.lay(area_of(SIZE, entries, [17, 16, 15], {14: [filled(b"PAAA", 250), filled(b"PZZZ", 240)]}))
-    t.answers(t.ask("I", M4, filled(b"PMMM", 400)), 0, 4)
+    t.made(t.ask("I", M4, filled(b"PMMM", 400)), 0, 4, 0, 15, 16, 17)
     t.says(18, "0019 01af 01e6")
     t.answers(t.ask("C", M4), 0, 3, 1)
 
@@ -149,7 +149,7 @@ def other_sections(t):
             found = {0: index_interval(entries, [4], SIZE, bytes(range(13)), sections, fronts, 0xEE)}
             t.lay(area_of(SIZE, entries, [4], {2: [filled(b"ABBB", 300)]}, found=found))
             t.answers(t.ask("C", M4), 0, 1, 1)
-            t.answers(t.ask("I", M4, filled(b"ABDD", 300)), 0, 3)
+            t.made(t.ask("I", M4, filled(b"ABDD", 300)), 0, 3, 0, 3, 5)
             assert t.area[:SIZE] == index_interval(entries[:2] + [(b"ABB", 2), (b"AC", 4), (b"", 1)], [], SIZE, bytes(range(13)))
             t.answers(t.ask("G", M4, b"ABDD"), 8, 300)
     t.text("== a hundred entries in ten sections, in fifty and in a hundred")
@@ -177,8 +177,8 @@ def only_in_other_sections(t):
     assert index_size(entries, [4], sections=[1, 3]) == 284
     t.lay(area_of(SIZE, entries, [4], {3: [filled(b"B" * 255, 300)]}, sections=[1, 3]))
     t.answers(t.ask("C", LONG), 0, 1, 1)
-    t.answers(t.ask("I", LONG, filled(b"C" * 255, 300)), 7)
-    t.answers(t.ask("U", LONG, filled(b"B" * 255, 400)), 0, 1)
+    t.made(t.ask("I", LONG, filled(b"C" * 255, 300)), 7)
+    t.made(t.ask("U", LONG, filled(b"B" * 255, 400)), 0, 1, 4)
     t.answers(t.ask("C", LONG), 0, 1, 1)
 
 
@@ -190,7 +190,7 @@ def grown_to(t, separators, sections, long, last):
     keys = [b"Z" * (long - 1) + bytes([byte]) * (256 - long) for byte in b"XY"]
     t.lay(area_of(SIZE, entries, [4], {3: [filled(keys[0], 300)]}, sections=sections))
     t.answers(t.ask("C", LONG), 0, 1, 1)
-    t.answers(t.ask("I", LONG, filled(keys[1], 300)), *last)
+    t.made(t.ask("I", LONG, filled(keys[1], 300)), *last)
     t.ask("C", LONG)
     return index_size(entries, [4]), index_size(entries[:3] + [(keys[0][:long], 3), (b"", 4)], [])
 

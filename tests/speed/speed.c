@@ -4,7 +4,8 @@
    not vectorised. Prints, for each area and request, nanoseconds of each build, the part of the sum that it is, how many times the check
    of the same build, and after / before. A change is undone before the next by copying back the intervals that it wrote; what that takes
    is timed alone and taken off.
-   speed FOLDER BUILD.so loop AREA REQUEST TIMES does one request so many times, for a profiler. */
+   speed FOLDER BUILD.so loop AREA REQUEST TIMES does one request so many times, for a profiler.
+   A change is handed four places more than builds before document 02's L9 take; those leave them alone. */
 #include <dlfcn.h>
 #include <stdint.h>
 #include <stdio.h>
@@ -14,7 +15,7 @@
 
 typedef size_t (*check_t)(const uint8_t *, size_t, size_t, size_t, size_t, size_t, size_t *, size_t *);
 typedef size_t (*get_t)(const uint8_t *, size_t, size_t, size_t, size_t, size_t, const uint8_t *, size_t, uint8_t *, size_t, size_t *);
-typedef size_t (*change_t)(uint8_t *, size_t, size_t, size_t, size_t, size_t, const uint8_t *, size_t, size_t *);
+typedef size_t (*change_t)(uint8_t *, size_t, size_t, size_t, size_t, size_t, const uint8_t *, size_t, size_t *, size_t *, size_t *, size_t *, size_t *);
 typedef size_t (*find_t)(const uint8_t *, size_t, size_t, size_t, size_t, const uint8_t *, size_t, size_t *, size_t *);
 typedef size_t (*index_t)(const uint8_t *, size_t, size_t, size_t, size_t *, size_t *);
 typedef size_t (*locate_t)(const uint8_t *, size_t, size_t, const uint8_t *, size_t, size_t *);
@@ -94,7 +95,7 @@ static void patch(struct area *a, size_t place)
 static size_t once(const struct build *b, struct area *a, enum what w)
 {
     static uint8_t out[64], record[60];
-    size_t x, y;
+    size_t x, y, z[4];
     const uint8_t *key = (const uint8_t *)a->there;
     switch (w) {
     case CHECK: return b->check(a->bytes, a->long_, a->size, 0, 8, 60, &x, &y);
@@ -102,22 +103,22 @@ static size_t once(const struct build *b, struct area *a, enum what w)
     case UPDATE:
         memset(record, 'x', 60);
         memcpy(record, a->there, 8);
-        return b->update(a->work, a->long_, a->size, 0, 8, 60, record, 60, &x);
+        return b->update(a->work, a->long_, a->size, 0, 8, 60, record, 60, &x, z, z + 1, z + 2, z + 3);
     case INSERT:
         patch(a, a->used / 3 + 1);
         memset(record, 'x', 60);
         memcpy(record, a->beside, 8);
-        return b->insert(a->work, a->long_, a->size, 0, 8, 60, record, 60, &x);
+        return b->insert(a->work, a->long_, a->size, 0, 8, 60, record, 60, &x, z, z + 1, z + 2, z + 3);
     case ERASE:
         patch(a, a->used / 3 + 1);
-        return b->erase(a->work, a->long_, a->size, 0, 8, 60, key, 8, &x);
+        return b->erase(a->work, a->long_, a->size, 0, 8, 60, key, 8, &x, z, z + 1, z + 2, z + 3);
     case DIVIDE:
         patch(a, 0);
         patch(a, a->used / 2 + 1);
         patch(a, a->used + 1);
         memset(record, 'x', 60);
         memcpy(record, a->middle, 8);
-        return b->insert(a->work, a->long_, a->size, 0, 8, 60, record, 60, &x);
+        return b->insert(a->work, a->long_, a->size, 0, 8, 60, record, 60, &x, z, z + 1, z + 2, z + 3);
     case PATCH: patch(a, a->used / 3 + 1); return 0;
     case PATCHES:
         patch(a, 0);

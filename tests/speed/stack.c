@@ -12,7 +12,7 @@
 
 typedef size_t (*check_t)(const uint8_t *, size_t, size_t, size_t, size_t, size_t, size_t *, size_t *);
 typedef size_t (*get_t)(const uint8_t *, size_t, size_t, size_t, size_t, size_t, const uint8_t *, size_t, uint8_t *, size_t, size_t *);
-typedef size_t (*change_t)(uint8_t *, size_t, size_t, size_t, size_t, size_t, const uint8_t *, size_t, size_t *);
+typedef size_t (*change_t)(uint8_t *, size_t, size_t, size_t, size_t, size_t, const uint8_t *, size_t, size_t *, size_t *, size_t *, size_t *, size_t *);
 
 typedef uint64_t (*scan_check_t)(size_t, size_t, size_t, size_t, const uint8_t *, size_t);
 typedef uint64_t (*scan_get_t)(size_t, size_t, size_t, size_t, const uint8_t *, size_t, const uint8_t *, size_t, uint8_t *, size_t);
@@ -31,7 +31,7 @@ static size_t answer;
 static void request(void)
 {
     static uint8_t out[64], record[64];
-    size_t x, y, k = area.key, r = area.record;
+    size_t x, y, z[4], k = area.key, r = area.record;
     const char *key = now == INSERT ? area.beside : now == DIVIDE ? area.middle : area.there;
     memset(record, 'x', sizeof record);
     memcpy(record, key, k);
@@ -43,9 +43,9 @@ static void request(void)
     switch (now) {
     case CHECK: answer = build.check(area.work, area.long_, area.size, 0, k, r, &x, &y); break;
     case GET: answer = build.get(area.work, area.long_, area.size, 0, k, r, record, k, out, sizeof out, &x); break;
-    case UPDATE: answer = build.update(area.work, area.long_, area.size, 0, k, r, record, r, &x); break;
-    case ERASE: answer = build.erase(area.work, area.long_, area.size, 0, k, r, record, k, &x); break;
-    default: answer = build.insert(area.work, area.long_, area.size, 0, k, r, record, r, &x);
+    case UPDATE: answer = build.update(area.work, area.long_, area.size, 0, k, r, record, r, &x, z, z + 1, z + 2, z + 3); break;
+    case ERASE: answer = build.erase(area.work, area.long_, area.size, 0, k, r, record, k, &x, z, z + 1, z + 2, z + 3); break;
+    default: answer = build.insert(area.work, area.long_, area.size, 0, k, r, record, r, &x, z, z + 1, z + 2, z + 3);
     }
 }
 

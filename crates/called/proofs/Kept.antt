@@ -21,7 +21,7 @@ use Rattle.promises.specs.Alike.{handedBack}
 use Rattle.promises.specs.Wrong.{lentBy}
 use Rattle.promises.specs.Home.{LengthFine}
 use Rattle.promises.specs.Trace.{Sound}
-use Rattle.promises.specs.Changes.{SpreadsFewest, OnlyNamedWritten, CountsTrue, CutPrescribed}
+use Rattle.promises.specs.Changes.{SpreadsFewest, OnlyNamedWritten, Framed, WrittenTrue, CutPrescribed}
 use Rattle.promises.specs.Tables.{First, WantOfInterval, WantOfRoom, tableFor}
 use Rattle.promises.specs.Values.{ValuesExact}
 use Rattle.promises.specs.Local.{SameFor, DamagedHome}
@@ -29,7 +29,8 @@ use Rattle.promises.proofs.Refused.{refused-harmless}
 use Rattle.promises.proofs.Exact.{refusals-exact}
 use Rattle.promises.proofs.Values.{values-exact}
 use Rattle.promises.proofs.Wants.{want-of-interval, want-of-room}
-use Rattle.promises.proofs.Changes.{spreads-fewest, only-named-written, counts-true, cut-prescribed, check-true}
+use Rattle.promises.proofs.Changes.{spreads-fewest, only-named-written, written-true, cut-prescribed, check-true}
+use Rattle.promises.proofs.Frames.{change-frame}
 use Rattle.promises.proofs.Unique.{one-result}
 use Rattle.promises.proofs.Local.{get-local, get-damage-placed}
 use Rattle.called.proofs.Called.{Called, allowed}
@@ -87,6 +88,10 @@ module _ (size offset key most : ℕ) (area : List ℕ) (ch : Change) (a : Answe
   abbrev did : Allowed size offset key most area (changes ch) a after out
   did = allowed size offset key most area (changes ch) a after out k
 
+  -- done or refused, of whatever bytes
+  pub change-frame-called : Octets area → Framed size area after a
+  change-frame-called o = change-frame size offset key most area o ch a after did
+
   module _ (m : Measures) (n : ℕ) (c : Content) (s : Sound size offset key most m n area c) (z : numberOf a ≡ 0) (d : Content) (w : readArea m n after ≡ whole d) where
     pub spreads-fewest-called : SpreadsFewest m c d ch
     spreads-fewest-called = spreads-fewest size offset key most m n area c s ch a after did z d w
@@ -95,9 +100,9 @@ module _ (size offset key most : ℕ) (area : List ℕ) (ch : Change) (a : Answe
     unfolding spreads-fewest-called
     only-named-written-called = only-named-written size offset key most m n area c s ch a after did z d w
 
-    pub counts-true-called : CountsTrue c d a (length (spreads-fewest-called .new))
+    pub written-true-called : WrittenTrue m area after c d a (spreads-fewest-called .home .old .num)
     unfolding spreads-fewest-called
-    counts-true-called = counts-true size offset key most m n area c s ch a after did z d w
+    written-true-called = written-true size offset key most m n area c s ch a after did z d w
 
     pub cut-prescribed-called : CutPrescribed m ch (spreads-fewest-called .home .old) (spreads-fewest-called .new)
     unfolding spreads-fewest-called

@@ -27,8 +27,9 @@ use Rattle.area.specs.Example.{bytes, held, first, second}
 use Rattle.area.proofs.Laying.{area-never-damaged}
 use Rattle.area.proofs.Example.{some-lent, some-laid-out}
 use Rattle.change.specs.Stores.{stored}
-use Rattle.change.specs.Parts.{Edit, divided}
-use Rattle.change.specs.Plan.{stores, storesOf, planOf}
+use Rattle.change.specs.Written.{among, inOrder, writtenOf}
+use Rattle.change.specs.Parts.{Edit, divided, taken}
+use Rattle.change.specs.Plan.{stores, takenStores, storesOf, planOf}
 use Rattle.change.specs.Content.{contentAfter}
 use Rattle.change.specs.Fitting.{Fitting}
 use Rattle.change.proofs.Planning.{make-stores}
@@ -113,3 +114,13 @@ some-made =
 -- So the area after it is sound, with the new content.
 pub some-after : readArea sizes 2 (stored 512 bytes (storesOf sizes held insertion (divided sizes (held .filled) insertion))) ≡ whole (contentAfter sizes held insertion)
 some-after = made-whole sizes 2 bytes held insertion some-fitting (storesOf sizes held insertion (divided sizes (held .filled) insertion)) some-made
+
+-- It stored the interval taken, the index record and the old interval, and tells them so: three, ascending.
+pub some-written : writtenOf (storesOf sizes held insertion (divided sizes (held .filled) insertion)) ≡ record { count = 3; first = 0; second = 1; third = 2; fourth = 0 }
+unfolding taken takenStores among inOrder
+some-written = rw some-divided
+
+-- Numbers come in order, the highest and the lowest wherever they stood, and one that is stored twice comes once.
+pub some-order : inOrder (4096 ∷ 3 ∷ 0 ∷ 17 ∷ 3 ∷ []) ≡ 0 ∷ 3 ∷ 17 ∷ 4096 ∷ []
+unfolding among inOrder
+some-order = refl

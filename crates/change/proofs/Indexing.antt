@@ -97,7 +97,7 @@ module _ (c : Content) (i : ℕ) (h : i < length (c .filled)) where
 -- ---- the rules
 
 -- and without several
-free-fewer : (free : List ℕ) (k : ℕ) → suc k ≤ length free
+pub free-fewer : (free : List ℕ) (k : ℕ) → suc k ≤ length free
     → take (length (take (length free - 1) free) - k) (take (length free - 1) free) ≡ take (length free - suc k) free
 free-fewer free k h =
     let l : length (take (length free - 1) free) ≡ length free - 1 = length-take-le (length free - 1) free (omega arith) in

@@ -1,10 +1,12 @@
 pub mod Storing
+pub mod Numbers
 pub mod Apart
 pub mod Between
 pub mod Parting
 pub mod Indexing
 pub mod Laying
 pub mod Taking
+pub mod Named
 pub mod Planning
 pub mod Making
 pub mod Fitted

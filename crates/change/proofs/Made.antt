@@ -1,17 +1,22 @@
 -- A change that is made: a fitting edit whose plan is stores leaves a sound area that reads as expected, and nothing else of it is touched.
-use Prim.Native.Nat.{ℕ, suc, _+_, _-_, _≤_, _<_}
+use Prim.Native.Nat.{ℕ, suc, _+_, _-_, _*_, _≤_, _<_}
 use mathlib.Core.Path.{_≡_, refl, _∙_, sym, ap}
-use mathlib.Core.List.{List, [], _∷_, _++_}
-use lib.ListN.{length, take, drop}
+use mathlib.Core.List.{List, [], _∷_, _++_, List·Memᴰ, List·Memᴰ·head, List·Memᴰ·tail, List·Memᴰ·cases-cons}
+use mathlib.Core.Logic.{_⊎_, inl, inr, ⊎-elim, _↔_}
+use lib.ListN.{length, take, drop, length-map}
 use lib.Seq.{length-take-le}
 use lib.Dec.{eqb, ltb}
 use native.Mathlib.Omega.{arith}
+use native.Mathlib.Decide.{decLt}
 use borrow.Author.Tests.{lt-ltb}
 use Rattle.fields.specs.Choice.{pick}
+use Rattle.fields.specs.Bytes.{part}
 use Rattle.fields.specs.Lists.{swap}
 use Rattle.measures.specs.declared.Measures.{Measures}
 use Rattle.measures.proofs.Fine.{fits-small}
 use Rattle.interval.specs.Layout.{form}
+use Rattle.index.specs.Divided.{freeAfter}
+use Rattle.index.proofs.Keeping.{rules-apart}
 use Rattle.sections.specs.Form.{indexSize, indexBytes}
 use Rattle.division.specs.Fewest.{AllHeld, Fewest}
 use Rattle.division.proofs.Intervals.{fewest-unique}
@@ -26,12 +31,15 @@ use Rattle.change.specs.Parts.{Edit, entryAt, edited, divided, taken}
 use Rattle.change.specs.Plan.{stores, indexAfter, storesOf, planOf}
 use Rattle.change.specs.Content.{partedAt, contentAfter}
 use Rattle.change.specs.Fitting.{lowOf, highOf, Fitting}
-use Rattle.change.specs.Places.{placesOf, AllWritten, namedFor, OnlyNamed, Counted}
+use Rattle.change.specs.Places.{placesOf, AllWritten, namedFor, OnlyNamed, Counted, Numbered}
+use Rattle.change.specs.Written.{storedNumbers, writtenOf, numbersOf}
 use Rattle.change.proofs.Storing.{places-inside, stored-other, stored-there, stored-lent}
 use Rattle.change.proofs.Parting.{Ordered}
 use Rattle.change.proofs.Indexing.{length-taken, less-one}
 use Rattle.change.proofs.Laying.{laid-parted}
 use Rattle.change.proofs.Taking.{length-more}
+use Rattle.change.proofs.Numbers.{order-among, order-long, carried-back, stored-frame}
+use Rattle.change.proofs.Named.{taken-exactly, free-once, named-among, among-named, named-index}
 use Rattle.change.proofs.Planning.{make-stores, planned}
 use Rattle.change.proofs.Making.{Making, parted-rules, one-index, making-one, more-places, more-index, making-more}
 use Rattle.change.proofs.After.{after-meaning, records-parted, counted-told}
@@ -186,3 +194,61 @@ module _ (m : Measures) (n : ℕ) (area : List ℕ) (c : Content) (e : Edit) (f 
     pub made-told : length ss
         ≡ pick (eqb (length (contentAfter m c e .free)) (length (c .free))) 1 (2 + (length (c .free) - length (contentAfter m c e .free)))
     made-told = counted-told (length (divided m (c .filled) e)) (length ss) (length (c .free)) (length (contentAfter m c e .free)) made-count
+
+    abbrev many : ℕ
+    many = length (divided m (c .filled) e)
+
+    -- No two stores have the same number, and there are at most four of them.
+    numbers-long : length (storedNumbers ss) ≡ length ss
+    numbers-long = order-long (placesOf ss) (parts .making .apart) ∙ length-map ss (λ (s : Store). s .at)
+
+    numbers-few : length (storedNumbers ss) ≤ 4
+    numbers-few = go (decLt 1 many)
+      where
+        go : Dec (1 < many) → length (storedNumbers ss) ≤ 4
+        go (yes h) = omega (arith, numbers-long, made-count .divides h, made-count .few)
+        go (no h) =
+            let q : many ≡ 1 = omega (arith, made-count .some) in
+            omega (arith, numbers-long, made-count .stays q)
+
+    -- They are the places named,
+    numbers-named : (j : ℕ) → List·Memᴰ j (storedNumbers ss) ↔ List·Memᴰ j (namedFor c (e .entry) many)
+    numbers-named j = (
+      λ (i : List·Memᴰ j (storedNumbers ss)). rw (made-only-named .named) at (order-among j (placesOf ss) .0 i),
+      λ (i : List·Memᴰ j (namedFor c (e .entry) many)). order-among j (placesOf ss) .1 (rw (← made-only-named .named) at i),
+    )
+
+    -- and those taken are the ones that were free and no longer are.
+    numbers-taken : (i : ℕ) → List·Memᴰ i (taken (many - 1) (c .free)) ↔ (List·Memᴰ i (c .free) × (List·Memᴰ i (freeAfter (many - 1) (c .free)) → ⊥))
+    numbers-taken i =
+        taken-exactly i (many - 1) (c .free) (omega (arith, made-count .free))
+        (free-once n (meaningOf c) (rules-apart (m .size) (m .key) n [] [] (meaningOf c) (fit-laid m n area c e f .index .rules) .naming) i)
+
+    -- Their numbers are distinct and at most four, so that an answer carries them; and which they are is told by the free numbers before and after.
+    pub made-numbers : Numbered (entryAt (c .filled) (e .entry) .num) (c .free) (contentAfter m c e .free) ss
+    unfolding partedAt
+    made-numbers =
+        record {
+          many = numbers-long;
+          most = numbers-few;
+          carried = carried-back (storedNumbers ss) numbers-few;
+          index = (
+            λ (i : List·Memᴰ 0 (storedNumbers ss)). omega (arith, made-count .free, named-index c (e .entry) many .0 (numbers-named 0 .0 i)),
+            λ (h : length (contentAfter m c e .free) < length (c .free)). numbers-named 0 .1 (named-index c (e .entry) many .1 (omega (arith, made-count .free))),
+          );
+          intervals = λ (i : ℕ). (
+            λ (j : List·Memᴰ (i + 1) (storedNumbers ss)).
+                ⊎-elim (λ (q : i ≡ entryAt (c .filled) (e .entry) .num). inl q) (λ (t : List·Memᴰ i (taken (many - 1) (c .free))). inr (numbers-taken i .0 t))
+                (List·Memᴰ·cases-cons (named-among c (e .entry) many i (numbers-named (i + 1) .0 j))),
+            λ (w : (i ≡ entryAt (c .filled) (e .entry) .num) ⊎ (List·Memᴰ i (c .free) × (List·Memᴰ i (freeAfter (many - 1) (c .free)) → ⊥))).
+                numbers-named (i + 1) .1
+                (among-named c (e .entry) many i
+                (⊎-elim (λ (q : i ≡ entryAt (c .filled) (e .entry) .num). List·Memᴰ·head q)
+                (λ (g : List·Memᴰ i (c .free) × (List·Memᴰ i (freeAfter (many - 1) (c .free)) → ⊥)). List·Memᴰ·tail (numbers-taken i .1 g)) w)),
+          );
+        }
+
+    -- Every interval whose number is not told is byte for byte as it was.
+    pub made-frame : (k : ℕ) → (List·Memᴰ k (numbersOf (writtenOf ss)) → ⊥) → part (stored (m .size) area ss) (k * m .size) (m .size) ≡ part area (k * m .size) (m .size)
+    made-frame k d =
+        stored-frame (m .size) n area ss (f .lent .fits .bytes) (parts .making .sized) k (λ (i : List·Memᴰ k (storedNumbers ss)). d (rw (made-numbers .carried) i))

@@ -1,4 +1,5 @@
 pub mod Stores
+pub mod Written
 pub mod Parts
 pub mod Plan
 pub mod Content

@@ -1,8 +1,10 @@
--- Which intervals a change stores, what it leaves there, and how many it writes: document 01, 'Dividing an interval' and 'What each number tells the
--- depot', number 0.
+-- Which intervals a change stores, what it leaves there, how many it writes and by which numbers it tells them: document 01, 'Dividing an interval' and 'What
+-- each number tells the depot', number 0; document 02, L9.
 use Prim.Native.Nat.{ℕ, _+_, _-_, _*_, _≤_, _<_}
 use mathlib.Core.Path.{_≡_}
 use mathlib.Core.List.{List, [], _∷_, _++_, List·Memᴰ, map}
+use mathlib.Core.Logic.{_⊎_, _↔_}
+use lib.ListN.{length}
 use lib.Dec.{ltb}
 use Rattle.fields.specs.Choice.{pick}
 use Rattle.fields.specs.Bytes.{part}
@@ -10,6 +12,7 @@ use Rattle.measures.specs.declared.Measures.{Measures}
 use Rattle.interval.specs.Layout.{form}
 use Rattle.area.specs.Content.{Content, dataIn}
 use Rattle.change.specs.Stores.{Store}
+use Rattle.change.specs.Written.{storedNumbers, writtenOf, numbersOf}
 use Rattle.change.specs.Parts.{entryAt, taken}
 
 -- ---- stores
@@ -63,3 +66,12 @@ pub record Counted (parts written before after : ℕ) : Type 0 where
   pub stays : parts ≡ 1 → written ≡ 1
   pub divides : 1 < parts → written ≡ 2 + (parts - 1)
   pub free : after + (parts - 1) ≡ before
+
+-- The buffer numbers of stores: as many as the stores, four at the most, so that an answer carries them all. The index record is among them exactly if fewer
+-- intervals are free after than before; a data interval exactly if it is the old one, or was free and no longer is.
+pub record Numbered (old : ℕ) (before after : List ℕ) (ss : List Store) : Type 0 where
+  pub many : length (storedNumbers ss) ≡ length ss
+  pub most : length (storedNumbers ss) ≤ 4
+  pub carried : numbersOf (writtenOf ss) ≡ storedNumbers ss
+  pub index : List·Memᴰ 0 (storedNumbers ss) ↔ (length after < length before)
+  pub intervals : (i : ℕ) → List·Memᴰ (i + 1) (storedNumbers ss) ↔ ((i ≡ old) ⊎ (List·Memᴰ i before × (List·Memᴰ i after → ⊥)))

@@ -7,7 +7,7 @@ use mathlib.Core.Logic.{inl}
 use lib.ListN.{length, getD, take, drop, length-drop}
 use lib.Seq.{length-take-le, take-all}
 use native.Mathlib.Omega.{arith}
-use borrow.Author.Tests.{eqb-true, eqb-false}
+use borrow.Author.Tests.{eqb-true, eqb-false, eq-eqb}
 use Rattle.fields.specs.Bytes.{splice}
 use Rattle.measures.specs.Judgement.{widthFor}
 use Rattle.measures.specs.declared.Measures.{Measures}
@@ -30,7 +30,10 @@ use Rattle.change.specs.Parts.{Edit, entryAt, divided, taken}
 use Rattle.change.specs.Plan.{Plan, noInterval, noRoom, stores, planOf, indexAfter, takenStores, storesOf}
 use Rattle.change.proofs.Planning.{planned}
 use Rattle.change.proofs.Indexing.{length-taken}
-use Rattle.change.proofs.Taking.{length-more}
+use Rattle.change.specs.Places.{placesOf, nexts}
+use Rattle.change.specs.Written.{inOrder, carrying}
+use Rattle.change.specs.declared.Written.{Written}
+use Rattle.change.proofs.Taking.{places-append, taken-places}
 use Rattle.change.proofs.Storing.{stored-append}
 use Rattle.change_plan.specs.AidEdited.{editAt, editedRecords, Told}
 use Rattle.change_plan.specs.AidParts.{stretch, partsAt, threeOf, CutInside, separatorAt}
@@ -42,9 +45,9 @@ use Rattle.change_plan.proofs.Dividing.{divided-many, cuts-are, index-new, widt
 use Rattle.change_plan.proofs.Planning.{taken-one, taken-two}
 use Rattle.change_plan.proofs.Telling.{twoAt, threeAt, many-told, told-seen, parts-stay, parts-two, parts-three, two-inside, three-inside, stays-fits, two-fits, three-fits}
 use Rattle.change_write.specs.AidStored.{Storable, AllFit, Takes, takenLeft, indexLeft, Parted, partsLeft}
-use Rattle.change_write.specs.AidCarried.{Carries, Applied}
-use Rattle.change_write.specs.declared.Made.the-variants.{Written}
-use Rattle.change_write.proofs.Naming.{free-other, free-below}
+use Rattle.change_write.specs.AidCarried.{Carries, Applied, Apart, numbersFor, writtenFor}
+use Rattle.change_write.specs.declared.Made.the-variants.{Done}
+use Rattle.change_write.proofs.Naming.{free-other, free-below, free-apart}
 
 -- A stretch to the end is what follows its first element.
 pub to-end : {A : Type 0} (first k : ℕ) (xs : List A) → length xs ≡ k → stretch first k xs ≡ drop first xs
@@ -70,14 +73,21 @@ taken-first (suc k) free h = refl
 taken-second : (free : List ℕ) → 1 < length free → getD (taken 2 free) 1 0 ≡ getD free (length free - 2) 0
 taken-second free h = ap (λ (xs : List ℕ). getD xs 1 0) (taken-two free (getD free (length free - 1) 0) (getD free (length free - 2) 0) h refl refl)
 
--- as many intervals, counted otherwise
-written-as : {m : Measures} {area : List ℕ} {q : Plan} {k l : ℕ} {after : List ℕ} → k ≡ l → Carries m area q (Written k) after → Carries m area q (Written l) after
-written-as e x = record { answers = ap Written (sym e) ∙ x .answers; leaves = x .leaves }
-
 -- index record and first part, stored behind the later ones
 left-as : (S : ℕ) {a b i j : List ℕ} {k l : ℕ} {x y : List (List ℕ)} → a ≡ b → i ≡ j → k ≡ l → x ≡ y
     → splice (splice a 0 i) ((k + 1) * S) (form S x) ≡ splice (splice b 0 j) ((l + 1) * S) (form S y)
 left-as S e f g h = rw (e, f, g, h)
+
+-- the numbers of a spread's stores, by how many parts there are
+module _ (s : Spread) (k : ℕ) where
+  numbers-one : s .parts .many ≡ 1 → s .site .number ≡ k → numbersFor s ≡ (k + 1) ∷ []
+  numbers-one h e = rw (h, e)
+
+  numbers-two : s .parts .many ≡ 2 → s .site .number ≡ k → numbersFor s ≡ (s .a + 1) ∷ 0 ∷ (k + 1) ∷ []
+  numbers-two h e = rw (h, e)
+
+  numbers-three : s .parts .many ≡ 3 → s .site .number ≡ k → numbersFor s ≡ (s .a + 1) ∷ (s .b + 1) ∷ 0 ∷ (k + 1) ∷ []
+  numbers-three h e = rw (h, e)
 
 -- ---- a ready plan, seen by its division
 module _ (m : Measures) (n : ℕ) (area new lens : List ℕ) (s : Spread) (t : Told m n area (s .site) new lens)
@@ -142,17 +152,31 @@ module _ (m : Measures) (n : ℕ) (area new lens : List ℕ) (s : Spread) (t : T
         apart = inl (refl, refl);
       }
 
+  pub one-apart : s .parts .many ≡ 1 → Apart s
+  one-apart h =
+      record {
+        some = omega (arith, h);
+        few = omega (arith, h);
+        old-below = omega (arith, t .edits .entered .within, t .edits .entered .fits .few);
+        a-below = λ (g : 2 ≤ s .parts .many). absurd (omega (arith, h));
+        b-below = λ (g : 3 ≤ s .parts .many). absurd (omega (arith, h));
+        a-other = λ (g : 2 ≤ s .parts .many). absurd (omega (arith, h));
+        b-other = λ (g : 3 ≤ s .parts .many). absurd (omega (arith, h));
+        two-taken = λ (g : 3 ≤ s .parts .many). absurd (omega (arith, h));
+      }
+
   same : (d : Content) → readArea m n area ≡ whole d → d ≡ c
   same d v = same-content m n area d c v w
 
-  pub one-applied : s .parts .many ≡ 1 → (after : List ℕ) → after ≡ splice area ((site .number + 1) * m .size) (form (m .size) (stretch 0 (length lens) rs)) → Applied m n area e 1 after
+  pub one-applied : s .parts .many ≡ 1 → (after : List ℕ) → after ≡ splice area ((site .number + 1) * m .size) (form (m .size) (stretch 0 (length lens) rs))
+      → (written : Written) → written ≡ writtenFor s → Applied m n area e written after
   unfolding stored
-  one-applied h after a d v =
+  one-applied h after a written b d v =
       let q : divided m (c .filled) e ≡ rs ∷ [] = parts-stay m n area site new lens t (stays h) in
       let x : planOf m c e ≡ stores (storesOf m c e (rs ∷ [])) =
       ready .stores-are ∙ ap stores (planned m c e (ready .ss) (ready .stores-are) .1) ∙ ap (λ (ps : List (List (List ℕ))). stores (storesOf m c e ps)) q in
       let l : stretch 0 (length lens) rs ≡ rs = to-end 0 (length lens) rs (sym (many-told m n area site new lens t)) in
-      rw (same d v, x) (record { answers = refl; leaves = rw (← t .edits .entered .is) (a ∙ rw l) })
+      rw (same d v, x) (record { answers = ap Done (b ∙ ap (λ (ks : List ℕ). carrying (inOrder ks)) (numbers-one s _ h (t .edits .entered .is))); leaves = rw (← t .edits .entered .is) (a ∙ rw l) })
 
   -- ---- several parts
 
@@ -246,36 +270,57 @@ module _ (m : Measures) (n : ℕ) (area new lens : List ℕ) (s : Spread) (t : T
     -- the stores of several parts, made
     all-left : (x y : List (List ℕ)) (ys : List (List (List ℕ))) → divided m (c .filled) e ≡ x ∷ y ∷ ys
         → takenLeft (m .size) area s rs ≡ stored (m .size) area (takenStores (m .size) (taken (length (y ∷ ys)) (c .free)) (y ∷ ys)) → take (s .parts .first) rs ≡ x
-        → Carries m area (planOf m c e) (Written (length (y ∷ ys) + 2)) (partsLeft m n area s rs)
+        → numbersFor s ≡ nexts (taken (length (y ∷ ys)) (c .free)) ++ (0 ∷ (entryAt (c .filled) (e .entry) .num + 1) ∷ [])
+        → Carries m area (planOf m c e) (Done (writtenFor s)) (partsLeft m n area s rs)
     unfolding stored
-    all-left x y ys d h f =
+    all-left x y ys d h f g =
         let xs : List Store = takenStores (m .size) (taken (length (y ∷ ys)) (c .free)) (y ∷ ys) in
         let u : Store = record { at = 0; bytes = indexBytes (widthIn c) (m .size) (indexAfter m c e) } in
         let v : Store = record { at = entryAt (c .filled) (e .entry) .num + 1; bytes = form (m .size) x } in
         let plan : planOf m c e ≡ stores (xs ++ (u ∷ v ∷ [])) =
         ready .stores-are ∙ ap stores (planned m c e (ready .ss) (ready .stores-are) .1) ∙ ap (λ (ps : List (List (List ℕ))). stores (storesOf m c e ps)) d in
         let z : 0 * m .size ≡ 0 = omega arith in
-        let long : length (y ∷ ys) + 2 ≡ length (xs ++ (u ∷ v ∷ [])) =
-        omega (arith, length-more (m .size) (taken (length (y ∷ ys)) (c .free)) (y ∷ ys) u v (length-taken (length (y ∷ ys)) (c .free))) in
+        let numbers : numbersFor s ≡ placesOf (xs ++ (u ∷ v ∷ [])) =
+        g ∙ rw (places-append xs (u ∷ v ∷ []), taken-places (m .size) (taken (length (y ∷ ys)) (c .free)) (y ∷ ys) (length-taken (length (y ∷ ys)) (c .free))) in
         let left : partsLeft m n area s rs ≡ stored (m .size) area (xs ++ (u ∷ v ∷ [])) =
         left-as (m .size) h index-is (t .edits .entered .is) f ∙ sym (stored-append (m .size) area xs (u ∷ v ∷ []) ∙ rw z) in
-        record { answers = rw (plan, long); leaves = rw plan left }
+        record { answers = rw plan (ap (λ (ks : List ℕ). Done (carrying (inOrder ks))) numbers); leaves = rw plan left }
 
     -- by how many parts there are
     left-by : (b : Bool) → threeOf (s .parts) ≡ b → divided m (c .filled) e ≡ partsAt b (s .parts .first) (s .parts .second) rs
-        → Carries m area (planOf m c e) (Written (s .parts .many + 1)) (partsLeft m n area s rs)
+        → Carries m area (planOf m c e) (Done (writtenFor s)) (partsLeft m n area s rs)
     unfolding stored takenStores
     left-by true h d =
         let l : s .parts .many ≡ 3 = eqb-true (s .parts .many) 3 h in
         let k : taken 2 (c .free) ≡ s .a ∷ s .b ∷ [] = taken-two (c .free) (s .a) (s .b) (more-free h) a-free (b-free h) in
-        written-as (omega (arith, l)) (all-left (take (s .parts .first) rs) (stretch (s .parts .first) (s .parts .second) rs) (drop (s .parts .second) rs ∷ []) d (rw (h, k) refl) refl)
+        all-left (take (s .parts .first) rs) (stretch (s .parts .first) (s .parts .second) rs) (drop (s .parts .second) rs ∷ []) d (rw (h, k) refl) refl
+        (numbers-three s _ l (t .edits .entered .is) ∙ rw k refl)
     left-by false h d =
         let l : s .parts .many ≡ 2 = omega (arith, eqb-false (s .parts .many) 3 h, i .two, i .three) in
         let k : taken 1 (c .free) ≡ s .a ∷ [] = taken-one (c .free) (s .a) a-free in
-        written-as (omega (arith, l)) (all-left (take (s .parts .first) rs) (drop (s .parts .first) rs) [] d (rw (h, k) refl) refl)
+        all-left (take (s .parts .first) rs) (drop (s .parts .first) rs) [] d (rw (h, k) refl) refl (numbers-two s _ l (t .edits .entered .is) ∙ rw k refl)
 
-    parts-applied : (after : List ℕ) → after ≡ partsLeft m n area s rs → Applied m n area e (s .parts .many + 1) after
-    parts-applied after a d v = rw (same d v, a) (left-by (threeOf (s .parts)) refl q)
+    parts-applied : (after : List ℕ) → after ≡ partsLeft m n area s rs → (written : Written) → written ≡ writtenFor s → Applied m n area e written after
+    parts-applied after a written b d v = rw (same d v, a, b) (left-by (threeOf (s .parts)) refl q)
+
+    -- The intervals taken are others than the old one and than each other.
+    parts-apart : Apart s
+    parts-apart =
+        let o = t .edits .entered .fits in
+        record {
+          some = omega (arith, i .two);
+          few = i .three;
+          old-below = omega (arith, t .edits .entered .within, o .few);
+          a-below = λ (h : 2 ≤ s .parts .many). omega (arith, a-below, o .few);
+          b-below = λ (h : 3 ≤ s .parts .many). omega (arith, b-below (three h), o .few);
+          a-other = λ (h : 2 ≤ s .parts .many). takes .a-other;
+          b-other = λ (h : 3 ≤ s .parts .many). takes .b-other (three h);
+          two-taken = λ (h : 3 ≤ s .parts .many). free-apart m n area c w (length (c .free) - 2) (length (c .free) - 1) (s .a) (s .b)
+              (omega (arith, more-free (three h))) some-free a-free (b-free (three h));
+        }
+      where
+        three : 3 ≤ s .parts .many → threeOf (s .parts) ≡ true
+        three h = eq-eqb (s .parts .many) 3 (omega (arith, i .three))
 
   -- ---- two parts, or three
 
@@ -299,9 +344,9 @@ module _ (m : Measures) (n : ℕ) (area new lens : List ℕ) (s : Spread) (t : T
     pub several-parted : Parted m n area new lens s
     several-parted = parted (cut-so .0) (cut-so .1) (cut-so .2)
 
-    pub several-few : s .parts .many ≤ 3
-    several-few = cut-so .1 .three
+    pub several-apart : Apart s
+    several-apart = parts-apart (cut-so .0) (cut-so .1) (cut-so .2)
 
     -- and is, when they are stored.
-    pub several-applied : (after : List ℕ) → after ≡ partsLeft m n area s rs → Applied m n area e (s .parts .many + 1) after
+    pub several-applied : (after : List ℕ) → after ≡ partsLeft m n area s rs → (written : Written) → written ≡ writtenFor s → Applied m n area e written after
     several-applied = parts-applied (cut-so .0) (cut-so .1) (cut-so .2)

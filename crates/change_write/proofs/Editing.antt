@@ -31,7 +31,8 @@ use Rattle.change_plan.proofs.Planned.{the-type}
 use Rattle.change_plan.proofs.Telling.{told-seen}
 use Rattle.change_write.specs.AidStored.{Countable}
 use Rattle.change_write.specs.AidCarried.{Applied, MadeEdit}
-use Rattle.change_write.specs.declared.Made.the-variants.{NoInterval, NoRoom, Written}
+use Rattle.change_write.specs.declared.Made.the-variants.{NoInterval, NoRoom, Done}
+use Rattle.change.specs.declared.Written.{Written}
 use Rattle.change_write.proofs.Carrying.{is-ready}
 
 -- ---- what is left of a plan when `let .. else` has ruled the others out
@@ -130,5 +131,5 @@ module _ (m : Measures) (n : ℕ) (area : List ℕ) (site : Site) (new : List �
     pub at-planned : PlannedAs m n area (s .site) (editAt (s .site) (freshIn new)) (planned.Ready s)
     at-planned = subst (λ (x : Site). PlannedAs m n area x (editAt x (freshIn new)) (planned.Ready s)) (sym site-is) (λ c w. sym q ∙ p c w)
 
-    pub made-at : (k : ℕ) (after : List ℕ) → Applied m n area (editAt (s .site) (freshIn new)) k after → MadeEdit m n area (editAt site (freshIn new)) (Written k) after
+    pub made-at : (k : Written) (after : List ℕ) → Applied m n area (editAt (s .site) (freshIn new)) k after → MadeEdit m n area (editAt site (freshIn new)) (Done k) after
     made-at k after x = subst (λ (y : Site). Applied m n area (editAt y (freshIn new)) k after) site-is x

@@ -4,6 +4,7 @@ pub mod Storing
 pub mod Keeping
 pub mod Applying
 pub mod Naming
+pub mod Ordering
 pub mod Carrying
 pub mod Editing
 pub mod Unique

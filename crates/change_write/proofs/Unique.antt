@@ -9,9 +9,10 @@ use Rattle.measures.specs.declared.Measures.{Measures}
 use Rattle.area.specs.Content.{Content}
 use Rattle.area.specs.Reading.{readArea, whole}
 use Rattle.change.specs.Parts.{Edit}
+use Rattle.change.specs.declared.Written.{Written}
 use Rattle.change_write.specs.AidCarried.{MadeEdit}
 use Rattle.change_write.specs.declared.Made.{Made}
-use Rattle.change_write.specs.declared.Made.the-variants.{Written}
+use Rattle.change_write.specs.declared.Made.the-variants.{Done}
 use Rattle.change_write.proofs.apply.Reads as apply
 use Rattle.change_write.proofs.change.Reads as change
 
@@ -24,9 +25,9 @@ only m n area e r s after other c w p q =
     (agree (a .answers) (b .answers), agree (a .leaves) (b .leaves))
 
 -- the area is the first parameter
-pub unique-apply : (κs : _) (args : _) (r s : ℕ) (e f : _) → apply.Asked κs args → apply.Learnt κs args r e → apply.Learnt κs args s f → (r ≡ s) × (now (e .0) ≡ now (f .0))
+pub unique-apply : (κs : _) (args : _) (r s : Written) (e f : _) → apply.Asked κs args → apply.Learnt κs args r e → apply.Learnt κs args s f → (r ≡ s) × (now (e .0) ≡ now (f .0))
 unique-apply κs args r s e f d p q =
-    let o = only _ _ _ _ (Written r) (Written s) _ _ (d .0 .edits .entered .content) (d .0 .edits .entered .reads) p q in
+    let o = only _ _ _ _ (Done r) (Done s) _ _ (d .0 .edits .entered .content) (d .0 .edits .entered .reads) p q in
     (cc (o .0), o .1)
 
 pub unique-change : (κs : _) (args : _) (r s : Made) (e f : _) → change.Asked κs args → change.Learnt κs args r e → change.Learnt κs args s f → (r ≡ s) × (now (e .0) ≡ now (f .0))

@@ -1,22 +1,27 @@
 -- Aids: a plan carried out: what is answered, and what the area holds afterwards. The requests' contracts say it without these.
-use Prim.Native.Nat.{ℕ}
+use Prim.Native.Nat.{ℕ, _+_, _≤_, _<_}
 use mathlib.Core.Path.{_≡_}
-use mathlib.Core.List.{List}
-use lib.ListN.{length}
+use mathlib.Core.List.{List, [], _∷_}
+use lib.Dec.{eqb}
+use Rattle.fields.specs.Choice.{pick}
+use Rattle.measures.specs.Judgement.{limit}
 use Rattle.measures.specs.declared.Measures.{Measures}
 use Rattle.area.specs.Content.{Content}
 use Rattle.area.specs.Reading.{readArea, whole}
 use Rattle.change.specs.Stores.{stored}
 use Rattle.change.specs.Parts.{Edit}
 use Rattle.change.specs.Plan.{Plan, noInterval, noRoom, stores, planOf}
+use Rattle.change.specs.Written.{inOrder, carrying, writtenOf}
+use Rattle.change.specs.declared.Written.{Written}
+use Rattle.change_plan.specs.declared.Spread.{Spread}
 use Rattle.change_write.specs.declared.Made.{Made}
-use Rattle.change_write.specs.declared.Made.the-variants.{NoInterval, NoRoom, Written}
+use Rattle.change_write.specs.declared.Made.the-variants.{NoInterval, NoRoom, Done}
 
--- how many intervals were written, or why none was
+-- which intervals were written, or why none was
 abbrev pub madeOf : Plan → Made
 madeOf noInterval = NoInterval
 madeOf noRoom = NoRoom
-madeOf (stores ss) = Written (length ss)
+madeOf (stores ss) = Done (writtenOf ss)
 
 -- a refusal leaves every byte
 abbrev pub leftBy : Measures → List ℕ → Plan → List ℕ
@@ -34,6 +39,27 @@ pub record Carries (m : Measures) (area : List ℕ) (plan : Plan) (made : Made) 
 abbrev pub MadeEdit : Measures → ℕ → List ℕ → Edit → Made → List ℕ → Type 0
 MadeEdit m n area e made after = (c : Content) → readArea m n area ≡ whole c → Carries m area (planOf m c e) made after
 
--- and with so many intervals written
-abbrev pub Applied : Measures → ℕ → List ℕ → Edit → ℕ → List ℕ → Type 0
-Applied m n area e many after = MadeEdit m n area e (Written many) after
+-- and with these intervals written
+abbrev pub Applied : Measures → ℕ → List ℕ → Edit → Written → List ℕ → Type 0
+Applied m n area e written after = MadeEdit m n area e (Done written) after
+
+-- There are one to three parts; their intervals are the old one and those taken, which are others than the old one and than each other.
+pub record Apart (s : Spread) : Type 0 where
+  pub some : 1 ≤ s .parts .many
+  pub few : s .parts .many ≤ 3
+  pub old-below : s .site .number < limit
+  pub a-below : 2 ≤ s .parts .many → s .a < limit
+  pub b-below : 3 ≤ s .parts .many → s .b < limit
+  pub a-other : 2 ≤ s .parts .many → s .a ≡ s .site .number → ⊥
+  pub b-other : 3 ≤ s .parts .many → s .b ≡ s .site .number → ⊥
+  pub two-taken : 3 ≤ s .parts .many → s .a ≡ s .b → ⊥
+
+-- the numbers of the stores of a spread, in their order: the intervals taken, the index record, the old interval
+abbrev pub numbersFor : Spread → List ℕ
+numbersFor s =
+    let old = s .site .number + 1 in
+    pick (eqb (s .parts .many) 1) (old ∷ [])
+    (pick (eqb (s .parts .many) 2) ((s .a + 1) ∷ 0 ∷ old ∷ []) ((s .a + 1) ∷ (s .b + 1) ∷ 0 ∷ old ∷ []))
+
+abbrev pub writtenFor : Spread → Written
+writtenFor s = carrying (inOrder (numbersFor s))

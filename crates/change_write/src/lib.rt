@@ -1,24 +1,27 @@
 // A plan of a change, carried out in the area: it cannot be refused any more. Nothing but lengths and a few keys is copied out of the area; records are
 // moved within it.
-ghost use Prim.Native.Nat.{_+_, _≤_};
+ghost use Prim.Native.Nat.{_+_, _≤_, _<_};
 ghost use mathlib.Core.Path.{_≡_};
+ghost use mathlib.Core.List.{[]};
 ghost use lib.ListN.{length};
 ghost use Rattle.interval.specs.Reading.{recordsIn};
 ghost use Rattle.interval_edit.specs.AidChanged.{freshIn};
 ghost use Rattle.area.specs.Content.{dataIn};
+ghost use Rattle.change.specs.Written.{among, carrying};
 ghost use Rattle.change_plan.specs.AidEdited.{editAt, Edits, editedRecords, Told, Seen};
 ghost use Rattle.change_plan.specs.AidPlanned.{PlannedAs};
 ghost use Rattle.change_plan.specs.declared.Planned.the-variants.{Ready};
 ghost use Rattle.change_write.specs.AidStored.{Layable, laidAt, Storable, storedAt, Countable, Takes, takenLeft, Parted, partsLeft};
-ghost use Rattle.change_write.specs.AidCarried.{Applied, MadeEdit};
+ghost use Rattle.change_write.specs.AidCarried.{Apart, writtenFor, Applied, MadeEdit};
+use change::Written;
 use change_plan::Planned;
 use change_plan::Spread;
 use interval_edit::Site;
 use measures::Measures;
 
-// How many intervals were written; or why none was: too few are free, or the index record has no room.
+// Which intervals were written; or why none was: too few are free, or the index record has no room.
 pub enum Made {
-    Written(usize),
+    Done(Written),
     NoInterval,
     NoRoom,
 }
@@ -146,7 +149,65 @@ pub(crate) fn apply_divided(
     store(area, m, site, new, lens, first);
 }
 
-// Carries out what was planned, and tells how many intervals were written.
+// Two intervals and the index record were written.
+pub(crate) fn two_written(x: usize, y: usize) -> Written
+    requires { ⌜ (0 < x) × (0 < y) × (x ≡ y → ⊥) ⌝ }
+    ensures { λ r. ⌜ r ≡ carrying (among x (among 0 (among y []))) ⌝ }
+{
+    let low = if x < y { x } else { y };
+    let high = if x < y { y } else { x };
+    Written {
+        count: 3,
+        first: 0,
+        second: low,
+        third: high,
+        fourth: 0,
+    }
+}
+
+// Three intervals and the index record were written.
+pub(crate) fn three_written(x: usize, y: usize, z: usize) -> Written
+    requires { ⌜ (0 < x) × (0 < y) × (0 < z) × (x ≡ y → ⊥) × (x ≡ z → ⊥) × (y ≡ z → ⊥) ⌝ }
+    ensures { λ r. ⌜ r ≡ carrying (among x (among y (among 0 (among z [])))) ⌝ }
+{
+    let two = two_written(y, z);
+    let low = two.second;
+    let high = two.third;
+    let second = if x < low { x } else { low };
+    let rest = if x < low { low } else { x };
+    let third = if rest < high { rest } else { high };
+    let fourth = if rest < high { high } else { rest };
+    Written {
+        count: 4,
+        first: 0,
+        second,
+        third,
+        fourth,
+    }
+}
+
+// Which intervals the parts were stored in.
+pub(crate) fn written_by(spread: Spread) -> Written
+    requires { ⌜ Apart spread ⌝ }
+    ensures { λ r. ⌜ r ≡ writtenFor spread ⌝ }
+{
+    let old = spread.site.number + 1;
+    if spread.parts.many == 1 {
+        return Written {
+            count: 1,
+            first: old,
+            second: 0,
+            third: 0,
+            fourth: 0,
+        };
+    }
+    if spread.parts.many == 2 {
+        return two_written(spread.a + 1, old);
+    }
+    three_written(spread.a + 1, spread.b + 1, old)
+}
+
+// Carries out what was planned, and tells which intervals were written.
 pub fn apply(
     area: &mut [u8],
     m: Measures,
@@ -154,7 +215,7 @@ pub fn apply(
     new: &[u8],
     lens: &[u16],
     spread: Spread,
-) -> usize
+) -> Written
     requires told { ⌜ Told m n (now area) (spread .site) (now new) (now lens) ⌝ }
     requires planned { ⌜ PlannedAs m n (now area) (spread .site) (editAt (spread .site) (freshIn (now new))) (Ready spread) ⌝ }
     ensures { λ r. ⌜ Applied m n (now (area .entry)) (editAt (spread .site) (freshIn (now (new .entry)))) r (now (area .exit)) ⌝ }
@@ -168,10 +229,10 @@ pub fn apply(
             last: lens.len(),
         };
         store(area, m, site, new, lens, all);
-        return 1;
+        return written_by(spread);
     }
     apply_divided(area, m, n, new, lens, spread);
-    parts.many + 1
+    written_by(spread)
 }
 
 // An edit, with the lengths in a buffer that is long enough.
@@ -196,7 +257,7 @@ pub(crate) fn change_by(
         };
         return Made::NoRoom;
     };
-    Made::Written(apply(area, m, n, new, &lens[..count], spread))
+    Made::Done(apply(area, m, n, new, &lens[..count], spread))
 }
 
 pub(crate) fn change_few(area: &mut [u8], m: Measures, n: usize, site: Site, new: &[u8]) -> Made

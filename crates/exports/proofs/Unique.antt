@@ -28,15 +28,51 @@ unique-belquita-get-at κs args r s e f p q = (agree (p .number) (q .number), ag
 
 pub unique-belquita-insert : (κs : _) (args : _) (r s : ℕ) (e f : _) → insert.Learnt κs args r e → insert.Learnt κs args s f
     → (r ≡ s) × (now (e .0) ≡ now (f .0)) × (now (e .1 .1 .1 .1 .1 .1 .0) ≡ now (f .1 .1 .1 .1 .1 .1 .0))
-unique-belquita-insert κs args r s e f p q = (agree (p .number) (q .number), agree (p .leaves) (q .leaves), agree (p .value-is) (q .value-is))
+    × (now (e .1 .1 .1 .1 .1 .1 .1 .0) ≡ now (f .1 .1 .1 .1 .1 .1 .1 .0))
+    × (now (e .1 .1 .1 .1 .1 .1 .1 .1 .0) ≡ now (f .1 .1 .1 .1 .1 .1 .1 .1 .0))
+    × (now (e .1 .1 .1 .1 .1 .1 .1 .1 .1 .0) ≡ now (f .1 .1 .1 .1 .1 .1 .1 .1 .1 .0))
+    × (now (e .1 .1 .1 .1 .1 .1 .1 .1 .1 .1 .0) ≡ now (f .1 .1 .1 .1 .1 .1 .1 .1 .1 .1 .0))
+unique-belquita-insert κs args r s e f p q = (
+  agree (p .number) (q .number),
+  agree (p .leaves) (q .leaves),
+  agree (p .value-is) (q .value-is),
+  agree (p .first-is) (q .first-is),
+  agree (p .second-is) (q .second-is),
+  agree (p .third-is) (q .third-is),
+  agree (p .fourth-is) (q .fourth-is),
+)
 
 pub unique-belquita-update : (κs : _) (args : _) (r s : ℕ) (e f : _) → update.Learnt κs args r e → update.Learnt κs args s f
     → (r ≡ s) × (now (e .0) ≡ now (f .0)) × (now (e .1 .1 .1 .1 .1 .1 .0) ≡ now (f .1 .1 .1 .1 .1 .1 .0))
-unique-belquita-update κs args r s e f p q = (agree (p .number) (q .number), agree (p .leaves) (q .leaves), agree (p .value-is) (q .value-is))
+    × (now (e .1 .1 .1 .1 .1 .1 .1 .0) ≡ now (f .1 .1 .1 .1 .1 .1 .1 .0))
+    × (now (e .1 .1 .1 .1 .1 .1 .1 .1 .0) ≡ now (f .1 .1 .1 .1 .1 .1 .1 .1 .0))
+    × (now (e .1 .1 .1 .1 .1 .1 .1 .1 .1 .0) ≡ now (f .1 .1 .1 .1 .1 .1 .1 .1 .1 .0))
+    × (now (e .1 .1 .1 .1 .1 .1 .1 .1 .1 .1 .0) ≡ now (f .1 .1 .1 .1 .1 .1 .1 .1 .1 .1 .0))
+unique-belquita-update κs args r s e f p q = (
+  agree (p .number) (q .number),
+  agree (p .leaves) (q .leaves),
+  agree (p .value-is) (q .value-is),
+  agree (p .first-is) (q .first-is),
+  agree (p .second-is) (q .second-is),
+  agree (p .third-is) (q .third-is),
+  agree (p .fourth-is) (q .fourth-is),
+)
 
 pub unique-belquita-erase : (κs : _) (args : _) (r s : ℕ) (e f : _) → erase.Learnt κs args r e → erase.Learnt κs args s f
     → (r ≡ s) × (now (e .0) ≡ now (f .0)) × (now (e .1 .1 .1 .1 .1 .1 .0) ≡ now (f .1 .1 .1 .1 .1 .1 .0))
-unique-belquita-erase κs args r s e f p q = (agree (p .number) (q .number), agree (p .leaves) (q .leaves), agree (p .value-is) (q .value-is))
+    × (now (e .1 .1 .1 .1 .1 .1 .1 .0) ≡ now (f .1 .1 .1 .1 .1 .1 .1 .0))
+    × (now (e .1 .1 .1 .1 .1 .1 .1 .1 .0) ≡ now (f .1 .1 .1 .1 .1 .1 .1 .1 .0))
+    × (now (e .1 .1 .1 .1 .1 .1 .1 .1 .1 .0) ≡ now (f .1 .1 .1 .1 .1 .1 .1 .1 .1 .0))
+    × (now (e .1 .1 .1 .1 .1 .1 .1 .1 .1 .1 .0) ≡ now (f .1 .1 .1 .1 .1 .1 .1 .1 .1 .1 .0))
+unique-belquita-erase κs args r s e f p q = (
+  agree (p .number) (q .number),
+  agree (p .leaves) (q .leaves),
+  agree (p .value-is) (q .value-is),
+  agree (p .first-is) (q .first-is),
+  agree (p .second-is) (q .second-is),
+  agree (p .third-is) (q .third-is),
+  agree (p .fourth-is) (q .fourth-is),
+)
 
 pub unique-belquita-find : (κs : _) (args : _) (r s : ℕ) (e f : _) → find.Learnt κs args r e → find.Learnt κs args s f
     → (r ≡ s) × (now (e .1 .1 .1 .1 .1 .0) ≡ now (f .1 .1 .1 .1 .1 .0)) × (now (e .1 .1 .1 .1 .1 .1 .0) ≡ now (f .1 .1 .1 .1 .1 .1 .0))

@@ -3,6 +3,8 @@
 ghost use Prim.Native.Nat.{_≤_};
 ghost use mathlib.Core.Path.{_≡_};
 ghost use lib.ListN.{length};
+ghost use lib.Dec.{ltb};
+ghost use Rattle.fields.specs.Choice.{pick};
 ghost use Rattle.measures.specs.Judgement.{limit, measures};
 ghost use Rattle.interval.specs.Reading.{Readable};
 ghost use Rattle.index_read.specs.Check.{indexOf};
@@ -20,6 +22,9 @@ pub struct Values {
     pub number: usize,
     pub first: usize,
     pub second: usize,
+    pub third: usize,
+    pub fourth: usize,
+    pub fifth: usize,
 }
 
 pub(crate) fn told(answer: Answer) -> Values
@@ -29,10 +34,17 @@ pub(crate) fn told(answer: Answer) -> Values
     match answer {
         Answer::Done(written) => {
             let count = written.count;
+            let second = counted(count, 0, written.first);
+            let third = counted(count, 1, written.second);
+            let fourth = counted(count, 2, written.third);
+            let fifth = counted(count, 3, written.fourth);
             Values {
                 number,
                 first: count,
-                second: 0,
+                second,
+                third,
+                fourth,
+                fifth,
             }
         }
         Answer::Found(length) => one(number, length),
@@ -40,6 +52,9 @@ pub(crate) fn told(answer: Answer) -> Values
             number,
             first: records,
             second: free,
+            third: 0,
+            fourth: 0,
+            fifth: 0,
         },
         Answer::Damaged(place) => one(number, place),
         Answer::Short(needed) => one(number, needed),
@@ -61,7 +76,20 @@ pub(crate) fn one(number: usize, value: usize) -> Values
         number,
         first: value,
         second: 0,
+        third: 0,
+        fourth: 0,
+        fifth: 0,
     }
+}
+
+// The number of an interval written, at its place from 0 among so many; 0 past them.
+pub(crate) fn counted(count: usize, place: usize, number: usize) -> usize
+    ensures { λ r. ⌜ r ≡ pick (ltb place count) number 0 ⌝ }
+{
+    if place < count {
+        return number;
+    }
+    0
 }
 
 // Whether the area is sound, with its records and free intervals.
@@ -121,7 +149,7 @@ pub extern "C" fn belquita_get_at(
     v.number
 }
 
-// A new record.
+// A new record. The values of a change: how many intervals were written, then their buffer numbers.
 #[no_mangle]
 pub extern "C" fn belquita_insert(
     area: &mut [u8],
@@ -131,11 +159,19 @@ pub extern "C" fn belquita_insert(
     most: usize,
     new: &[u8],
     value: &mut usize,
+    first: &mut usize,
+    second: &mut usize,
+    third: &mut usize,
+    fourth: &mut usize,
 ) -> usize
-    ensures { λ r. ⌜ Made (insertOf size offset key most (now (area .entry)) (now (new .entry))) r (now (value .exit)) (now (area .exit)) ⌝ }
+    ensures { λ r. ⌜ Made (insertOf size offset key most (now (area .entry)) (now (new .entry))) r (now (value .exit)) (now (first .exit)) (now (second .exit)) (now (third .exit)) (now (fourth .exit)) (now (area .exit)) ⌝ }
 {
     let v = told(register::insert(area, size, offset, key, most, new));
     *value = v.first;
+    *first = v.second;
+    *second = v.third;
+    *third = v.fourth;
+    *fourth = v.fifth;
     v.number
 }
 
@@ -149,11 +185,19 @@ pub extern "C" fn belquita_update(
     most: usize,
     new: &[u8],
     value: &mut usize,
+    first: &mut usize,
+    second: &mut usize,
+    third: &mut usize,
+    fourth: &mut usize,
 ) -> usize
-    ensures { λ r. ⌜ Made (updateOf size offset key most (now (area .entry)) (now (new .entry))) r (now (value .exit)) (now (area .exit)) ⌝ }
+    ensures { λ r. ⌜ Made (updateOf size offset key most (now (area .entry)) (now (new .entry))) r (now (value .exit)) (now (first .exit)) (now (second .exit)) (now (third .exit)) (now (fourth .exit)) (now (area .exit)) ⌝ }
 {
     let v = told(register::update(area, size, offset, key, most, new));
     *value = v.first;
+    *first = v.second;
+    *second = v.third;
+    *third = v.fourth;
+    *fourth = v.fifth;
     v.number
 }
 
@@ -167,11 +211,19 @@ pub extern "C" fn belquita_erase(
     most: usize,
     wanted: &[u8],
     value: &mut usize,
+    first: &mut usize,
+    second: &mut usize,
+    third: &mut usize,
+    fourth: &mut usize,
 ) -> usize
-    ensures { λ r. ⌜ Made (eraseOf size offset key most (now (area .entry)) (now (wanted .entry))) r (now (value .exit)) (now (area .exit)) ⌝ }
+    ensures { λ r. ⌜ Made (eraseOf size offset key most (now (area .entry)) (now (wanted .entry))) r (now (value .exit)) (now (first .exit)) (now (second .exit)) (now (third .exit)) (now (fourth .exit)) (now (area .exit)) ⌝ }
 {
     let v = told(register::erase(area, size, offset, key, most, wanted));
     *value = v.first;
+    *first = v.second;
+    *second = v.third;
+    *third = v.fourth;
+    *fourth = v.fifth;
     v.number
 }
 

@@ -1,7 +1,8 @@
--- What an accepted change does: the fewest intervals, true counts, and no byte written but those that it names.
+-- What an accepted change does: the fewest intervals, and no byte written but in those that it names.
 use Prim.Native.Nat.{ℕ, _+_, _-_, _≤_, _<_}
-use mathlib.Core.Path.{_≡_, _∙_, sym, ap}
+use mathlib.Core.Path.{_≡_, refl, _∙_, sym, ap}
 use mathlib.Core.List.{List, [], _∷_, _++_, List·Memᴰ}
+use mathlib.Core.Logic.{inl}
 use lib.ListN.{length}
 use native.Mathlib.Omega.{arith}
 use borrow.Author.Tests.{lt-ltb, le-ltb}
@@ -12,6 +13,7 @@ use Rattle.index.specs.Meaning.{numbers}
 use Rattle.index.specs.Search.{leadsTo}
 use Rattle.index.specs.Cuts.{separators}
 use Rattle.measures.specs.Judgement.{widthFor}
+use Rattle.measures.proofs.Fine.{accepted-fits}
 use Rattle.area.specs.Content.{Filled, Content, recordsOf, entriesOf, widthIn}
 use Rattle.area.proofs.Widths.{width-rules}
 use Rattle.area.specs.Reading.{whole, readArea}
@@ -19,27 +21,31 @@ use Rattle.change.specs.Stores.{stored}
 use Rattle.change.specs.Parts.{Edit, edited, divided, taken}
 use Rattle.change.specs.Content.{partedAt, contentAfter}
 use Rattle.change.specs.Fitting.{Fitting}
-use Rattle.change.specs.Places.{namedFor}
+use Rattle.change.specs.Places.{placesOf, namedFor}
+use Rattle.change.specs.Written.{storedNumbers, writtenOf}
+use Rattle.change.proofs.Numbers.{order-ascends, carried-padded}
+use Rattle.change.proofs.Named.{named-among}
 use Rattle.change.proofs.Planning.{planned}
 use Rattle.change.proofs.After.{after-meaning}
 use Rattle.change.proofs.Fitted.{fit-laid, edited-parting, one-to-three}
-use Rattle.change.proofs.Made.{made-laid, made-whole, made-fewest, made-only-named, made-written, made-index, made-count}
+use Rattle.change.proofs.Made.{made-laid, made-whole, made-fewest, made-only-named, made-written, made-index, made-count, made-numbers}
 use Rattle.requests.specs.Answers.{numberOf}
 use Rattle.requests.specs.Model.{Change}
 use Rattle.requests.specs.Reading.{checkOf}
 use Rattle.requests.specs.Changing.{Outcome, bytesOf, keyIn, editOf}
 use Rattle.requests.specs.declared.Answer.{Answer}
-use Rattle.requests.specs.declared.Answer.the-variants.{Intact}
+use Rattle.requests.specs.declared.Answer.the-variants.{Done, Intact}
 use Rattle.requests.proofs.Edits.{ledTo}
 use Rattle.requests.proofs.Ways.{Carried, carried}
 use Rattle.requests.specs.Allowed.{ChangeAllowed}
 use Rattle.promises.specs.Trace.{Sound}
-use Rattle.promises.specs.Changes.{SpreadsFewest, OnlyNamedWritten, CountsTrue, CutPrescribed}
+use Rattle.promises.specs.Changes.{SpreadsFewest, OnlyNamedWritten, toldWritten, Framed, WrittenTrue, CutPrescribed}
 use Rattle.promises.specs.Prescribed.{broughtBy}
 use Rattle.promises.proofs.Ways.{edit-entry, home, way-fits, way-placed, way-edits}
 use Rattle.promises.proofs.History.{change-octets, change-makes}
+use Rattle.promises.proofs.Frames.{change-frame}
 use Rattle.promises.proofs.Prescribed.{made-prescribed}
-use Rattle.promises.proofs.Parts.{new, new-records, new-numbers, new-many, new-parts, new-seps, written-forms, named-among, taken-apart}
+use Rattle.promises.proofs.Parts.{new, new-records, new-numbers, new-many, new-parts, new-seps, written-forms, taken-apart}
 
 -- ---- an accepted change
 
@@ -71,6 +77,15 @@ module _ (size offset key most : ℕ) (m : Measures) (n : ℕ) (area : List ℕ)
 
   old-records : recordsOf (new m c (ledTo c (keyIn m ch)) ps) ≡ edited (c .filled) e
   old-records = new-records m c (ledTo c (keyIn m ch)) ps some ∙ edited-parting m n area c e fits .whole
+
+  -- what it is answered with, and what it leaves alone
+  told-so : a ≡ Done (writtenOf (did .ss))
+  told-so = change-makes size offset key most area after ch a k .answers ∙ ap (λ (o : Outcome). o .answer) (did .leaves)
+
+  framed : Framed (m .size) area after a
+  framed =
+      let same : size ≡ m .size = ap (λ (x : Measures). x .size) (sym (accepted-fits size offset key most (length area) n m (s .judges) .0)) in
+      rw same at (change-frame size offset key most area (s .octets) ch a after k)
 
   module _ (d : Content) (w : readArea m n after ≡ whole d) where
     is-after : d ≡ contentAfter m c e
@@ -119,24 +134,43 @@ module _ (size offset key most : ℕ) (m : Measures) (n : ℕ) (area : List ℕ)
           spare = rw is-after;
         }
 
-    -- An accepted change is answered with the number of intervals that it wrote, and that follows from the free ones before and after.
-    pub counts-true : CountsTrue c d a (length (spreads-fewest .new))
-    unfolding spreads-fewest
-    counts-true =
+    -- An accepted change is answered with the intervals that it wrote, four at the most, ascending, and how many; they follow from the free ones before and after
+    -- and the key's interval, and every other interval is as it was.
+    pub written-true : WrittenTrue m area after c d a (spreads-fewest .home .old .num)
+    unfolding home spreads-fewest
+    written-true =
+        let t = made-numbers m n area c e fits (did .ss) (did .planned) in
+        record {
+          written = writtenOf (did .ss);
+          told = told-so;
+          many = rw (t .carried);
+          most = t .most;
+          padded = carried-padded (storedNumbers (did .ss));
+          ascends = rw (t .carried) (order-ascends (placesOf (did .ss)));
+          index = rw (t .carried, is-after) (t .index);
+          intervals = rw (t .carried, is-after, ← place) (t .intervals);
+          others = framed;
+        }
+
+    -- How many they are: one if as many are free as before, else two more than have been taken. And that is one for each new entry, with the index record where there
+    -- are several.
+    pub written-many : (length (d .free) ≡ length (c .free) → written-true .written .count ≡ 1)
+        × (length (d .free) < length (c .free) → written-true .written .count ≡ 2 + (length (c .free) - length (d .free)))
+        × (length (spreads-fewest .new) ≡ 1 → written-true .written .count ≡ 1)
+        × (1 < length (spreads-fewest .new) → written-true .written .count ≡ length (spreads-fewest .new) + 1)
+    unfolding spreads-fewest written-true
+    written-many =
         let t = made-count m n area c e fits (did .ss) (did .planned) in
+        let same : length (storedNumbers (did .ss)) ≡ length (did .ss) = made-numbers m n area c e fits (did .ss) (did .planned) .many in
         let many : length (new m c (ledTo c (keyIn m ch)) ps) ≡ length ps = new-many m c (ledTo c (keyIn m ch)) ps some in
         let g : length (d .free) + (length ps - 1) ≡ length (c .free) = rw is-after (t .free) in
         let few : length ps ≡ 1 → length (did .ss) ≡ 1 = t .stays in
-        let more : 1 < length ps → length (did .ss) ≡ 2 + (length ps - 1) = t .divides in
-        record {
-          written = length (did .ss);
-          told = change-makes size offset key most area after ch a k .answers ∙ ap (λ (o : Outcome). o .answer) (did .leaves);
-          free = rw many g;
-          same = λ (h : length (d .free) ≡ length (c .free)). few (omega (arith, some));
-          fewer = λ (h : length (d .free) < length (c .free)). omega (arith, more (omega arith));
-          one = λ (h : length (new m c (ledTo c (keyIn m ch)) ps) ≡ 1). few (omega arith);
-          several = λ (h : 1 < length (new m c (ledTo c (keyIn m ch)) ps)). omega (arith, more (omega arith));
-        }
+        let more : 1 < length ps → length (did .ss) ≡ 2 + (length ps - 1) = t .divides in (
+          λ (h : length (d .free) ≡ length (c .free)). same ∙ few (omega (arith, some)),
+          λ (h : length (d .free) < length (c .free)). same ∙ more (omega arith) ∙ omega (arith, g),
+          λ (h : length (new m c (ledTo c (keyIn m ch)) ps) ≡ 1). same ∙ few (omega arith),
+          λ (h : 1 < length (new m c (ledTo c (keyIn m ch)) ps)). same ∙ more (omega arith) ∙ omega (arith, many),
+        )
 
     -- An accepted change divides the records as the rules prescribe, at the best cut where one fits and around the changed record only where none does; at each
     -- cut stands that cut's separator.
@@ -149,6 +183,10 @@ module _ (size offset key most : ℕ) (m : Measures) (n : ℕ) (area : List ℕ)
           parts = rw (old-records, new-parts m c f ps some) p;
           cuts = new-seps m c f ps some ∙ rw (new-parts m c f ps some);
         }
+
+-- The key's interval is always among those told, also where an update left every byte as it was.
+pub old-told : (m : Measures) (before after : List ℕ) (c d : Content) (a : Answer) (old : ℕ) → WrittenTrue m before after c d a old → List·Memᴰ (old + 1) (toldWritten a)
+old-told m before after c d a old w = rw (w .told) (w .intervals old .1 (inl refl))
 
 -- A check of a sound area tells how many records and how many free intervals it has.
 pub check-true : (size offset key most : ℕ) (m : Measures) (n : ℕ) (area : List ℕ) (c : Content) → Sound size offset key most m n area c → (a : Answer)

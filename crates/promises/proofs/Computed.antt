@@ -3,7 +3,7 @@ use Prim.Native.Nat.{ℕ, _+_}
 use mathlib.Core.Path.{_≡_, refl}
 use mathlib.Core.Bool.{true, false}
 use mathlib.Core.List.{List, [], _∷_, _++_}
-use lib.ListN.{length, replicate}
+use lib.ListN.{length, replicate, getD}
 use Rattle.fields.specs.Bytes.{splice, number, digits}
 use Rattle.fields.specs.Lists.{sum, concat, swap, every}
 use Rattle.fields.specs.Order.{orderOf, common}
@@ -33,6 +33,7 @@ use Rattle.change.specs.Content.{filledWith, partedAt}
 use Rattle.change.specs.Parts.{divided, taken}
 use Rattle.change.specs.Plan.{takenStores, planOf}
 use Rattle.change.specs.Stores.{stored}
+use Rattle.change.specs.Written.{among, inOrder, carrying}
 use Rattle.requests.specs.Records.{withKey}
 use Rattle.fields.proofs.Octets.{allOctets}
 use Rattle.measures.specs.Judgement.{measures, countOf, widthFor, fine, judgedOf}
@@ -46,7 +47,8 @@ use Rattle.requests.specs.Answers.{numberOf}
 use Rattle.requests.specs.Allowed.{get, changes}
 use Rattle.requests.specs.declared.Answer.the-variants.{Done, NoInterval, NoRoom, Absent, Found, Damaged}
 use Rattle.promises.specs.Home.{LengthFine}
-use Rattle.promises.specs.Instances.{alone, between, eight, ninth, ten, shorter, high, certificates}
+use Rattle.promises.specs.Changes.{unitAt}
+use Rattle.promises.specs.Instances.{alone, between, eight, ninth, ten, shorter, high, certificate, certificates}
 use Rattle.promises.specs.Wrong.{third, together, rightly, lastLost, fillsIndex, scratched, vouchesForAll, beyondBound, looksAway}
 use Rattle.requests.specs.Reading.{getThere, getIn, getOf}
 use Rattle.requests.specs.Opening.{openingOf}
@@ -89,11 +91,11 @@ areas = record {
 -- what each change is answered
 pub record Answers : Type 0 where
   pub crowded : changeOf 512 0 8 60 at.crowded (insert ninth) .answer ≡ NoInterval
-  pub roomy : changeOf 512 0 8 60 at.roomy (insert ninth) .answer ≡ Done (record { count = 3 })
-  pub even : changeOf 512 0 8 60 at.even (update shorter) .answer ≡ Done (record { count = 3 })
-  pub inserted : changeOf 512 0 8 60 bytes (insert third) ≡ record { answer = Done (record { count = 1 }); area = together }
-  pub erased : changeOf 512 0 8 60 bytes (erase (keyOf depot first)) .answer ≡ Done (record { count = 1 })
-  pub brimful : changeOf 512 0 240 240 at.brimful (insert (high 0x32)) .answer ≡ Done (record { count = 3 })
+  pub roomy : changeOf 512 0 8 60 at.roomy (insert ninth) .answer ≡ Done (carrying (0 ∷ 1 ∷ 2 ∷ []))
+  pub even : changeOf 512 0 8 60 at.even (update shorter) .answer ≡ Done (carrying (0 ∷ 1 ∷ 2 ∷ []))
+  pub inserted : changeOf 512 0 8 60 bytes (insert third) ≡ record { answer = Done (carrying (1 ∷ [])); area = together }
+  pub erased : changeOf 512 0 8 60 bytes (erase (keyOf depot first)) .answer ≡ Done (carrying (1 ∷ []))
+  pub brimful : changeOf 512 0 240 240 at.brimful (insert (high 0x32)) .answer ≡ Done (carrying (0 ∷ 2 ∷ 3 ∷ []))
   pub overfull : changeOf 512 0 240 240 at.overfull (insert (high 0x32)) .answer ≡ NoRoom
   pub got-first : getOf 512 0 8 60 bytes (keyOf depot first) (replicate 60 0) .answer ≡ Found 10
   pub got-second : getOf 512 0 8 60 bytes (keyOf depot second) (replicate 60 0) .answer ≡ Found 14
@@ -105,7 +107,7 @@ unfolding bytes splice number digits sum concat swap every orderOf common widthF
     partsBytes ahead lastLong freeBytes header trailer indexLayout count once namedOnce separatorBefore spellAll frontsIn partsSize sectionsIn endsClosed
     numbersAt partsAt partsIn readIndex frame fieldsTrue places soundIndex rises closed keepsRules boundBefore leadsTo difference fitting better bestTo
     bestCut byCut divisionOf counts parts pieces recordsOf readArea unsoundFree unsoundUsed unsoundData lowest filledWith partedAt divided taken takenStores
-    planOf stored changeOf withKey getOf getIn getThere soundFor
+    planOf stored among inOrder changeOf withKey getOf getIn getThere soundFor
 answers = record {
   crowded = refl;
   roomy = refl;
@@ -122,11 +124,27 @@ answers = record {
 abbrev pub nine : List (List ℕ)
 nine = certificates 2 0x31 50 ++ (shorter ∷ certificates 6 0x34 50)
 
--- what areas hold that a register leaves, right or wrong, and that the renewed index record fills its interval
+-- the nine of 60 bytes, divided: the cut leaves four on the left, and the free interval is taken
+abbrev pub halves : Content
+halves =
+    record {
+      kept = replicate 12 0;
+      spare = 0;
+      free = [];
+      filled =
+          record { sep = keyOf depot (certificate 0x34 60); num = 0; records = certificates 4 0x31 60 }
+          ∷ record { sep = []; num = 1; records = certificates 5 0x35 60 }
+          ∷ [];
+    }
+
+-- what areas hold that a register leaves, right or wrong; that the renewed index record fills its interval, and where one begins its unused space
 pub record Left : Type 0 where
   pub together : readArea depot 2 together ≡ whole (alone (1 ∷ []) (first ∷ second ∷ third ∷ []))
   pub lost : readArea depot (countOf 512 (length at.even)) (lastLost (openingOf 512 0 8 60 at.even) (update shorter) at.even) ≡ whole (alone (1 ∷ []) nine)
   pub brimful : fillsIndex (rightly 240 240 at.brimful (changes (insert (high 0x32))) .area) ≡ true
+  pub halved : readArea depot (countOf 512 (length at.roomy)) (rightly 8 60 at.roomy (changes (insert ninth)) .area) ≡ whole halves
+  pub unused-was : getD (unitAt 512 at.roomy 0) 19 0 ≡ 25
+  pub unused-is : getD (unitAt 512 (rightly 8 60 at.roomy (changes (insert ninth)) .area) 0) 19 0 ≡ 24
 
 pub left : Left
 unfolding bytes splice number digits sum concat swap every orderOf common widthFor fine judgedOf anyBelow permittedSize described rdfCount push groups need
@@ -136,7 +154,7 @@ unfolding bytes splice number digits sum concat swap every orderOf common widthF
     numbersAt partsAt partsIn readIndex frame fieldsTrue places soundIndex rises closed keepsRules boundBefore leadsTo difference fitting better bestTo
     bestCut byCut divisionOf counts parts pieces recordsOf readArea unsoundFree unsoundUsed unsoundData lowest filledWith partedAt divided taken takenStores
     planOf stored changeOf withKey makeChange replace
-left = record { together = refl; lost = refl; brimful = refl }
+left = record { together = refl; lost = refl; brimful = refl; halved = refl; unused-was = refl; unused-is = refl }
 
 -- two damaged areas, and what a get of the first certificate meets in them: where the damage is, whether the index record and the key's interval are sound, and
 -- what is right to answer; a certificate that lies in an interval to which its key does not lead is not found, and only a check tells of the damage

@@ -112,3 +112,6 @@ brimful-seven = seven 240 240 brimful (between 232) (high 0x32) (areas .brimful)
 
 pub even-sound : Sound 512 0 8 60 depot (countOf 512 (length even)) even (alone (1 ∷ []) ten)
 even-sound = sounded 8 60 even (alone (1 ∷ []) ten) (update shorter) (areas .even)
+
+pub roomy-sound : Sound 512 0 8 60 depot (countOf 512 (length roomy)) roomy (alone (1 ∷ []) eight)
+roomy-sound = sounded 8 60 roomy (alone (1 ∷ []) eight) (insert ninth) (areas .roomy)

@@ -2,6 +2,7 @@ pub mod Refused
 pub mod Layouts
 pub mod Fits
 pub mod History
+pub mod Frames
 pub mod Unique
 pub mod Ways
 pub mod Parts

@@ -1,14 +1,11 @@
 -- The entries that the parts of a division make: their records, separators and numbers.
-use Prim.Native.Nat.{ℕ, zero, suc, _+_, _-_, _≤_}
+use Prim.Native.Nat.{ℕ, zero, suc, _-_, _≤_}
 use mathlib.Core.Path.{_≡_, refl, _∙_, sym, ap}
-use mathlib.Core.Bool.{Bool, true, false}
-use mathlib.Core.List.{List, [], _∷_, _++_, List·Memᴰ, List·Memᴰ·head, List·Memᴰ·eq-of-singleton, append-assoc, append-nil}
+use mathlib.Core.List.{List, [], _∷_, _++_, append-assoc, append-nil}
 use lib.ListN.{length, length-append, getD, take}
 use lib.Seq.{take-length, take-take, length-take-le}
-use lib.Dec.{ltb}
 use native.Mathlib.Nat.{sub-zero}
 use native.Mathlib.Omega.{arith}
-use Rattle.fields.specs.Choice.{pick}
 use Rattle.fields.specs.Lists.{concat, swap}
 use Rattle.measures.specs.declared.Measures.{Measures}
 use Rattle.index.specs.Meaning.{numbers}
@@ -17,11 +14,10 @@ use Rattle.index.proofs.Naming.{length-numbers}
 use Rattle.index.proofs.DividedRules.{rightmost}
 use Rattle.area.specs.Content.{Filled, Content, recordsOf, entriesOf}
 use Rattle.area.proofs.Filled.{length-entries}
-use Rattle.change.specs.Parts.{entryAt, taken}
+use Rattle.change.specs.Parts.{taken}
 use Rattle.change.specs.Content.{filledWith, partsFilled, partedAt}
-use Rattle.change.specs.Places.{AllWritten, nexts, namedFor}
+use Rattle.change.specs.Places.{AllWritten}
 use Rattle.change.proofs.Indexing.{less-one, length-taken, length-cuts, entries-parts, numbers-parts}
-use Rattle.change.proofs.Taking.{among-one, among-places}
 use Rattle.change.proofs.After.{records-parted}
 use Rattle.promises.specs.Changes.{AllForms, reversed}
 use Rattle.promises.specs.Entries.{recordsBy, sepsBy}
@@ -60,20 +56,6 @@ written-forms m area [] nums ps w = tt
 written-forms m area (s ∷ seps) [] ps w = tt
 written-forms m area (s ∷ seps) (k ∷ nums) [] w = tt
 written-forms m area (s ∷ seps) (k ∷ nums) (p ∷ ps) w = (w .0, written-forms m area seps nums ps (w .1))
-
--- A data interval that a change of entry i names is the entry's or one of those taken.
-pub named-among : (c : Content) (i parts k : ℕ) → List·Memᴰ (k + 1) (namedFor c i parts) → List·Memᴰ k (entryAt (c .filled) i .num ∷ taken (parts - 1) (c .free))
-named-among c i parts k = go (ltb 1 parts)
-  where
-    ns : List ℕ
-    ns = taken (parts - 1) (c .free)
-
-    old : ℕ
-    old = entryAt (c .filled) i .num
-
-    go : (t : Bool) → List·Memᴰ (k + 1) (pick t (nexts ns ++ (0 ∷ (old + 1) ∷ [])) ((old + 1) ∷ [])) → List·Memᴰ k (old ∷ ns)
-    go true j = among-places k old ns j
-    go false j = List·Memᴰ·head (List·Memᴰ·eq-of-singleton (among-one k old j))
 
 -- ---- what such entries are, one by one
 

@@ -1,9 +1,9 @@
 -- The promises are not empty: each wrong register breaks one of them on an area written out, and so breaks its contracts.
 use Prim.Native.Nat.{ℕ, _+_, _≤_}
 use mathlib.Core.Path.{_≡_, refl, _∙_, sym, ap}
-use mathlib.Core.List.{List, [], _∷_, _++_, map, List·Memᴰ, List·Memᴰ·head, List·Memᴰ·tail, List·Memᴰ·not-nil, List·Memᴰ·cases-cons}
+use mathlib.Core.List.{List, [], _∷_, _++_, map, List·Memᴰ, List·Memᴰ·head, List·Memᴰ·tail, List·Memᴰ·not-nil, List·Memᴰ·cases-cons, List·Memᴰ·eq-of-singleton}
 use mathlib.Core.Logic.{inl, inr, ⊎-elim, _↔_}
-use lib.ListN.{length, replicate}
+use lib.ListN.{length, replicate, getD}
 use native.Mathlib.Omega.{arith}
 use Rattle.fields.specs.Bytes.{Octets}
 use Rattle.fields.specs.Order.{orderOf}
@@ -31,24 +31,26 @@ use Rattle.requests.specs.declared.Answer.the-variants.{Intact, Absent, Done, N
 use Rattle.requests.proofs.Making.{count-add}
 use Rattle.requests.specs.Allowed.{Request, check, get, getAt, changes, Allowed}
 use Rattle.promises.specs.Trace.{Step, Trace, acceptedIn, Sound, Stands}
-use Rattle.promises.specs.Changes.{CountsTrue}
+use Rattle.promises.specs.Changes.{toldWritten, unitAt, Framed, WrittenTrue}
+use Rattle.promises.specs.Home.{Home}
 use Rattle.promises.specs.Tables.{First, Holding, Crowded, changed, tableFor, WantOfInterval, WantOfRoom}
 use Rattle.promises.proofs.History.{history, get-finds, total-bytes}
-use Rattle.promises.proofs.Changes.{check-true, counts-true}
-use Rattle.promises.proofs.Computed.{nine, answers, left, damages}
+use Rattle.promises.proofs.Changes.{check-true, spreads-fewest, written-true}
+use Rattle.promises.proofs.Computed.{nine, halves, answers, left, damages}
 use Rattle.promises.proofs.Exact.{refusals-exact}
 use Rattle.promises.proofs.Local.{rows-whole}
 use Rattle.interval.specs.Search.{holds}
 use Rattle.division.specs.Division.{counts}
 use Rattle.change.specs.Parts.{divided}
+use Rattle.change.specs.Written.{carrying, numbersOf}
 use Rattle.requests.specs.Records.{withKey}
-use Rattle.promises.specs.Instances.{alone, ninth, roomy, ten, shorter, even, high, brimful, certificate, certificates}
+use Rattle.promises.specs.Instances.{alone, eight, ninth, roomy, ten, shorter, even, high, brimful, certificate, certificates}
 use Rattle.promises.proofs.Wants.{want-of-interval, want-of-room}
 use Rattle.interval.proofs.Form.{interval-reads-back}
 use Rattle.promises.specs.Wrong.{run, Breaks, handedBy, rightly, refusesAll, callsDamaged, alwaysFull, fullTooSoon, crampedAtHome}
-use Rattle.promises.specs.Wrong.{crampedAtBrim, inventsCounts, inventsWritten, sameRecord, third, together, untouchedDone, keepsRevoked, constantBytes}
+use Rattle.promises.specs.Wrong.{crampedAtBrim, inventsCounts, inventsWritten, misnamesWritten, forgetsIndex, sameRecord, third, together, untouchedDone, keepsRevoked, constantBytes}
 use Rattle.promises.specs.Wrong.{losesLast, ReadsBack, scratched, vouchesForAll, beyondBound, looksAway}
-use Rattle.promises.proofs.Instances.{six-just-not, home-not-seven, seven-just-not, roomy-six, home-seven, brimful-seven, even-sound}
+use Rattle.promises.proofs.Instances.{six-just-not, home-not-seven, seven-just-not, roomy-six, home-seven, brimful-seven, even-sound, roomy-sound}
 
 -- ---- the area
 
@@ -151,21 +153,71 @@ pub invents-counts : inventsCounts bytes check .answer ≡ Intact (length (recor
 unfolding recordsOf
 invents-counts e = let z : _≡_ {A = ℕ} 7 2 = cc in omega arith
 
--- A register that invents how many intervals it wrote breaks `counts-true`: as many are free as before, so it was one.
-pub invents-written : (new : ℕ)
-    → CountsTrue held (alone (1 ∷ []) (first ∷ second ∷ third ∷ [])) (inventsWritten bytes (changes (insert third)) .answer) new → ⊥
-invents-written new t =
-    let u : CountsTrue held (alone (1 ∷ []) (first ∷ second ∷ third ∷ [])) (Done (record { count = 7 })) new = rw (answers .inserted) at t in
-    let e : 7 ∷ [] ≡ u .written ∷ [] = ap valuesOf (u .told) in
-    let z : _≡_ {A = ℕ} 7 (u .written) = cc in
-    omega (arith, u .same refl)
+-- the small area with the third certificate
+abbrev three : Content
+three = alone (1 ∷ []) (first ∷ second ∷ third ∷ [])
 
--- it did write what it says, but for the count
+-- A register that invents how many intervals it wrote breaks `written-true`: there are at most four.
+pub invents-written : (old : ℕ)
+    → WrittenTrue depot bytes (inventsWritten bytes (changes (insert third)) .area) held three (inventsWritten bytes (changes (insert third)) .answer) old → ⊥
+invents-written old t =
+    let u = rw (answers .inserted) at t in
+    let e : 7 ∷ 0 ∷ 1 ∷ 2 ∷ 3 ∷ [] ≡ u .written .count ∷ numbersOf (u .written) = ap valuesOf (u .told) in
+    let z : _≡_ {A = ℕ} 7 (u .written .count) = cc in
+    omega (arith, u .most)
+
+-- One that tells the right count, but each interval by the number behind it, breaks it too: the key's interval is 0, in the buffer 1, and 2 was told.
+misnamed : misnamesWritten bytes (changes (insert third)) .answer ≡ Done (carrying (2 ∷ []))
+misnamed = rw (answers .inserted) refl
+
+pub misnames-written : (h : Home depot held (keyOf depot third))
+    → WrittenTrue depot bytes (misnamesWritten bytes (changes (insert third)) .area) held three (misnamesWritten bytes (changes (insert third)) .answer) (h .old .num) → ⊥
+misnames-written h t =
+    let o : h .old ≡ record { sep = []; num = 0; records = first ∷ second ∷ [] } = only-entry (h .pre) (h .old) _ (h .post) (h .split) in
+    let e : 1 ∷ 2 ∷ [] ≡ t .written .count ∷ numbersOf (t .written) = sym (ap valuesOf misnamed) ∙ ap valuesOf (t .told) in
+    let f : numbersOf (t .written) ≡ 2 ∷ [] = cc in
+    let i : List·Memᴰ (h .old .num + 1) (2 ∷ []) = rw f at (t .intervals (h .old .num) .1 (inl refl)) in
+    let z : h .old .num + 1 ≡ 2 = List·Memᴰ·eq-of-singleton i in
+    omega (arith, ap (λ (x : Filled). x .num) o)
+
+-- And so does one that leaves out the index record: an interval is free no longer.
+forgot : forgetsIndex roomy (changes (insert ninth)) .answer ≡ Done (carrying (1 ∷ 2 ∷ []))
+forgot = rw (answers .roomy) refl
+
+forgot-left : forgetsIndex roomy (changes (insert ninth)) .area ≡ rightly 8 60 roomy (changes (insert ninth)) .area
+forgot-left = rw (answers .roomy) refl
+
+not-zero : List·Memᴰ {A = ℕ} 0 (1 ∷ 2 ∷ []) → ⊥
+not-zero i =
+    ⊎-elim (λ (e : _≡_ {A = ℕ} 0 1). omega arith) (λ (j : List·Memᴰ {A = ℕ} 0 (2 ∷ [])). let z : _≡_ {A = ℕ} 0 2 = List·Memᴰ·eq-of-singleton j in omega arith)
+    (List·Memᴰ·cases-cons i)
+
+pub forgets-index : (old : ℕ)
+    → WrittenTrue depot roomy (forgetsIndex roomy (changes (insert ninth)) .area) (alone (1 ∷ []) eight) halves (forgetsIndex roomy (changes (insert ninth)) .answer) old → ⊥
+forgets-index old t =
+    let e : 2 ∷ 1 ∷ 2 ∷ [] ≡ t .written .count ∷ numbersOf (t .written) = sym (ap valuesOf forgot) ∙ ap valuesOf (t .told) in
+    let f : numbersOf (t .written) ≡ 1 ∷ 2 ∷ [] = cc in
+    not-zero (rw f at (t .index .1 (omega arith)))
+
+-- It breaks `change-frame` as well: the record's unused space begins elsewhere.
+pub forgets-index-frame : Framed 512 roomy (forgetsIndex roomy (changes (insert ninth)) .area) (forgetsIndex roomy (changes (insert ninth)) .answer) → ⊥
+forgets-index-frame f =
+    let e = f 0 (λ (i : List·Memᴰ 0 (toldWritten (forgetsIndex roomy (changes (insert ninth)) .answer))). not-zero (rw forgot at i)) in
+    let z : _≡_ {A = ℕ} 24 25 = sym (left .unused-is) ∙ ap (λ (b : List ℕ). getD (unitAt 512 b 0) 19 0) (sym forgot-left) ∙ ap (λ (b : List ℕ). getD b 19 0) e ∙ left .unused-was in
+    omega arith
+
+-- they did write what they say, but for the count and the numbers
 written-done : numberOf (inventsWritten bytes (changes (insert third)) .answer) ≡ 0
 written-done = rw (answers .inserted) refl
 
-written-read : readArea depot 2 (inventsWritten bytes (changes (insert third)) .area) ≡ whole (alone (1 ∷ []) (first ∷ second ∷ third ∷ []))
+written-read : readArea depot 2 (inventsWritten bytes (changes (insert third)) .area) ≡ whole three
 written-read = rw (answers .inserted) (left .together)
+
+misnamed-read : readArea depot 2 (misnamesWritten bytes (changes (insert third)) .area) ≡ whole three
+misnamed-read = rw (answers .inserted) (left .together)
+
+forgot-read : readArea depot (countOf 512 (length roomy)) (forgetsIndex roomy (changes (insert ninth)) .area) ≡ whole halves
+forgot-read = rw forgot-left (left .halved)
 
 -- ---- gets
 
@@ -353,13 +405,23 @@ refusals-broken = (
 -- Counts and gets.
 pub tellings-broken : Breaks 8 60 bytes inventsCounts (check ∷ [])
     × Breaks 8 60 bytes inventsWritten (changes (insert third) ∷ [])
+    × Breaks 8 60 bytes misnamesWritten (changes (insert third) ∷ [])
+    × Breaks 8 60 roomy forgetsIndex (changes (insert ninth) ∷ [])
     × Breaks 8 60 bytes sameRecord (get (keyOf depot second) (replicate 60 0) ∷ [])
     × Breaks 8 60 bytes keepsRevoked (changes (erase (keyOf depot first)) ∷ get (keyOf depot first) (replicate 60 0) ∷ [])
 tellings-broken = (
   λ t. invents-counts (check-true 512 0 8 60 depot 2 bytes held example-sound (inventsCounts bytes check .answer) (t .0 .1)),
   λ t. invents-written _
-      (counts-true 512 0 8 60 depot 2 bytes held example-sound (insert third) (inventsWritten bytes (changes (insert third)) .answer)
-      (inventsWritten bytes (changes (insert third)) .area) (t .0) written-done (alone (1 ∷ []) (first ∷ second ∷ third ∷ [])) written-read),
+      (written-true 512 0 8 60 depot 2 bytes held example-sound (insert third) (inventsWritten bytes (changes (insert third)) .answer)
+      (inventsWritten bytes (changes (insert third)) .area) (t .0) written-done three written-read),
+  λ t. misnames-written
+      (spreads-fewest 512 0 8 60 depot 2 bytes held example-sound (insert third) (misnamesWritten bytes (changes (insert third)) .answer)
+      (misnamesWritten bytes (changes (insert third)) .area) (t .0) (ap numberOf misnamed) three misnamed-read .home)
+      (written-true 512 0 8 60 depot 2 bytes held example-sound (insert third) (misnamesWritten bytes (changes (insert third)) .answer)
+      (misnamesWritten bytes (changes (insert third)) .area) (t .0) (ap numberOf misnamed) three misnamed-read),
+  λ t. forgets-index _
+      (written-true 512 0 8 60 depot (countOf 512 (length roomy)) roomy (alone (1 ∷ []) eight) roomy-sound (insert ninth) (forgetsIndex roomy (changes (insert ninth)) .answer)
+      (forgetsIndex roomy (changes (insert ninth)) .area) (t .0) (ap numberOf forgot) halves forgot-read),
   λ t. same-record
       (get-finds 512 0 8 60 depot 2 bytes held example-sound [] [] (sameRecord bytes (get (keyOf depot second) (replicate 60 0)) .answer) bytes
       (sameRecord bytes (get (keyOf depot second) (replicate 60 0)) .output) (replicate 60 0) (keyOf depot second) refl t),

@@ -1,8 +1,10 @@
 -- What an accepted change did to an area: demand 3; document 01, 'Dividing an interval'. c is its content before, d after. Nothing here plans or stores.
-use Prim.Native.Nat.{ℕ, _+_, _-_, _<_}
+use Prim.Native.Nat.{ℕ, _+_, _*_, _≤_, _<_}
 use mathlib.Core.Path.{_≡_}
 use mathlib.Core.List.{List, [], _∷_, _++_, List·Memᴰ}
-use lib.ListN.{length}
+use lib.ListN.{length, getD}
+use mathlib.Core.Logic.{_⊎_, _↔_}
+use Rattle.fields.specs.Bytes.{part}
 use Rattle.measures.specs.declared.Measures.{Measures}
 use Rattle.interval.specs.Layout.{form}
 use Rattle.index.specs.Meaning.{numbers}
@@ -13,7 +15,9 @@ use Rattle.area.specs.Content.{Filled, Content, recordsOf, entriesOf, meaningOf
 use Rattle.requests.specs.Model.{Change, makeChange}
 use Rattle.requests.specs.Changing.{keyIn}
 use Rattle.requests.specs.declared.Answer.{Answer}
-use Rattle.requests.specs.declared.Answer.the-variants.{Done}
+use Rattle.change.specs.Written.{Ascend, numbersOf}
+use Rattle.change.specs.declared.Written.{Written}
+use Rattle.requests.specs.declared.Answer.the-variants.{Done, Found, Intact, Damaged, Short, Outside, WrongLength, Present, Absent, NoInterval, NoRoom, NoRecord}
 use Rattle.promises.specs.Entries.{recordsBy, sepsBy}
 use Rattle.promises.specs.Home.{Home}
 use Rattle.promises.specs.Prescribed.{broughtBy, PrescribedParts}
@@ -56,13 +60,41 @@ pub record OnlyNamedWritten (m : Measures) (before after : List ℕ) (c d : Cont
   pub kept : d .kept ≡ c .kept
   pub spare : d .spare ≡ c .spare
 
--- Done tells how many intervals were written: one if as many are free as before, else two more than have been taken. And that is one for each new entry,
--- with the index record where there are several.
-pub record CountsTrue (c d : Content) (a : Answer) (new : ℕ) : Type 0 where
-  pub written : ℕ
-  pub told : a ≡ Done (record { count = written })
-  pub free : length (d .free) + (new - 1) ≡ length (c .free)
-  pub same : length (d .free) ≡ length (c .free) → written ≡ 1
-  pub fewer : length (d .free) < length (c .free) → written ≡ 2 + (length (c .free) - length (d .free))
-  pub one : new ≡ 1 → written ≡ 1
-  pub several : 1 < new → written ≡ new + 1
+-- ---- what was written: document 02, L9
+
+-- the buffer numbers that an answer carries: those of a done change, none with a refusal, a get or a check
+abbrev pub toldWritten : Answer → List ℕ
+toldWritten (Done w) = numbersOf w
+toldWritten (Found length) = []
+toldWritten (Intact records free) = []
+toldWritten (Damaged place) = []
+toldWritten (Short needed) = []
+toldWritten Outside = []
+toldWritten WrongLength = []
+toldWritten Present = []
+toldWritten Absent = []
+toldWritten NoInterval = []
+toldWritten NoRoom = []
+toldWritten NoRecord = []
+
+-- interval k of the buffer: 0 is the index record, i + 1 data interval i
+abbrev pub unitAt : ℕ → List ℕ → ℕ → List ℕ
+unitAt S area k = part area (k * S) S
+
+-- Every interval of the buffer that the answer does not name is byte for byte as it was; so is one that lies past the area's end, where nothing is.
+abbrev pub Framed : ℕ → List ℕ → List ℕ → Answer → Type 0
+Framed S before after a = (k : ℕ) → (List·Memᴰ k (toldWritten a) → ⊥) → unitAt S after k ≡ unitAt S before k
+
+-- Done tells which intervals were written, ascending, four at the most, and how many: the index record exactly if the free list got shorter; a data interval
+-- exactly if it is the one to which the key belongs, or was free and no longer is. Every other is as it was. Said over what the area was read as before (c) and
+-- after (d); old is the number of the key's interval.
+pub record WrittenTrue (m : Measures) (before after : List ℕ) (c d : Content) (a : Answer) (old : ℕ) : Type 0 where
+  pub written : Written
+  pub told : a ≡ Done written
+  pub many : written .count ≡ length (numbersOf written)
+  pub most : written .count ≤ 4
+  pub padded : (i : ℕ) → written .count ≤ i → getD (written .first ∷ written .second ∷ written .third ∷ written .fourth ∷ []) i 0 ≡ 0
+  pub ascends : Ascend (numbersOf written)
+  pub index : List·Memᴰ 0 (numbersOf written) ↔ (length (d .free) < length (c .free))
+  pub intervals : (i : ℕ) → List·Memᴰ (i + 1) (numbersOf written) ↔ ((i ≡ old) ⊎ (List·Memᴰ i (c .free) × (List·Memᴰ i (d .free) → ⊥)))
+  pub others : Framed (m .size) before after a

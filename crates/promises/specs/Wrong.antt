@@ -20,6 +20,8 @@ use Rattle.area.specs.Reading.{Reading, damaged, whole, readArea}
 use Rattle.area.specs.Leads.{intervalFor}
 use Rattle.area.specs.Example.{depot, first, second, bytes}
 use Rattle.change.specs.Parts.{entryAt}
+use Rattle.change.specs.Places.{nexts}
+use Rattle.change.specs.Written.{carrying}
 use Rattle.requests.specs.Model.{Change, insert, update, erase, makeChange}
 use Rattle.requests.specs.Answers.{numberOf, valuesOf}
 use Rattle.requests.specs.Opening.{Opening, shut, holding, openingOf}
@@ -31,6 +33,7 @@ use Rattle.requests.specs.declared.Answer.the-variants.{Done, Found, Intact, Da
 use Rattle.requests.specs.declared.Answer.the-variants.{NoRecord}
 use Rattle.requests.specs.Allowed.{Request, check, get, getAt, changes}
 use Rattle.promises.specs.Trace.{Step, Trace}
+use Rattle.promises.specs.Changes.{toldWritten}
 use Rattle.promises.specs.Instances.{alone, laid}
 
 -- ---- registers
@@ -161,7 +164,19 @@ inventsCounts area (changes ch) = rightly 8 60 area (changes ch)
 
 -- invents how many intervals a change wrote
 abbrev pub inventsWritten : Register
-inventsWritten = changingBy (λ (area : List ℕ) (ch : Change) (o : Outcome). ifMade o (record { answer = Done (record { count = 7 }); area = o .area })) 8 60
+inventsWritten =
+    changingBy
+    (λ (area : List ℕ) (ch : Change) (o : Outcome). ifMade o (record { answer = Done (record { count = 7; first = 0; second = 1; third = 2; fourth = 3 }); area = o .area })) 8 60
+
+-- tells as many intervals as a change wrote, but each by the number of the one behind it
+abbrev pub misnamesWritten : Register
+misnamesWritten =
+    changingBy (λ (area : List ℕ) (ch : Change) (o : Outcome). ifMade o (record { answer = Done (carrying (nexts (toldWritten (o .answer)))); area = o .area })) 8 60
+
+-- leaves out the index record where a change wrote it
+abbrev pub forgetsIndex : Register
+forgetsIndex =
+    changingBy (λ (area : List ℕ) (ch : Change) (o : Outcome). ifDivides o (record { answer = Done (carrying (drop 1 (toldWritten (o .answer)))); area = o .area })) 8 60
 
 -- hands out the same certificate to whoever asks for one that is there
 abbrev pub sameRecord : Register
@@ -263,7 +278,7 @@ lastLost (holding m c) ch area =
 abbrev pub losesLast : Register
 losesLast =
     changingBy
-    (λ (area : List ℕ) (ch : Change) (o : Outcome). ifDivides o (record { answer = Done (record { count = 1 }); area = lastLost (openingOf 512 0 8 60 area) ch area }))
+    (λ (area : List ℕ) (ch : Change) (o : Outcome). ifDivides o (record { answer = Done (carrying (1 ∷ [])); area = lastLost (openingOf 512 0 8 60 area) ch area }))
     8 60
 
 -- ---- writers

@@ -13,7 +13,7 @@ use Rattle.requests.specs.declared.Answer.{Answer}
 use Rattle.requests.specs.declared.Answer.the-variants.{Done, NoInterval, NoRoom}
 
 abbrev pub answerFor : Made → Answer
-answerFor (made.Written k) = Done (record { count = k })
+answerFor (made.Done w) = Done w
 answerFor made.NoInterval = NoInterval
 answerFor made.NoRoom = NoRoom
 

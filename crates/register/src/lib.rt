@@ -26,7 +26,6 @@ use measures::Measures;
 use measures::Numbers;
 use opening::Opened;
 use requests::Answer;
-use requests::Written;
 
 // Whether the area is sound, with how many records and free intervals it has: refusals 1 and 2.
 pub fn check(area: &[u8], size: usize, offset: usize, key: usize, most: usize) -> Answer
@@ -225,7 +224,7 @@ pub(crate) fn told(made: Made) -> Answer
     ensures { λ r. ⌜ r ≡ answerFor made ⌝ }
 {
     match made {
-        Made::Written(count) => Answer::Done(Written { count }),
+        Made::Done(written) => Answer::Done(written),
         Made::NoInterval => Answer::NoInterval,
         Made::NoRoom => Answer::NoRoom,
     }

@@ -14,6 +14,7 @@ use Rattle.change.specs.Plan.{stores, planOf}
 use Rattle.change.specs.Fitting.{Proper}
 use Rattle.requests.specs.Model.{Change, makeChange, Legal}
 use Rattle.requests.specs.Changing.{Outcome, editOf}
+use Rattle.change.specs.Written.{writtenOf}
 use Rattle.requests.specs.declared.Answer.the-variants.{Done}
 
 -- all records with the edit made
@@ -33,5 +34,5 @@ pub record Accepted (size offset key most : ℕ) (area : List ℕ) (ch : Change)
   pub proper : Proper m (c .filled) (editOf m c ch)
   pub makes : remade (c .filled) (editOf m c ch) ≡ makeChange m ch (recordsOf (c .filled))
   pub planned : planOf m c (editOf m c ch) ≡ stores ss
-  pub answers : o .answer ≡ Done (record { count = length ss })
+  pub answers : o .answer ≡ Done (writtenOf ss)
   pub leaves : o .area ≡ stored (m .size) area ss

@@ -1,6 +1,7 @@
 -- Document 01's number for each kind of answer, and the values that come back with it: 'What each number tells the depot'.
 use Prim.Native.Nat.{ℕ}
 use mathlib.Core.List.{List, [], _∷_}
+use Rattle.change.specs.Written.{numbersOf}
 use Rattle.requests.specs.declared.Answer.{Answer}
 use Rattle.requests.specs.declared.Answer.the-variants.{Done, Found, Intact, Damaged, Short, Outside, WrongLength, Present, Absent, NoInterval, NoRoom, NoRecord}
 
@@ -18,9 +19,9 @@ numberOf NoRoom = 7
 numberOf (Short needed) = 8
 numberOf NoRecord = 9
 
--- intervals written; the record's length; records and free intervals; the place; the length needed; nothing with the other refusals
+-- how many intervals were written, and their buffer numbers; the record's length; records and free intervals; the place; the length needed; nothing with the other refusals
 abbrev pub valuesOf : Answer → List ℕ
-valuesOf (Done w) = w .count ∷ []
+valuesOf (Done w) = w .count ∷ numbersOf w
 valuesOf (Found length) = length ∷ []
 valuesOf (Intact records free) = records ∷ free ∷ []
 valuesOf Outside = []

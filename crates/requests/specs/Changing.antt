@@ -12,6 +12,7 @@ use Rattle.interval.specs.Search.{lower}
 use Rattle.index.specs.Search.{leadsTo}
 use Rattle.area.specs.Content.{Content, recordsOf, entriesOf}
 use Rattle.change.specs.Stores.{stored}
+use Rattle.change.specs.Written.{writtenOf}
 use Rattle.change.specs.Parts.{Edit, entryAt}
 use Rattle.change.specs.Plan.{Plan, noInterval, noRoom, stores, planOf}
 use Rattle.requests.specs.Records.{withKey}
@@ -66,11 +67,11 @@ editOf m c (erase wanted) = editFor m c wanted 1 []
 
 -- ---- what it comes to: 1, 2, 3, then 4 for an insert and 5 for the others, then 6, 7
 
--- 6, 7, or the stores made; done tells how many intervals were written
+-- 6, 7, or the stores made; done tells which intervals were written
 abbrev pub carryOut : Measures → List ℕ → Plan → Outcome
 carryOut m area noInterval = kept NoInterval area
 carryOut m area noRoom = kept NoRoom area
-carryOut m area (stores ss) = record { answer = Done (record { count = length ss }); area = stored (m .size) area ss }
+carryOut m area (stores ss) = record { answer = Done (writtenOf ss); area = stored (m .size) area ss }
 
 -- 4 where a record has the key of one that is to come, 5 where none has the key of one that is to make way or to go; else what the plan comes to
 abbrev pub ifKeyed : Change → List (List ℕ) → List ℕ → Outcome → Outcome

@@ -1,11 +1,7 @@
 // What the requests answer: the kinds of answer, their numbers, and the meaning of each request.
 ghost use mathlib.Core.Path.{_≡_};
 ghost use Rattle.requests.specs.Answers.{numberOf};
-
-// What an accepted change tells: how many intervals it wrote, the index record among them.
-pub struct Written {
-    pub count: usize,
-}
+use change::Written;
 
 // The kinds of answer, each with its own values. Document 01's number for each is given by `number`.
 pub enum Answer {

@@ -3,6 +3,7 @@ ghost use Prim.Native.Nat.{_<_, _≤_};
 ghost use lib.ListN.{length};
 use crate::print;
 use crate::script::Ask;
+use change::Written;
 use fields::Order;
 use measures::Numbers;
 use requests::Answer;
@@ -12,12 +13,30 @@ fn value(n: usize) {
     print::number(n);
 }
 
+// How many intervals were written, and their buffer numbers.
+fn numbers(written: Written) {
+    let count = written.count;
+    value(count);
+    if 0 < count {
+        value(written.first);
+    }
+    if 1 < count {
+        value(written.second);
+    }
+    if 2 < count {
+        value(written.third);
+    }
+    if 3 < count {
+        value(written.fourth);
+    }
+}
+
 // The request's word, the answer's number and its values.
 fn told(word: &[u8], answer: Answer) {
     print::words(word);
     value(requests::number(answer));
     match answer {
-        Answer::Done(written) => value(written.count),
+        Answer::Done(written) => numbers(written),
         Answer::Found(length) => value(length),
         Answer::Short(length) => value(length),
         Answer::Intact { records, free } => {

@@ -1,8 +1,7 @@
 -- No loop. One part is stored in its own interval (one-storable), and that is the plan (one-applied). Several are stored by apply_divided, which asks what a
--- ready plan gives (several-parted), and that is the plan (several-applied).
-use native.Mathlib.Omega.{arith}
+-- ready plan gives (several-parted), and that is the plan (several-applied). The numbers told are of intervals that differ (one-apart, several-apart).
 use Rattle.change_plan.proofs.Telling.{told-seen}
-use Rattle.change_write.proofs.Carrying.{one-storable, one-applied, several-parted, several-few, several-applied}
+use Rattle.change_write.proofs.Carrying.{one-storable, one-apart, one-applied, several-parted, several-apart, several-applied}
 use borrow.Author.Needs.{needs}
 use Rattle.change_write.proofs.apply.Statement.{statement}
 use Rattle.change_write.proofs.apply.Tie as tie
@@ -17,6 +16,13 @@ one k = k .before .before .before
 abbrev more : tie.After-apply-divided → tie.Else1
 more k = k .before .before
 
+-- the area with all stored
+abbrev whole-stored : tie.After-slice-known2 → tie.After-store
+whole-stored k = k .before .before
+
+abbrev parts-stored : tie.After-slice-known3 → tie.After-apply-divided
+parts-stored k = k .before .before
+
 add-t11 : tie.Need-add-t11
 add-t11 c = search needs
 
@@ -28,15 +34,24 @@ store-requires c κs =
       one-storable (a .m) (a .n) (a .area .now) (a .new .now) (a .lens .now) (a .spread) (s .pre .0) (s .pre .1) (one c .if1 .taken),
     )
 
+written-by-requires : tie.Need-written-by-requires
+written-by-requires c κs =
+    let k = one (whole-stored c .before) in
+    let s = opened (k .before) in
+    let a = s .args in
+    one-apart (a .m) (a .n) (a .area .now) (a .new .now) (a .lens .now) (a .spread) (s .pre .0) (s .pre .1) (k .if1 .taken)
+
 same-length : tie.Need-same-length
 same-length c = search needs
 
 returns : tie.Need-returns
 returns c =
-    let k = c .before .before in
-    let s = opened (one (k .before) .before) in
+    let v = whole-stored (c .before) in
+    let k = one (v .before) in
+    let s = opened (k .before) in
     let a = s .args in
-    one-applied (a .m) (a .n) (a .area .now) (a .new .now) (a .lens .now) (a .spread) (s .pre .0) (s .pre .1) (one (k .before) .if1 .taken) (k .store .last .0) (k .store .ensures)
+    one-applied (a .m) (a .n) (a .area .now) (a .new .now) (a .lens .now) (a .spread) (s .pre .0) (s .pre .1) (k .if1 .taken) (v .store .last .0) (v .store .ensures)
+    (c .written-by .result) (c .written-by .ensures)
 
 apply-divided-requires : tie.Need-apply-divided-requires
 apply-divided-requires c κs =
@@ -44,23 +59,24 @@ apply-divided-requires c κs =
     let a = s .args in
     several-parted (a .m) (a .n) (a .area .now) (a .new .now) (a .lens .now) (a .spread) (s .pre .0) (s .pre .1) (c .before .if1 .left)
 
-add-result : tie.Need-add-result
-add-result c =
-    let k = more (c .before .before .before) in
+written-by-requires-2 : tie.Need-written-by-requires-2
+written-by-requires-2 c κs =
+    let k = more (parts-stored c) in
     let s = opened (k .before) in
     let a = s .args in
-    omega (arith, several-few (a .m) (a .n) (a .area .now) (a .new .now) (a .lens .now) (a .spread) (s .pre .0) (s .pre .1) (k .if1 .left))
+    several-apart (a .m) (a .n) (a .area .now) (a .new .now) (a .lens .now) (a .spread) (s .pre .0) (s .pre .1) (k .if1 .left)
 
 same-length-2 : tie.Need-same-length-2
 same-length-2 c = search needs
 
 returns-2 : tie.Need-returns-2
 returns-2 c =
-    let v = c .before .before .before in
+    let v = parts-stored (c .before) in
     let k = more v in
     let s = opened (k .before) in
     let a = s .args in
     several-applied (a .m) (a .n) (a .area .now) (a .new .now) (a .lens .now) (a .spread) (s .pre .0) (s .pre .1) (k .if1 .left) (v .apply-divided .last .0) (v .apply-divided .ensures)
+    (c .written-by2 .result) (c .written-by2 .ensures)
 
 pub apply-spec : {M : Type 1} → statement M
 apply-spec =
@@ -68,9 +84,10 @@ apply-spec =
     (tie.spec
     add-t11
     store-requires
+    written-by-requires
     same-length
     returns
     apply-divided-requires
-    add-result
+    written-by-requires-2
     same-length-2
     returns-2)

@@ -19,7 +19,15 @@ returns : tie.Need-returns
 returns c =
     let g = c .before .before .before .insert in
     let e = c .told .ensures ∙ ap valuesTold (g .ensures .answers) in
-    record { number = ap (λ (v : Values). v .number) e; value-is = ap (λ (v : Values). v .first) e; leaves = g .ensures .leaves }
+    record {
+      number = ap (λ (v : Values). v .number) e;
+      value-is = ap (λ (v : Values). v .first) e;
+      first-is = ap (λ (v : Values). v .second) e;
+      second-is = ap (λ (v : Values). v .third) e;
+      third-is = ap (λ (v : Values). v .fourth) e;
+      fourth-is = ap (λ (v : Values). v .fifth) e;
+      leaves = g .ensures .leaves;
+    }
 
 pub belquita-insert-spec : {M : Type 1} → statement M
 belquita-insert-spec = tie.close (tie.spec insert-requires told-requires same-length returns)

@@ -1,7 +1,7 @@
--- No loop. Each kind of answer is one way out; told-as says its values from its kind.
+-- No loop. Each kind of answer is one way out; told-as says its values from its kind, told-done those of a change.
 use mathlib.Core.Path.{_∙_}
 use borrow.Author.Needs.{needs}
-use Rattle.exports.proofs.Telling.{told-as}
+use Rattle.exports.proofs.Telling.{told-as, told-done}
 use Rattle.exports.proofs.told.Statement.{statement}
 use Rattle.exports.proofs.told.Tie as tie
 
@@ -10,6 +10,18 @@ number-requires c κs = search needs
 
 enum-known-answer : tie.Need-enum-known-answer
 enum-known-answer c = search needs
+
+counted-requires : tie.Need-counted-requires
+counted-requires c κs = search needs
+
+counted-requires-2 : tie.Need-counted-requires-2
+counted-requires-2 c κs = search needs
+
+counted-requires-3 : tie.Need-counted-requires-3
+counted-requires-3 c κs = search needs
+
+counted-requires-4 : tie.Need-counted-requires-4
+counted-requires-4 c κs = search needs
 
 enum-known-answer-2 : tie.Need-enum-known-answer-2
 enum-known-answer-2 c = search needs
@@ -76,8 +88,12 @@ one-requires-10 c κs = search needs
 
 returns : tie.Need-returns
 returns c =
-    let s = c .before .before .before .before in
-    told-as (s .args .answer) _ (c .before .before .before .number .result) (c .before .answer .given .1) (c .before .before .before .number .ensures)
+    let k = c .before .before .before .before in
+    let w = k .before .answer in
+    let t = k .before .before .before in
+    told-done (t .before .args .answer) (w .given .0 .0) (t .number .result) (c .before .before .before .counted .result) (c .before .before .counted2 .result)
+    (c .before .counted3 .result) (c .counted4 .result) (w .given .1) (t .number .ensures) (c .before .before .before .counted .ensures) (c .before .before .counted2 .ensures)
+    (c .before .counted3 .ensures) (c .counted4 .ensures)
 
 returns-2 : tie.Need-returns-2
 returns-2 c =
@@ -140,6 +156,10 @@ told-spec =
     (tie.spec
     number-requires
     enum-known-answer
+    counted-requires
+    counted-requires-2
+    counted-requires-3
+    counted-requires-4
     enum-known-answer-2
     one-requires
     enum-known-answer-3
