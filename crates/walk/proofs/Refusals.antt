@@ -16,14 +16,14 @@ use Rattle.measures.specs.declared.Judged.the-variants.{Fine}
 use Rattle.measures.specs.declared.Judged.the-variants as judged
 use Rattle.area.specs.Content.{Content}
 use Rattle.area.specs.Reading.{damaged, whole, readArea}
-use Rattle.requests.specs.Answers.{numberOf}
+use Rattle.requests.specs.Answers.{numberOf, valuesOf}
 use Rattle.requests.specs.Walks.{Item, Walk, refusedWith, giving, itemsOf, beyond, walkOf, headFine, ifSome, walkFromOf, walkEndOf}
 use Rattle.requests.specs.declared.Answer.the-variants.{WrongLength}
 use Rattle.requests.proofs.Walks.{walk-among}
 use Rattle.promises.specs.Tables.{done, row, First}
 use Rattle.promises.proofs.Rows.{first-two, held}
 use Rattle.walk.specs.AidGives.{Begins}
-use Rattle.walk.specs.Refusals.{numberIn, WrongBytes, NothingBeyond, fromTable, endTable}
+use Rattle.walk.specs.Refusals.{numberIn, valuesIn, WrongBytes, NothingBeyond, fromTable, endTable}
 use Rattle.walk.specs.declared.Begun.{Begun}
 
 -- the number of a walk's meaning
@@ -34,6 +34,15 @@ numberFor (giving is) = 0
 begins-number : (area : List ℕ) (size : ℕ) (forward : Bool) (x : Walk) (r : Begun) → Begins area size forward x r → numberIn r ≡ numberFor x
 begins-number area size forward (refusedWith a) r b = ap numberIn b
 begins-number area size forward (giving is) r b = ap numberIn (b .1)
+
+-- and the values
+abbrev valuesFor : Walk → List ℕ
+valuesFor (refusedWith a) = valuesOf a
+valuesFor (giving is) = []
+
+begins-values : (area : List ℕ) (size : ℕ) (forward : Bool) (x : Walk) (r : Begun) → Begins area size forward x r → valuesIn r ≡ valuesFor x
+begins-values area size forward (refusedWith a) r b = ap valuesIn b
+begins-values area size forward (giving is) r b = ap valuesIn (b .1)
 
 module _ (size offset key most : ℕ) (area : List ℕ) (forward : Bool) where
   abbrev m : Measures
@@ -50,6 +59,16 @@ module _ (size offset key most : ℕ) (area : List ℕ) (forward : Bool) where
       first-two size offset key most area done (numberIn r) (λ (o : judgedOf size offset key most (length area) ≡ judged.Outside). e ∙ rw o)
       (λ (j : judgedOf size offset key most (length area) ≡ Fine m n) (p : ℕ) (d : readArea m n area ≡ damaged p). e ∙ rw (j, d))
       (λ (j : judgedOf size offset key most (length area) ≡ Fine m n) (c : Content) (w : readArea m n area ≡ whole c). e ∙ rw (j, w))
+
+  -- 2 with the place of the area's damage
+  module _ (j : judgedOf size offset key most (length area) ≡ Fine m n) (p : ℕ) (d : readArea m n area ≡ damaged p) (r : Begun) where
+    pub end-damaged : Begins area size forward (walkEndOf size offset key most area forward) r → valuesIn r ≡ p ∷ []
+    unfolding walkEndOf
+    end-damaged b = begins-values area size forward (walkEndOf size offset key most area forward) r b ∙ rw (j, d)
+
+    pub from-damaged : (given : List ℕ) → Begins area size forward (walkFromOf size offset key most area forward given) r → valuesIn r ≡ p ∷ []
+    unfolding walkFromOf
+    from-damaged given b = begins-values area size forward (walkFromOf size offset key most area forward given) r b ∙ rw (j, d)
 
   -- what the test of the bytes given says
   bytes-wrong : (given : List ℕ) → headFine m given ≡ false → WrongBytes size offset key most area given

@@ -3,12 +3,12 @@
 use Prim.Native.Nat.{ℕ, _<_}
 use mathlib.Core.Path.{_≡_}
 use mathlib.Core.Bool.{Bool, false}
-use mathlib.Core.List.{List, List·Memᴰ}
+use mathlib.Core.List.{List, [], List·Memᴰ}
 use mathlib.Core.Logic.{_⊎_}
 use lib.ListN.{length}
 use Rattle.measures.specs.Judgement.{measures}
 use Rattle.area.specs.Content.{Content}
-use Rattle.requests.specs.Answers.{numberOf}
+use Rattle.requests.specs.Answers.{numberOf, valuesOf}
 use Rattle.requests.specs.Walks.{Item, itemsOf, beyond}
 use Rattle.promises.specs.Tables.{Table, done, row, OutsideLimits, DamagedSomewhere, Holding}
 use Rattle.walk.specs.declared.Begun.{Begun}
@@ -18,6 +18,11 @@ use Rattle.walk.specs.declared.Begun.the-variants.{At, Refused}
 abbrev pub numberIn : Begun → ℕ
 numberIn (At p) = 0
 numberIn (Refused a) = numberOf a
+
+-- and what comes with it: with 2 the place of the damage, with every other number nothing
+abbrev pub valuesIn : Begun → List ℕ
+valuesIn (At p) = []
+valuesIn (Refused a) = valuesOf a
 
 module _ (size offset key most : ℕ) (area : List ℕ) where
   -- 3: no bytes are given, or more than a key has
