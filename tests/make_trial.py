@@ -24,6 +24,7 @@ import os
 import model
 import trial_gets
 import trial_sections
+import trial_walks
 from layout import area_of, bent, data_interval, index_interval, kept_bytes
 from model import Measures
 from trial_script import Script, filled
@@ -514,6 +515,8 @@ def main():
         full_at_two(t, length, last)
     for size in (1024, 2048, 32768):
         larger(t, size)
+    for part in trial_walks.CASES:
+        part(t)
     crate = os.path.join(os.path.dirname(os.path.dirname(os.path.abspath(__file__))), "crates", "trial")
     os.makedirs(os.path.join(crate, "data"), exist_ok=True)
     with open(os.path.join(crate, "data", "script"), "wb") as out:

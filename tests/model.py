@@ -366,6 +366,35 @@ def handed(record, out):
     return Answer(0, (len(record),)), record + out[len(record):]
 
 
+# ---- walks (document 02, L1)
+
+def walk(area, m, forward, given=None):
+    """The records that a walk gives, each as (where it begins in the area, its bytes), or the answer that refuses it. The order is 1, 2, 3, 5.
+
+    given: a key or its first bytes, and only so many are compared; None is an end of the register, from which there is no 3 and no 5."""
+    content = opened(area, m)
+    if isinstance(content, Answer):
+        return content
+    records = []
+    for k, held in enumerate(content.data):
+        start = (k + 1) * m.size
+        for record in held:
+            records.append((start, record))
+            start += len(record)
+    if given is not None:
+        if not 1 <= len(given) <= m.key:
+            return Answer(3)
+        records = [each for each in records if beyond(m.key_of(each[1])[:len(given)], given, forward)]
+        if not records:
+            return Answer(5)
+    return sorted(records, key=lambda each: m.key_of(each[1]), reverse=not forward)
+
+
+def beyond(head, given, forward):
+    """At or beyond the bytes given, in the direction."""
+    return head >= given if forward else head <= given
+
+
 # ---- changes
 
 def insert(area, m, record):

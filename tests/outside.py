@@ -14,6 +14,7 @@ import sys
 import model
 import program
 import random_areas
+import walker
 from layout import area_of, bent, data_interval, old_index_interval
 from trial_script import replayed
 
@@ -202,7 +203,7 @@ def replay(comparing):
     """The cases of `trial`, asked through C, must print what its stored output has."""
     folder = os.path.join(program.ROOT, "crates", "trial")
     with open(os.path.join(folder, "data", "script"), "rb") as script, open(os.path.join(folder, "stdout"), encoding="ascii") as stdout:
-        found, stored = replayed(script.read(), lambda *request: plain(comparing, *request)), stdout.read()
+        found, stored = replayed(script.read(), lambda *request: plain(comparing, *request), walker.Walking(comparing).line), stdout.read()
     if found != stored:
         comparing.differences.append("crates/trial/stdout is not what its script comes to")
 
@@ -234,6 +235,7 @@ def main(words):
     beyond(comparing)
     most(comparing, 10240)
     most(comparing, 32768)
+    walker.all_walks(comparing)
     for told in comparing.differences[:20]:
         print(told)
     print("%d compared, %d different" % (comparing.compared, len(comparing.differences)))

@@ -62,7 +62,7 @@ class Program:
     FUNCTIONS = {"C": "check", "G": "get", "R": "get_at", "I": "insert", "U": "update", "E": "erase"}
 
     def __init__(self, path):
-        library = ctypes.CDLL(path)
+        library = self.library = ctypes.CDLL(path)
         self.functions = {letter: getattr(library, "belquita_" + name) for letter, name in self.FUNCTIONS.items()}
         for function in self.functions.values():
             function.restype = ctypes.c_size_t

@@ -419,6 +419,8 @@ def lookup(made, area):
     """A get by key on a copy of the sound area that there is by now, with damage that counts for this key or does not: in the index record, in the interval that
     the key leads to, in one other, in some or in all. Gives the copy, the key and the output."""
     r, m = made.r, made.m
+    if isinstance(model.opened(area, m), model.Answer):
+        area = made.area   # a change under other measures has left it unsound under these
     index = model.opened_index(area, m)
     parts = [area[at:at + m.size] for at in range(0, len(area), m.size)]
     records = model.read_interval(parts[r.choice(index.entries)[1] + 1], m)

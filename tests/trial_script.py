@@ -10,6 +10,7 @@ import model
 
 FILLED = b"\xee"
 LONGEST_AREA = 1048576
+WALKS = "FBLHNP"    # the letters of trial_walks.py
 
 
 def filled(key, length):
@@ -81,8 +82,9 @@ class Script:
 
 # ---- the script read back, for a check of the format that does not lean on how it was written
 
-def replayed(script, asked):
-    """What trial must print for the bytes of a script, where asked(letter, area, m, content, address, out) tells number, values, area and output."""
+def replayed(script, asked, walked):
+    """What trial must print for the bytes of a script, where asked(letter, area, m, content, address, out) tells number, values, area and output, and
+    walked(letter, area, m, content, out) the line for a walk or for steps."""
     at, area, text = 0, b"", ""
     while at < len(script):
         letter = chr(script[at])
@@ -97,8 +99,12 @@ def replayed(script, asked):
         else:
             *m, lent, out, address, length = struct.unpack_from(">QQQQIIQH", script, at + 1)
             start = at + 1 + struct.calcsize(">QQQQIIQH")
-            told, after = replayed_request(letter, area[:lent], model.Measures(*m), script[start:start + length], address, out, asked)
-            area, text, at = after + area[lent:], text + told, start + length
+            content, at = bytes(script[start:start + length]), start + length
+            if letter in WALKS:
+                text += walked(letter, area[:lent], model.Measures(*m), content, out) + "\n"
+                continue
+            told, after = replayed_request(letter, area[:lent], model.Measures(*m), content, address, out, asked)
+            area, text = after + area[lent:], text + told
     return text
 
 

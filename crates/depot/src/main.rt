@@ -13,7 +13,7 @@ fn check(area: &[u8]) -> Answer {
 }
 
 fn refused(answer: Answer) {
-    if !print::refused(answer) {
+    if !depot_io::refused(answer) {
         os::fail(b"standard output");
     }
 }
@@ -53,6 +53,6 @@ fn open(area: &mut [u8])
 // One byte more than the largest area, so that a longer file shows: no area has that length.
 fn main() {
     let mut space = [0u8; 65537];
-    let n = files::load(&mut space);
+    let n = depot_io::load(&mut space);
     open(&mut space[..n]);
 }

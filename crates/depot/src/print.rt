@@ -1,27 +1,8 @@
 // The lines that the depot reads. Each function gives whether all of it was written.
-use libc::STDOUT_FILENO;
+use depot_io::number;
+use depot_io::words;
 use lines::Line;
 use requests::Answer;
-
-fn words(text: &[u8]) -> bool {
-    io::write_all(STDOUT_FILENO, text)
-}
-
-fn number(n: u64) -> bool {
-    io::print_decimal(STDOUT_FILENO, n)
-}
-
-// The one line for an area that is not taken: its number, and for damage its place.
-pub(crate) fn refused(answer: Answer) -> bool {
-    words(b"area ") && number(requests::number(answer) as u64) && place(answer) && words(b"\n")
-}
-
-fn place(answer: Answer) -> bool {
-    let Answer::Damaged(place) = answer else {
-        return true;
-    };
-    words(b" ") && number(place as u64)
-}
 
 pub(crate) fn closing(records: usize, free: usize) -> bool {
     words(b"records ")
@@ -39,12 +20,7 @@ fn found(answer: Answer, out: &[u8]) -> bool {
     if out.len() < length {
         return false;
     }
-    let mut text = [0u8; 128];
-    let n = lines::hex(&out[..length], &mut text);
-    if 128 < n {
-        return false;
-    }
-    words(b" ") && words(&text[..n])
+    words(b" ") && depot_io::hex(&out[..length])
 }
 
 fn after(told: Line, out: &[u8]) -> bool {

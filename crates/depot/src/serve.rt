@@ -1,5 +1,4 @@
 // The requests, 64 bytes each, read and served one after another.
-use crate::files;
 use crate::print;
 use lines::Line;
 ghost use Rattle.lines_history.specs.Day.{Leads};
@@ -24,7 +23,7 @@ fn one(fd: i32, area: &mut [u8], place: u64) -> Turn
     ensures { λ r. ⌜ Leads (now (area .entry)) (now (area .exit)) ⌝ }
 {
     let mut request = [0u8; 64];
-    let got = files::fill(fd, &mut request);
+    let got = depot_io::fill(fd, &mut request);
     let n = got.bytes;
     if got.failed {
         os::fail(b"requests.rec");

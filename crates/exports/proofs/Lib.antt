@@ -1,2 +1,4 @@
 pub mod Telling
 pub mod Unique
+pub mod Adding
+pub mod UniqueWalks

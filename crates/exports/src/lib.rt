@@ -1,5 +1,7 @@
 // The register for programs in C: every request on numbers and byte buffers, for tests and measurements. Below the requests stand
 // three functions of lower floors that are worth timing alone; each asks what the function that it calls asks.
+mod walks;
+
 ghost use Prim.Native.Nat.{_≤_};
 ghost use mathlib.Core.Path.{_≡_};
 ghost use lib.ListN.{length};

@@ -23,7 +23,7 @@ use Rattle.change.specs.Content.{partedAt, contentAfter}
 use Rattle.change.specs.Fitting.{Fitting}
 use Rattle.change.specs.Places.{placesOf, namedFor}
 use Rattle.change.specs.Written.{storedNumbers, writtenOf}
-use Rattle.change.proofs.Numbers.{order-ascends, carried-padded}
+use Rattle.change.proofs.Numbers.{order-among, order-ascends, carried-padded}
 use Rattle.change.proofs.Named.{named-among}
 use Rattle.change.proofs.Planning.{planned}
 use Rattle.change.proofs.After.{after-meaning}
@@ -87,6 +87,12 @@ module _ (size offset key most : ℕ) (m : Measures) (n : ℕ) (area : List ℕ)
       let same : size ≡ m .size = ap (λ (x : Measures). x .size) (sym (accepted-fits size offset key most (length area) n m (s .judges) .0)) in
       rw same at (change-frame size offset key most area (s .octets) ch a after k)
 
+  -- what is told is what is named
+  told-named : (i : ℕ) → List·Memᴰ i (toldWritten a) → List·Memᴰ i (namedFor c (e .entry) (length ps))
+  told-named i j =
+      let t : List·Memᴰ i (storedNumbers (did .ss)) = rw (told-so, made-numbers m n area c e fits (did .ss) (did .planned) .carried) at j in
+      rw (made-only-named m n area c e fits (did .ss) (did .planned) .named) at (order-among i (placesOf (did .ss)) .0 t)
+
   module _ (d : Content) (w : readArea m n after ≡ whole d) where
     is-after : d ≡ contentAfter m c e
     is-after =
@@ -124,10 +130,8 @@ module _ (size offset key most : ℕ) (m : Measures) (n : ℕ) (area : List ℕ)
               (rw (left, ← place) (made-written m n area c e fits (did .ss) (did .planned)));
           others =
               λ (k : ℕ) (no : List·Memᴰ k (numbers (entriesOf (new m c f ps))) → ⊥).
-              rw left
-              (made-only-named m n area c e fits (did .ss) (did .planned) .others (k + 1)
-              (λ (j : List·Memᴰ (k + 1) (namedFor c (e .entry) (length ps))).
-              no (rw (new-numbers m c f ps some, ← place) (named-among c (e .entry) (length ps) k j))));
+              framed (k + 1)
+              (λ (j : List·Memᴰ (k + 1) (toldWritten a)). no (rw (new-numbers m c f ps some, ← place) (named-among c (e .entry) (length ps) k (told-named (k + 1) j))));
           index-stays = λ (h : length (new m c f ps) ≡ 1). rw left (rw (le-ltb 1 (length ps) (omega arith)) at ix);
           index-written = λ (h : 1 < length (new m c f ps)). rw (left, is-after, v, after-meaning m c e) (rw (lt-ltb 1 (length ps) (omega arith), u) at ix);
           kept = rw is-after;

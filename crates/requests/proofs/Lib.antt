@@ -11,4 +11,6 @@ pub mod Order
 pub mod Proper
 pub mod Ways
 pub mod Accepted
+pub mod Items
+pub mod Walks
 pub mod Unique

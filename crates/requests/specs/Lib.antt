@@ -8,3 +8,4 @@ pub mod Words
 pub mod Changing
 pub mod Accepted
 pub mod Allowed
+pub mod Walks

@@ -2,6 +2,7 @@
 mod print;
 mod request;
 mod script;
+mod walks;
 
 use script::Head;
 

@@ -3,12 +3,13 @@ ghost use Prim.Native.Nat.{_<_, _≤_};
 ghost use lib.ListN.{length};
 use crate::print;
 use crate::script::Ask;
+use crate::walks;
 use change::Written;
 use fields::Order;
 use measures::Numbers;
 use requests::Answer;
 
-fn value(n: usize) {
+pub(crate) fn value(n: usize) {
     print::words(b" ");
     print::number(n);
 }
@@ -169,6 +170,7 @@ pub(crate) fn serve(area: &mut [u8], old: &mut [u8], ask: Ask, given: &[u8]) -> 
     match letter {
         b'C' | b'G' | b'R' => read(area, ask, given, &mut space[..out]),
         b'I' | b'U' | b'E' => changed(area, old, ask, given),
+        b'F' | b'B' | b'L' | b'H' | b'N' | b'P' => return walks::serve(area, ask, given),
         _ => return false,
     }
     true

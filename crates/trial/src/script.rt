@@ -3,6 +3,9 @@
 //   A  an area: 4 bytes of length, the bytes
 //   C, G, R, I, U, E  check, get, get at an address, insert, update, erase: size, offset, key and most, 8 bytes each; the lengths of
 //      the area that is lent and of the output, 4 each; the address, 8; 2 bytes of length, the key or record
+//   F, B, L, H  walks forward and backward from bytes, from the lowest and from the highest record: the same, with how many records are
+//      shown in place of the output
+//   N, P  steps forward and backward from a place: the same, with the number of steps, and with the seven numbers of the place, 8 bytes each
 ghost use Rattle.io.specs.Counts.{Counts};
 use measures::Numbers;
 

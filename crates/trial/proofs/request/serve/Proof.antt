@@ -29,11 +29,14 @@ read-requires c κs = search needs
 changed-requires : tie.Need-changed-requires
 changed-requires c κs = search needs
 
-returns-2 : tie.Need-returns-2
-returns-2 c = search needs
+serve-requires : tie.Need-serve-requires
+serve-requires c κs = search needs
 
 same-length : tie.Need-same-length
 same-length c = search needs
+
+returns-2 : tie.Need-returns-2
+returns-2 c = search needs
 
 returns-3 : tie.Need-returns-3
 returns-3 c = search needs
@@ -41,11 +44,17 @@ returns-3 c = search needs
 same-length-2 : tie.Need-same-length-2
 same-length-2 c = search needs
 
+returns-4 : tie.Need-returns-4
+returns-4 c = search needs
+
 same-length-3 : tie.Need-same-length-3
 same-length-3 c = search needs
 
-returns-4 : tie.Need-returns-4
-returns-4 c = search needs
+same-length-4 : tie.Need-same-length-4
+same-length-4 c = search needs
+
+returns-5 : tie.Need-returns-5
+returns-5 c = search needs
 
 pub serve-spec : {M : Type 1} → statement M
 serve-spec =
@@ -59,9 +68,12 @@ serve-spec =
     slice-aggregate-read
     read-requires
     changed-requires
-    returns-2
+    serve-requires
     same-length
+    returns-2
     returns-3
     same-length-2
+    returns-4
     same-length-3
-    returns-4)
+    same-length-4
+    returns-5)

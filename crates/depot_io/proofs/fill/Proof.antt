@@ -5,8 +5,8 @@ use mathlib.Core.Path.{_≡_, sym}
 use lib.ListN.{length}
 use lib.Seq.{length-take-le}
 use borrow.Author.Needs.{needs}
-use Rattle.depot.proofs.files.fill.Statement.{statement}
-use Rattle.depot.proofs.files.fill.Tie as tie
+use Rattle.depot_io.proofs.fill.Statement.{statement}
+use Rattle.depot_io.proofs.fill.Tie as tie
 
 abbrev Inv-loop : tie.InvT-loop
 Inv-loop fd buf₀ n₀ buf n = (n ≤ length buf) × (length buf ≡ length buf₀)

@@ -1,0 +1,13 @@
+pub mod Ways
+pub mod Passing
+pub mod Holdings
+pub mod Standing
+pub mod Stepping
+pub mod Giving
+pub mod Beginning
+pub mod Sought
+pub mod Walking
+pub mod Refusals
+pub mod Promised
+pub mod Wrong
+pub mod Unique
