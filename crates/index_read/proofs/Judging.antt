@@ -246,8 +246,11 @@ module _ (w K n : ℕ) (ib : List ℕ) (is : w ≡ widthFor n) where
     pub free-few : c ≤ n
     free-few = omega (arith, l .some, c-is)
 
-    pub edge-inside : 31 ≤ length ib → e + 2 ≤ length ib
+    pub edge-inside : 31 ≤ length ib → e + 7 ≤ length ib
     edge-inside h = omega (arith, l .inside, l .order, e-is)
+
+    pub edge-far : 6 ≤ e
+    edge-far = omega (arith, l .unused, l .order, e-is)
 
     pub edge-small : length ib ≤ 32768 → e < 65536
     edge-small h = omega (arith, l .inside, e-is)

@@ -152,15 +152,16 @@ reclosed ib by key old seen buf high p t u left reach more st =
       low = st .low;
       fine = st .fine;
       inside = st .inside;
+      off = st .off;
       few = st .few;
       same = st .same ∙ fine-open by ib seen (lowOf (eqb left (by .count)) (by .key) (st .h .ref)) (st .h) t u left more;
       search = st .search;
       keyed = st .keyed;
     }
 
-pub start : (ib : List ℕ) (by : Limits) (key old : List ℕ) (p : Place) (reach : ℕ) → p ≡ placeStart ib → 31 ≤ length ib → 0 < by .count → reach ≤ 1
+pub start : (ib : List ℕ) (by : Limits) (key old : List ℕ) (p : Place) (reach : ℕ) → p ≡ placeStart ib → 31 ≤ length ib → by .edge + 7 ≤ length ib → 0 < by .count → reach ≤ 1
     → (0 < reach → length key ≡ by .key) → Stand ib by key old old (replicate 263 0) (replicate 263 0) p true (by .count) reach
-start ib by key old p reach is large some few keyed =
+start ib by key old p reach is large before some few keyed =
     let k : length {A = ℕ} (replicate 263 0) ≡ 263 = length-replicate {A = ℕ} 263 0 in
     reclosed ib by key old old (replicate 263 0) (replicate 263 0) p false true (by .count) reach some
     (record {
@@ -172,6 +173,7 @@ start ib by key old p reach is large some few keyed =
       low = omega arith;
       fine = unfold separator in refl;
       inside = omega arith;
+      off = omega arith;
       few = omega arith;
       same = fine-first by ib old (by .count) ∙ rw (eq-eqb (by .count) (by .count) refl);
       search = search-start ib by key reach few;
@@ -303,13 +305,16 @@ module _ (ib : List ℕ) (by : Limits) (key old seen buf high : List ℕ) (p : P
   count = by .count
 
   -- for the calls
-  pub ready : Walkable ib by key → by .edge + (by .width + 2) ≤ p .right → Before ib p by buf
-  ready w room =
+  pub roomy : Walkable ib by key → by .width + 2 ≤ p .right
+  roomy w = omega (arith, w .few, w .far, st .off, st .held .right)
+
+  pub ready : Walkable ib by key → Before ib p by buf
+  ready w =
       record {
         some = w .some;
         few = w .few;
         inside = omega (arith, st .inside, st .held .right);
-        room = room;
+        room = roomy w;
         edge = w .edge;
         whole = omega (arith, st .whole, w .most);
         short = omega (arith, st .short, st .held .long);
@@ -320,9 +325,9 @@ module _ (ib : List ℕ) (by : Limits) (key old seen buf high : List ℕ) (p : P
   pub tall : by .key ≤ 255 → by .key + 8 ≤ length high
   tall most = omega (arith, st .whole')
 
-  pub sighted : Walkable ib by key → by .edge + (by .width + 2) ≤ p .right → 0 < reach
-      → (1 ≤ by .width) × (by .width ≤ 4) × (p .right ≤ length ib) × (by .edge + (by .width + 2) ≤ p .right) × (by .edge < 65536) × (length key ≡ by .key)
-  sighted w room sought = (w .some, w .few, omega (arith, st .inside, st .held .right), room, w .edge, st .keyed sought)
+  pub sighted : Walkable ib by key → 0 < reach
+      → (1 ≤ by .width) × (by .width ≤ 4) × (p .right ≤ length ib) × (by .width + 2 ≤ p .right) × (by .edge < 65536) × (length key ≡ by .key)
+  sighted w sought = (w .some, w .few, omega (arith, st .inside, st .held .right), roomy w, w .edge, st .keyed sought)
 
   pub within : p .right + 7 ≤ length ib
   within = omega (arith, st .inside, st .held .right)
@@ -485,6 +490,7 @@ module _ (ib : List ℕ) (by : Limits) (key old seen buf high : List ℕ) (p : P
               low = pick-short (part' .closes) sep' (h' .high) K sep-fits (st .low);
               fine = separator-own K sep' fine;
               inside = omega (arith, st .inside);
+              off = omega (arith, size);
               few = omega (arith, st .few);
               same = same-on k z ∙ rw u;
               search = search;
@@ -574,23 +580,22 @@ module _ (ib : List ℕ) (by : Limits) (key seen₀ buf₀ : List ℕ) (from : L
   pub ends-last : (seen' buf' : List ℕ) → left ≡ 1 → closesAt (by .width) p ≡ false → Ends seen' buf' Wrong
   ends-last seen' buf' one which = λ old high st. last-open ib by key old seen buf high p (eqb left more) left reach (g .goes old high st) one which
 
-  pauses : by .edge + (by .width + 2) ≤ p .right → (left ≡ 1 → closesAt (by .width) p ≡ true) → Ends seen buf (At p left)
-  pauses room last = λ old high st.
+  pauses : (left ≡ 1 → closesAt (by .width) p ≡ true) → Ends seen buf (At p left)
+  pauses last = λ old high st.
       record {
         reach = reach;
         still = g .still;
         stand = reclosed ib by key old seen buf high p (eqb left more) true left reach some (g .goes old high st);
         some = some;
         few = g .few;
-        room = room;
         last = last;
       }
 
-  pub ends-top : by .edge + (by .width + 2) ≤ p .right → p .right - (by .width + 2) ≡ p .end → Ends seen buf (At p left)
-  ends-top room z = pauses room (λ (x : left ≡ 1). eq-eqb (p .right - (by .width + 2)) (p .end) z)
+  pub ends-top : p .right - (by .width + 2) ≡ p .end → Ends seen buf (At p left)
+  ends-top z = pauses (λ (x : left ≡ 1). eq-eqb (p .right - (by .width + 2)) (p .end) z)
 
-  pub ends-found : by .edge + (by .width + 2) ≤ p .right → (left ≡ 1 → ⊥) → Ends seen buf (At p left)
-  ends-found room z = pauses room (λ (x : left ≡ 1). absurd (z x))
+  pub ends-found : (left ≡ 1 → ⊥) → Ends seen buf (At p left)
+  ends-found z = pauses (λ (x : left ≡ 1). absurd (z x))
 
   abbrev Answers : Parsed → Type 0
   Answers x = (high : List ℕ) → by .key + 8 ≤ length high → x ≡ entryOf ib p by (eqb left (by .count)) buf high

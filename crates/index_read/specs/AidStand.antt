@@ -20,12 +20,14 @@ use Rattle.index_read.specs.declared.Leg.{Leg}
 use Rattle.index_read.specs.declared.Stop.{Stop}
 use Rattle.index_read.specs.declared.Stop.the-variants.{At, Wrong}
 
--- what a walk asks: a width and a key that were judged, an edge that two bytes tell, a mark for each number; a key that is sought has the right length
+-- what a walk asks: a width and a key that were judged, an edge that two bytes tell, with the header before it and the RDF behind; a mark for each number; a key that
+-- is sought has the right length
 pub record Walkable (ib : List ℕ) (by : Limits) (key : List ℕ) : Type 0 where
   pub some : 1 ≤ by .width
   pub few : by .width ≤ 4
   pub large : 31 ≤ length ib
-  pub inside : by .edge + 2 ≤ length ib
+  pub inside : by .edge + 7 ≤ length ib
+  pub far : 6 ≤ by .edge
   pub edge : by .edge < 65536
   pub least : 1 ≤ by .key
   pub most : by .key ≤ 255
@@ -54,6 +56,7 @@ pub record Stand (ib : List ℕ) (by : Limits) (key old seen buf high : List ℕ
   pub low : length (h .high) ≤ by .key
   pub fine : separator (length (h .ref)) (h .ref) ≡ true
   pub inside : h .right + 7 ≤ length ib
+  pub off : by .edge ≤ h .right
   pub few : left ≤ by .count
   pub same : fineFrom by ib old (by .count) ≡ fineAt by ib seen closed (lowOf (eqb left (by .count)) (by .key) (h .ref)) h left
   pub search : Search ib by key h left reach
@@ -73,7 +76,6 @@ pub record Paused (ib : List ℕ) (by : Limits) (key old : List ℕ) (from : Leg
   pub stand : Stand ib by key old seen buf high p true left reach
   pub some : 0 < left
   pub few : left ≤ from .left
-  pub room : by .edge + (by .width + 2) ≤ p .right
   pub last : left ≡ 1 → closesAt (by .width) p ≡ true
 
 abbrev pub Stopped : List ℕ → Limits → List ℕ → List ℕ → Leg → List ℕ → List ℕ → List ℕ → Stop → Type 0

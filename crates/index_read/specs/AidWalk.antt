@@ -56,7 +56,7 @@ pub record Before (ib : List ℕ) (p : Place) (by : Limits) (buf : List ℕ) : T
   pub some : 1 ≤ by .width
   pub few : by .width ≤ 4
   pub inside : p .right + 7 ≤ length ib
-  pub room : by .edge + (by .width + 2) ≤ p .right
+  pub room : by .width + 2 ≤ p .right
   pub edge : by .edge < 65536
   pub whole : by .key + 8 ≤ length buf
   pub short : p .len ≤ by .key

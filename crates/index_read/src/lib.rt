@@ -115,7 +115,7 @@ pub enum Sought {
 // F is at most the length of the separator that it refers to, and the separator that F and L make has at most `key` bytes. F and L are bytes, so their sum may
 // reach 510. The caller tells whether it is the highest: so each of the two ways is compiled by itself, without a choice left in it.
 pub(crate) fn piece_at(ib: &[u8], p: Place, by: Limits, closes: bool) -> Parsed
-    requires { ⌜ (1 ≤ by .width) × (by .width ≤ 4) × (p .right ≤ length (now ib)) × (by .edge + (by .width + 2) ≤ p .right) × (by .edge < 65536) ⌝ }
+    requires { ⌜ (1 ≤ by .width) × (by .width ≤ 4) × (p .right ≤ length (now ib)) × (by .width + 2 ≤ p .right) × (by .edge < 65536) ⌝ }
     requires which { ⌜ closesAt (by .width) p ≡ closes ⌝ }
     ensures { λ x. ⌜ x ≡ parsedOf (now (ib .entry)) p by ⌝ }
 {
@@ -319,7 +319,7 @@ pub(crate) fn reach_of(key: &[u8], front: usize, chars: &[u8]) -> usize
 
 // The reach of a key past the next entry, no section's highest, whose F is below the reach before it. Of an entry that is wrong nothing is told: it ends the walk.
 pub(crate) fn look(key: &[u8], ib: &[u8], p: Place, by: Limits, reach: usize) -> usize
-    requires { ⌜ (1 ≤ by .width) × (by .width ≤ 4) × (p .right ≤ length (now ib)) × (by .edge + (by .width + 2) ≤ p .right) × (by .edge < 65536) × (length (now key) ≡ by .key) ⌝ }
+    requires { ⌜ (1 ≤ by .width) × (by .width ≤ 4) × (p .right ≤ length (now ib)) × (by .width + 2 ≤ p .right) × (by .edge < 65536) × (length (now key) ≡ by .key) ⌝ }
     requires which { ⌜ closesAt (by .width) p ≡ false ⌝ }
     ensures { λ r. ⌜ r ≡ lookOf (now (ib .entry)) p by (now (key .entry)) reach ⌝ }
 {

@@ -20,7 +20,7 @@ use Rattle.index_read.specs.AidWalk.{placesOf}
 use Rattle.index_read.specs.AidSeek.{spotIn}
 use Rattle.index_read.specs.declared.Marks.{Marks}
 use Rattle.index_read.specs.declared.Places.the-variants.{At}
-use Rattle.index_read.proofs.Judging.{no-frame, no-base, no-places, free-inside, free-few, used-some, edge-inside, edge-small, no-free, no-chain, all-fine}
+use Rattle.index_read.proofs.Judging.{no-frame, no-base, no-places, free-inside, free-few, used-some, edge-inside, edge-far, edge-small, no-free, no-chain, all-fine}
 use Rattle.index_read.proofs.judge.Statement.{statement}
 use Rattle.index_read.proofs.judge.Tie as tie
 
@@ -147,6 +147,7 @@ walk-entries-requires c κs =
         few = most v;
         large = p .0;
         inside = edge-inside (v .width-for .result) (a .key) (a .n) (now (a .ib)) (v .width-for .ensures) (frames q) (bases q) (p .4) (h .0) (h .1 .0) (places q) (p .0);
+        far = edge-far (v .width-for .result) (a .key) (a .n) (now (a .ib)) (v .width-for .ensures) (frames q) (bases q) (p .4) (h .0) (h .1 .0) (places q);
         edge = edge-small (v .width-for .result) (a .key) (a .n) (now (a .ib)) (v .width-for .ensures) (frames q) (bases q) (p .4) (h .0) (h .1 .0) (places q) (p .1);
         least = p .2;
         most = p .3;

@@ -143,7 +143,7 @@ loop-holds c =
     let q = start-from-begun j in
     let a = q .args in
     let b = begun j in (
-      start (now (a .ib)) (a .by) (now (a .key)) (now (a .seen)) (s .start .result) (j .if1 .reach) (s .start .ensures) (q .pre .0 .large) (q .pre .1) (begun-few (now (a .key)) (j .if1 .reach) b)
+      start (now (a .ib)) (a .by) (now (a .key)) (now (a .seen)) (s .start .result) (j .if1 .reach) (s .start .ensures) (q .pre .0 .large) (q .pre .0 .inside) (q .pre .1) (begun-few (now (a .key)) (j .if1 .reach) b)
           (begun-keyed (now (a .key)) (j .if1 .reach) b (a .by .key) (q .pre .0 .wanted)),
       finding-start (now (a .ib)) (a .by) (now (a .key)) (now (a .before)) (now (a .own)) (c .nowhere .result) (j .if1 .reach) b (q .pre .2) (q .pre .3),
     )
@@ -209,7 +209,7 @@ next-entry-requires c κs =
     let a = start-from-walk k .args in
     let t = paused m in
     let w = walkable k in (
-      ready (now (a .ib)) (a .by) (now (a .key)) (now (a .seen)) (x .last .0) (x .last .1 .0) (o .high) (m .before .q .given .0 .0) true (m .before .q .given .0 .1 .0) (t .reach) (t .stand) w (t .room),
+      ready (now (a .ib)) (a .by) (now (a .key)) (now (a .seen)) (x .last .0) (x .last .1 .0) (o .high) (m .before .q .given .0 .0) true (m .before .q .given .0 .1 .0) (t .reach) (t .stand) w,
       tall (now (a .ib)) (a .by) (now (a .key)) (now (a .seen)) (x .last .0) (x .last .1 .0) (o .high) (m .before .q .given .0 .0) true (m .before .q .given .0 .1 .0) (t .reach) (t .stand) (w .most),
     )
 
@@ -317,7 +317,7 @@ loop-again c =
     )
 
 ends-requires : tie.Need-ends-requires Inv-loop μ-loop
-ends-requires c κs = start-from-loop (c .before) .pre .0 .inside
+ends-requires c κs = omega (arith, start-from-loop (c .before) .pre .0 .inside)
 
 same-length-9 : tie.Need-same-length-9 Inv-loop μ-loop
 same-length-9 c = whole-before (c .before .before)

@@ -70,10 +70,6 @@ whole l = stand l .whole ∙ sym (start-from-loop l .pre .1 .stand .whole)
 more : (c : tie.After-wide Inv-loop μ-loop) → 0 < loop-from-wide c .loop .left
 more c = room-from-met (met-from-wide c) .before .loop-test .taken
 
-room : (c : tie.After-wide Inv-loop μ-loop)
-    → start-from-loop (loop-from-wide c) .args .by .edge + (start-from-loop (loop-from-wide c) .args .by .width + 2) ≤ loop-from-wide c .loop .p .right
-room c = met-from-wide c .before .if1 .left
-
 inner : (c : tie.After-wide Inv-loop μ-loop) → closesAt (start-from-loop (loop-from-wide c) .args .by .width) (loop-from-wide c .loop .p) ≡ false
 inner c = ne-eqb _ _ (c .before .before .if2 .left)
 
@@ -128,7 +124,7 @@ returns-2 c =
     let o = l .loop in
     let a = start-from-loop l .args in
     ends-top (now (a .ib)) (a .by) (now (a .key)) (now (a .seen)) (now (a .buf)) (a .from) (o .seen) (o .buf) (o .p) (o .left) (o .reach) (o .inv) (e .before .before .loop-test .taken)
-    (walkable l) (e .if1 .left) (c .if2 .taken)
+    (walkable l) (c .if2 .taken)
 
 add-wide : tie.Need-add-wide Inv-loop μ-loop
 add-wide c = omega (arith, walkable (loop-from-room (room-from-met (c .before))) .few)
@@ -157,7 +153,7 @@ look-requires c κs =
     let o = l .loop in
     let q = start-from-loop l in
     let a = q .args in (
-      sighted (now (a .ib)) (a .by) (now (a .key)) (q .pre .1 .old) (o .seen) (o .buf) (q .pre .1 .high) (o .p) (eqb (o .left) (a .from .left)) (o .left) (o .reach) (stand l) (walkable l) (room v)
+      sighted (now (a .ib)) (a .by) (now (a .key)) (q .pre .1 .old) (o .seen) (o .buf) (q .pre .1 .high) (o .p) (eqb (o .left) (a .from .left)) (o .left) (o .reach) (stand l) (walkable l)
           (omega (arith, c .if3 .taken)),
       inner v,
     )
@@ -184,7 +180,7 @@ returns-4 c =
     let o = l .loop in
     let a = start-from-loop l .args in
     ends-found (now (a .ib)) (a .by) (now (a .key)) (now (a .seen)) (now (a .buf)) (a .from) (o .seen) (o .buf) (o .p) (o .left) (o .reach) (o .inv) (more v) (walkable l)
-    (room v) (c .if5 .left)
+    (c .if5 .left)
 
 next-inner-requires : tie.Need-next-inner-requires Inv-loop μ-loop
 next-inner-requires c κs =
@@ -193,7 +189,7 @@ next-inner-requires c κs =
     let o = l .loop in
     let q = start-from-loop l in
     let a = q .args in
-    (ready (now (a .ib)) (a .by) (now (a .key)) (q .pre .1 .old) (o .seen) (o .buf) (q .pre .1 .high) (o .p) (eqb (o .left) (a .from .left)) (o .left) (o .reach) (stand l) (walkable l) (room v), inner v)
+    (ready (now (a .ib)) (a .by) (now (a .key)) (q .pre .1 .old) (o .seen) (o .buf) (q .pre .1 .high) (o .p) (eqb (o .left) (a .from .left)) (o .left) (o .reach) (stand l) (walkable l), inner v)
 
 enum-known-s : tie.Need-enum-known-s Inv-loop μ-loop
 enum-known-s c = search needs
