@@ -14,7 +14,7 @@ ghost use Rattle.index.specs.Rules.{baseFine};
 ghost use Rattle.index.specs.Reading.{numbersAt, frame};
 ghost use Rattle.index_read.specs.Check.{indexOf, Seeks, SpotWithin};
 ghost use Rattle.index_read.specs.AidParsing.{closesAt, parsedOf};
-ghost use Rattle.index_read.specs.AidWalk.{Ascends, placesOf, Before, entryOf, Taken, marking, seenAfter, emptyMarks, fineFrom};
+ghost use Rattle.index_read.specs.AidWalk.{Ascends, placesOf, Before, entryOf, Taken, marking, seenAfter, emptyMarks, fineFrom, walkedFine};
 ghost use Rattle.index_read.specs.AidSeek.{reachOf, lookOf, noSpot, spotIn, FoundBy};
 ghost use Rattle.index_read.specs.AidStand.{Walkable, Stand, Stood, Stopped};
 ghost use Rattle.index_read.specs.AidJudged.{JudgedAs};
@@ -33,8 +33,8 @@ pub struct Spot {
     pub own: usize,
 }
 
-// Which interval numbers were met, how many of them as free and by entries, whether all that was met kept the rules, and where the key leads that was sought. One
-// struct goes through both walks; their loops have its marks lent, so that nothing is copied within a walk.
+// Which interval numbers were met, how many of them as free and by entries, whether all that was met kept the rules, and where the key leads that was sought. The
+// struct goes through the walk, whose loops have its marks lent.
 pub(crate) struct Marks {
     pub seen: [u8; LIMIT],
     pub used: usize,
@@ -411,20 +411,6 @@ pub(crate) fn mark_free(seen: &mut [u8; LIMIT], ib: &[u8], w: usize, count: usiz
     true
 }
 
-// The walk over the free numbers.
-pub(crate) fn walk_free(marks: Marks, ib: &[u8], w: usize, count: usize, n: usize) -> Marks
-    requires { ⌜ (1 ≤ w) × (w ≤ 4) × (24 + w * count ≤ length (now ib)) × (n ≤ limit) ⌝ }
-    ensures sound { λ r. ⌜ r .ok ≡ marking n (marks .seen) (numbersAt w (now (ib .entry)) 24 count) ⌝ }
-    ensures marks { λ r. ⌜ (r .ok ≡ true → r .seen ≡ seenAfter (marks .seen) (numbersAt w (now (ib .entry)) 24 count)) ⌝ }
-    ensures counts { λ r. ⌜ (r .free ≡ count) × (r .used ≡ marks .used) ⌝ }
-{
-    let mut m = marks;
-    let ok = mark_free(&mut m.seen, ib, w, count, n);
-    m.ok = ok;
-    m.free = count;
-    m
-}
-
 // Walks the entries of a section leftwards up to its highest, or to the one that the key leads to, and marks their numbers. Of `left` entries the last must close
 // a section, so that one must be met. These are nearly all entries, and their loop has nothing else in it: what it needs stays in registers.
 pub(crate) fn walk_inner(
@@ -548,8 +534,8 @@ pub(crate) fn mark_entries(
     }
 }
 
-// The walk over the entries.
-pub(crate) fn walk_entries(
+// The walk over the free numbers, and then over the entries. The struct with the marks goes through both at once: so nothing of them is copied.
+pub(crate) fn walk(
     marks: Marks,
     ib: &[u8],
     by: Limits,
@@ -558,15 +544,22 @@ pub(crate) fn walk_entries(
     own: &mut [u8],
 ) -> Marks
     requires { ⌜ Walkable (now ib) by (now key) × (0 < by .count) × (length (now before) ≡ 263) × (length (now own) ≡ 263) ⌝ }
-    ensures sound { λ r. ⌜ r .ok ≡ fineFrom by (now (ib .entry)) (marks .seen) (by .count) ⌝ }
+    requires free { ⌜ (by .count ≤ by .n) × (24 + by .width * (by .n - by .count) ≤ length (now ib)) ⌝ }
+    ensures sound { λ r. ⌜ r .ok ≡ walkedFine by (now (ib .entry)) (marks .seen) ⌝ }
     ensures found { λ r. ⌜ (0 < length (now (key .entry)) → r .ok ≡ true → FoundBy (by .width) (by .count) (now (ib .entry)) (now (key .entry)) (spotIn r) (now (before .exit)) (now (own .exit))) ⌝ }
-    ensures counts { λ r. ⌜ (r .free ≡ marks .free) × (r .used ≡ by .count) ⌝ }
+    ensures counts { λ r. ⌜ (r .free ≡ by .n - by .count) × (r .used ≡ by .count) ⌝ }
 {
+    let free = by.n - by.count;
     let mut m = marks;
+    m.free = free;
+    m.used = by.count;
+    m.ok = false;
+    if !mark_free(&mut m.seen, ib, by.width, free, by.n) {
+        return m;
+    }
     let walked = mark_entries(&mut m.seen, ib, by, key, before, own);
     let spot = walked.spot;
     m.ok = walked.ok;
-    m.used = by.count;
     m.ordinal = spot.ordinal;
     m.number = spot.number;
     m.before = spot.before;
@@ -680,10 +673,6 @@ pub(crate) fn judge(
     let Places::At { free, edge } = placed(ib, w, n) else {
         return Verdict::Unsound;
     };
-    let f = walk_free(fresh(), ib, w, free, n);
-    if !f.ok {
-        return Verdict::Unsound;
-    }
     let count = n - free;
     let by = Limits {
         width: w,
@@ -692,7 +681,7 @@ pub(crate) fn judge(
         count: count,
         key: key,
     };
-    let e = walk_entries(f, ib, by, wanted, before, own);
+    let e = walk(fresh(), ib, by, wanted, before, own);
     if !e.ok {
         return Verdict::Unsound;
     }
