@@ -127,9 +127,9 @@ pub passes : (ib : List ℕ) (p : Place) (by : Limits) (s : Step) → Good ib p 
     → (s .front + s .len ≤ 510) × (s .at ≤ length ib) × (pick (s .closes) 2 0 ≤ s .at)
 passes ib p by s g inside most = (omega (arith, g .fits), omega (arith, g .at-is), omega (arith, g .at-is, g .room))
 
--- ---- a number that a test chose
+-- ---- what a test chose
 
-pub chosen : (t : Bool) (x a b : ℕ) → ((t ≡ true) × (x ≡ a)) ⊎ ((t ≡ false) × (x ≡ b)) → x ≡ pick t a b
+pub chosen : {A : Type 0} (t : Bool) (x a b : A) → ((t ≡ true) × (x ≡ a)) ⊎ ((t ≡ false) × (x ≡ b)) → x ≡ pick t a b
 chosen t x a b h = ⊎-elim (λ (q : (t ≡ true) × (x ≡ a)). rw (q .0) (q .1)) (λ (q : (t ≡ false) × (x ≡ b)). rw (q .0) (q .1)) h
 
 pub two-most : (t : Bool) → pick t 2 0 ≤ 2

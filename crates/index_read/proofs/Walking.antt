@@ -28,7 +28,7 @@ use Rattle.index_step.proofs.Passing.{held-on}
 use Rattle.index_step.proofs.Stepping.{held-start}
 use Rattle.index_read.specs.AidParsing.{closesAt, parses}
 use Rattle.index_read.specs.AidWalk.{boundRises, Before, nextIn, entryOf, Taken, chain, marking, fineFrom}
-use Rattle.index_read.specs.AidSeek.{reachOf, reachPast, lookOf, Search}
+use Rattle.index_read.specs.AidSeek.{reachOf, reachPast, lookOf, aimOf, Search}
 use Rattle.index_read.specs.AidStand.{Walkable, fineAt, lowOf, Stand, Paused, Stopped}
 use Rattle.index_read.specs.declared.Leg.{Leg}
 use Rattle.index_read.specs.declared.Limits.{Limits}
@@ -38,7 +38,7 @@ use Rattle.index_read.specs.declared.Stop.{Stop}
 use Rattle.index_read.specs.declared.Stop.the-variants.{At, Wrong}
 use Rattle.index_read.proofs.Entry.{Good, good, passes, parses-joined}
 use Rattle.index_read.proofs.Next.{closes-is, entry-good, entry-bad, taken-of}
-use Rattle.index_read.proofs.Reaching.{search-start, search-skip, search-look, search-turn, not-sought-at-end}
+use Rattle.index_read.proofs.Reaching.{Above, Aims, aims-top, aims-inner, search-start, search-on, search-skip, search-look, not-sought-at-end}
 
 -- ---- the tests, entry by entry
 
@@ -239,13 +239,6 @@ sought-reached ib p by key reach r x some =
     ⊎-elim (λ (y : (frontAt (by .width) ib (p .right) < reach) × (r ≡ lookOf ib p by key reach) × (0 < r)). omega (arith, y .0))
     (λ (y : (reach ≤ frontAt (by .width) ib (p .right)) × (r ≡ reach)). omega (arith, y .1, some)) x
 
-pick-sought : (was x : ℕ) → 0 < pick (ltb 0 was) x 0 → 0 < was
-pick-sought was x = go (ltb 0 was) refl
-  where
-    go : (t : Bool) → ltb 0 was ≡ t → 0 < pick t x 0 → 0 < was
-    go true e h = ltb-true 0 was e
-    go false e h = absurd (omega arith)
-
 -- ---- the next entry, by the place and the buffers and by the entries
 
 module _ (by : Limits) (ib : List ℕ) (h : Here) (p : Place) (buf high : List ℕ) (held : Held h p buf high) where
@@ -425,7 +418,7 @@ module _ (ib : List ℕ) (by : Limits) (key old seen buf high : List ℕ) (p : P
       fine : separator K sep' ≡ true
       fine = ap (λ (x : List ℕ). separator K x) (sym (nexts front)) ∙ entry-good ib p by (eqb left count) buf high s entry .2
 
-      pub sep-fits : length sep' ≤ K
+      sep-fits : length sep' ≤ K
       sep-fits = separator-short K sep' fine
 
       rising : less low (bound K sep') ≡ true
@@ -446,16 +439,39 @@ module _ (ib : List ℕ) (by : Limits) (key old seen buf high : List ℕ) (p : P
           let c : s .closes ≡ part' .closes = ap (λ (y : Step). y .closes) steps in
           st .same ∙ fine-on by ib seen low h' closed left more x ∙ rw (← num-is, ← c)
 
+      closing : (t : Bool) → closesAt w' p ≡ t → part' .closes ≡ t
+      closing t e = sym (ap (λ (x : Step). x .closes) steps) ∙ closes-is ib p by s (entry-good ib p by (eqb left count) buf high s entry .0) t e
+
+      looks : (z : ℕ) → lookOf ib p by key z ≡ reachOf key F' (part' .piece .chars)
+      looks z = ap (λ (x : Parsed). reachPast ib key z x) (entry-good ib p by (eqb left count) buf high s entry .0) ∙ rw steps
+
+      -- the reach past it, if a walk over its section's entries stopped before it; `was` is that past the highest of the section before
+      pub aims : (was : ℕ) → Above key (h' .high) was → (closesAt w' p ≡ false → (frontAt w' ib (p .right) < reach) × (0 ≡ lookOf ib p by key reach))
+          → (r : ℕ) → r ≡ aimOf ib p by key was → Aims key sep' was r
+      unfolding aimOf
+      aims was above found r is = go (closesAt w' p) refl is
+        where
+          go : (t : Bool) → closesAt w' p ≡ t → r ≡ pick (both (ltb 0 was) t) (pick (ltb (frontAt w' ib (p .right)) was) (lookOf ib p by key was) was) 0 → Aims key sep' was r
+          go true e q =
+              let c : part' .closes ≡ true = closing true e in
+              let f : F' ≤ length (h' .high) = rw c at front in
+              let f-is : frontAt w' ib (p .right) ≡ F' = ap (λ (x : ℕ). frontAt w' ib x) (st .held .right) in
+              rw c (aims-top key (h' .high) (part' .piece .chars) F' was r f above (frontAt w' ib (p .right)) (lookOf ib p by key was) f-is (looks was) q)
+          go false e q =
+              let c : part' .closes ≡ false = closing false e in
+              let f : F' ≤ length (h' .ref) = rw c at front in
+              let n : r ≡ 0 = q ∙ rw (both-false (ltb 0 was)) in
+              let x = found e in
+              let u : F' < reach = rw (st .held .right) at (x .0) in
+              rw c (aims-inner key (h' .ref) (part' .piece .chars) F' reach was r u f (st .search .same (omega (arith, u))) (x .1 ∙ looks reach) n)
+
       -- the key past it, with the reach that a look at it gives
       module _ (inner : closesAt w' p ≡ false) where
         unclosed : part' .closes ≡ false
-        unclosed = sym (ap (λ (x : Step). x .closes) steps) ∙ closes-is ib p by s (entry-good ib p by (eqb left count) buf high s entry .0) false inner
+        unclosed = closing false inner
 
         front-inner : F' ≤ length (h' .ref)
         front-inner = rw unclosed at front
-
-        looks : lookOf ib p by key reach ≡ reachOf key F' (part' .piece .chars)
-        looks = ap (λ (x : Parsed). reachPast ib key reach x) (entry-good ib p by (eqb left count) buf high s entry .0) ∙ rw steps
 
         pub reached : (r : ℕ) → Reached ib p by key reach r → Search ib by key (hereNext w' ib h') (left - 1) r
         reached r x =
@@ -465,7 +481,7 @@ module _ (ib : List ℕ) (by : Limits) (key old seen buf high : List ℕ) (p : P
             looked : (frontAt w' ib (p .right) < reach) × (r ≡ lookOf ib p by key reach) × (0 < r) → Search ib by key (hereNext w' ib h') (left - 1) r
             looked y =
                 let f : F' < reach = rw (st .held .right) at (y .0) in
-                search-look ib by key h' left reach (st .search) more unclosed f front-inner r (y .1 ∙ looks) (y .2)
+                search-look ib by key h' left reach (st .search) more unclosed f front-inner r (y .1 ∙ looks reach) (y .2)
 
             skipped : (reach ≤ frontAt w' ib (p .right)) × (r ≡ reach) → Search ib by key (hereNext w' ib h') (left - 1) r
             skipped y =
@@ -498,21 +514,32 @@ module _ (ib : List ℕ) (by : Limits) (key old seen buf high : List ℕ) (p : P
             }
 
         -- one turn of the walk over all entries; by `was` it tells whether a key is sought
-        pub turned : (was : ℕ) → (0 < was → 0 < reach) → (r : ℕ) → r ≡ pick (ltb 0 was) (reachOf key 0 (take (p' .len) buf')) 0
+        pub turned : (was : ℕ) → (0 < was → 0 < reach) → (r : ℕ) → Aims key sep' was r
             → s .number < by .n → getD seen (s .number) 0 ≡ 0 → (left ≡ 1 → closesAt w' p ≡ true) → Stand ib by key old (set seen (s .number) 1) buf' high' p' true (left - 1) r
-        turned was sought r is k z last = go (eqb left 1) refl
+        turned was sought r aim k z last = go (eqb left 1) refl
           where
-            is' : r ≡ pick (ltb 0 was) (reachOf key 0 sep') 0
-            is' = is ∙ ap (λ (x : List ℕ). pick (ltb 0 was) (reachOf key 0 x) 0) (held-past .ref)
+            still : 0 < r → 0 < reach
+            still y = sought (aim .still y)
 
             on : Stand ib by key old (set seen (s .number) 1) buf' high' p' (s .closes) (left - 1) r
-            on = onward r (search-turn ib by key h' left reach (st .search) more was sought r is') (λ (y : 0 < r). sought (pick-sought was (reachOf key 0 sep') (rw is' at y))) k z
+            on = onward r (search-on ib by key h' left reach (st .search) more r still (aim .on)) still k z
 
             go : (t : Bool) → eqb left 1 ≡ t → Stand ib by key old (set seen (s .number) 1) buf' high' p' true (left - 1) r
             go true e =
                 let c : s .closes ≡ true = closes-is ib p by s (entry-good ib p by (eqb left count) buf high s entry .0) true (last (eqb-true left 1 e)) in
                 rw c at on
             go false e = reclosed ib by key old (set seen (s .number) 1) buf' high' p' (s .closes) true (left - 1) r (omega (arith, eqb-false left 1 e, more)) on
+
+        -- while the key is sought past it, it is the highest of the section before the next entry
+        pub topped : (was r : ℕ) → Aims key sep' was r → (0 < r → closesAt w' p ≡ true) → Above key (take (p' .high) high') r
+        topped was r aim top =
+            record {
+              same = λ (x : 0 < r). ap (λ (y : List ℕ). take (r - 1) y) (is x) ∙ aim .on x .same;
+              ahead = λ (x : 0 < r) (y : r ≤ length (take (p' .high) high')). rw (is x) (aim .on x .ahead);
+            }
+          where
+            is : 0 < r → take (p' .high) high' ≡ sep'
+            is x = let c : part' .closes ≡ true = closing true (top x) in held-past .top ∙ rw c
 
   -- ---- the end
 
@@ -553,17 +580,26 @@ module _ (ib : List ℕ) (by : Limits) (key old seen buf high : List ℕ) (p : P
 
 -- ---- the walk over a section's entries
 
--- How far it has come from its own start: whatever walk stood there stands here now; past an entry that closed no section, unless it still is at its start. A key
--- that was sought still is.
+past-inner : (ib : List ℕ) (s : Step) (p : Place) → s .closes ≡ false → placePast ib s p .high ≡ p .high
+past-inner ib s p c = rw c
+
+-- How far it has come from its own start: whatever walk stood there stands here now, with the same highest of the section before; past an entry that closed no
+-- section, unless it still is at its start. A key that was sought still is.
 pub record Along (ib : List ℕ) (by : Limits) (key seen₀ buf₀ : List ℕ) (from : Leg) (seen buf : List ℕ) (p : Place) (left reach : ℕ) : Type 0 where
   pub few : left ≤ from .left
   pub still : 0 < from .reach → 0 < reach
   pub goes : (old high : List ℕ) → Stand ib by key old seen₀ buf₀ high (from .p) true (from .left) (from .reach)
       → Stand ib by key old seen buf high p (eqb left (from .left)) left reach
+  pub above : (old high : List ℕ) → Stand ib by key old seen₀ buf₀ high (from .p) true (from .left) (from .reach) → p .high ≡ from .p .high
 
 pub set-out : (ib : List ℕ) (by : Limits) (key seen buf : List ℕ) (from : Leg) → Along ib by key seen buf from seen buf (from .p) (from .left) (from .reach)
 set-out ib by key seen buf from =
-    record { few = omega arith; still = λ (x : 0 < from .reach). x; goes = λ (old high : List ℕ) st. rw (eq-eqb (from .left) (from .left) refl) st }
+    record {
+      few = omega arith;
+      still = λ (x : 0 < from .reach). x;
+      goes = λ (old high : List ℕ) st. rw (eq-eqb (from .left) (from .left) refl) st;
+      above = λ (old high : List ℕ) st. refl;
+    }
 
 module _ (ib : List ℕ) (by : Limits) (key seen₀ buf₀ : List ℕ) (from : Leg) (seen buf : List ℕ) (p : Place) (left reach : ℕ)
     (g : Along ib by key seen₀ buf₀ from seen buf p left reach) (some : 0 < left) (wk : Walkable ib by key) where
@@ -580,8 +616,9 @@ module _ (ib : List ℕ) (by : Limits) (key seen₀ buf₀ : List ℕ) (from : L
   pub ends-last : (seen' buf' : List ℕ) → left ≡ 1 → closesAt (by .width) p ≡ false → Ends seen' buf' Wrong
   ends-last seen' buf' one which = λ old high st. last-open ib by key old seen buf high p (eqb left more) left reach (g .goes old high st) one which
 
-  pauses : (left ≡ 1 → closesAt (by .width) p ≡ true) → Ends seen buf (At p left)
-  pauses last = λ old high st.
+  pauses : (left ≡ 1 → closesAt (by .width) p ≡ true)
+      → (closesAt (by .width) p ≡ false → (frontAt (by .width) ib (p .right) < reach) × (0 ≡ lookOf ib p by key reach)) → Ends seen buf (At p left)
+  pauses last here = λ old high st.
       record {
         reach = reach;
         still = g .still;
@@ -589,13 +626,19 @@ module _ (ib : List ℕ) (by : Limits) (key seen₀ buf₀ : List ℕ) (from : L
         some = some;
         few = g .few;
         last = last;
+        above = g .above old high st;
+        here = here;
       }
 
   pub ends-top : p .right - (by .width + 2) ≡ p .end → Ends seen buf (At p left)
-  ends-top z = pauses (λ (x : left ≡ 1). eq-eqb (p .right - (by .width + 2)) (p .end) z)
+  ends-top z =
+      let c : closesAt (by .width) p ≡ true = eq-eqb (p .right - (by .width + 2)) (p .end) z in
+      pauses (λ (x : left ≡ 1). c) (λ (x : closesAt (by .width) p ≡ false). absurd (false-true (sym x ∙ c)))
 
-  pub ends-found : (left ≡ 1 → ⊥) → Ends seen buf (At p left)
-  ends-found z = pauses (λ (x : left ≡ 1). absurd (z x))
+  -- f is the entry's F, l what a look at it gave
+  pub ends-found : (left ≡ 1 → ⊥) → (f l : ℕ) → f ≡ frontAt (by .width) ib (p .right) → f < reach → l ≡ lookOf ib p by key reach → l ≡ 0 → Ends seen buf (At p left)
+  ends-found z f l f-is under l-is none =
+      pauses (λ (x : left ≡ 1). absurd (z x)) (λ (x : closesAt (by .width) p ≡ false). (omega (arith, under, f-is), sym none ∙ l-is))
 
   abbrev Answers : Parsed → Type 0
   Answers x = (high : List ℕ) → by .key + 8 ≤ length high → x ≡ entryOf ib p by (eqb left (by .count)) buf high
@@ -630,6 +673,9 @@ module _ (ib : List ℕ) (by : Limits) (key seen₀ buf₀ : List ℕ) (from : L
     -- and one turn
     module _ (buf' : List ℕ) (renewed : (high : List ℕ) → by .key + 8 ≤ length high → Taken ib buf high buf' high x) (long : length buf' ≡ length buf) (p' : Place)
         (past : p' ≡ placePast ib s p) (inner : closesAt (by .width) p ≡ false) (r : ℕ) (new : Reached ib p by key reach r) where
+      stays-open : (old high : List ℕ) → Stand ib by key old seen buf high p (eqb left more) left reach → s .closes ≡ false
+      stays-open old high t = closes-is ib p by s (entry-good ib p by (eqb left (by .count)) buf high s (entry old high t) .0) false inner
+
       pub goes-on : s .number < by .n → getD seen (s .number) 0 ≡ 0 → Along ib by key seen₀ buf₀ from (set seen (s .number) 1) buf' p' (left - 1) r
       goes-on k z =
           record {
@@ -639,11 +685,12 @@ module _ (ib : List ℕ) (by : Limits) (key seen₀ buf₀ : List ℕ) (from : L
                 let t = g .goes old high st in
                 let tl = tall ib by key old seen buf high p (eqb left more) left reach t (wk .most) in
                 let e = entry old high t in
-                let c : s .closes ≡ false = closes-is ib p by s (entry-good ib p by (eqb left (by .count)) buf high s e .0) false inner in
                 let u : eqb (left - 1) more ≡ false = ne-eqb (left - 1) more (omega (arith, g .few, some)) in
                 let y = onward ib by key old seen buf high p (eqb left more) left reach t some (wk .least) s e buf' high (taken-of ib buf high buf' high x s good' (renewed high tl)) long refl p'
                 past (wk .most) r (reached ib by key old seen buf high p (eqb left more) left reach t some (wk .least) s e inner r new) (sought-reached ib p by key reach r new) k z in
-                rw u (rw c at y);
+                rw u (rw (stays-open old high t) at y);
+            above = λ (old high : List ℕ) st.
+                ap (λ (x : Place). x .high) past ∙ past-inner ib s p (stays-open old high (g .goes old high st)) ∙ g .above old high st;
           }
 
 -- at its end no entry is left, and none closed a section
@@ -661,3 +708,15 @@ stopped-wrong ib by key old from seen buf high r e t = rw e at t
 pub stopped-at : (ib : List ℕ) (by : Limits) (key old : List ℕ) (from : Leg) (seen buf high : List ℕ) (r : Stop) (p : Place) (left : ℕ) → r ≡ At p left
     → Stopped ib by key old from seen buf high r → Paused ib by key old from seen buf high p left
 stopped-at ib by key old from seen buf high r p left e t = rw e at t
+
+-- for the look at the entry before which it stopped
+pub aimable : (ib : List ℕ) (by : Limits) (key old : List ℕ) (from : Leg) (seen buf high : List ℕ) (p : Place) (left : ℕ) → Paused ib by key old from seen buf high p left → Walkable ib by key
+    → (1 ≤ by .width) × (by .width ≤ 4) × (p .right ≤ length ib) × (by .width + 2 ≤ p .right) × (by .edge < 65536) × (0 < from .reach → length key ≡ by .key)
+aimable ib by key old from seen buf high p left t w = (
+  w .some,
+  w .few,
+  omega (arith, within ib by key old seen buf high p true left (t .reach) (t .stand)),
+  roomy ib by key old seen buf high p true left (t .reach) (t .stand) w,
+  w .edge,
+  λ (x : 0 < from .reach). t .stand .keyed (t .still x),
+)

@@ -11,9 +11,10 @@ use Rattle.measures.specs.Judgement.{limit}
 use Rattle.index.specs.Bounds.{bound, separator}
 use Rattle.sections.specs.Reading.{partsAt}
 use Rattle.index_step.specs.declared.Place.{Place}
+use Rattle.index_step.specs.AidStep.{frontAt}
 use Rattle.index_step.specs.AidEntries.{Here, Held}
 use Rattle.index_read.specs.AidParsing.{closesAt}
-use Rattle.index_read.specs.AidSeek.{Search}
+use Rattle.index_read.specs.AidSeek.{lookOf, Search}
 use Rattle.index_read.specs.AidWalk.{chain, partNumbers, marking, fineFrom}
 use Rattle.index_read.specs.declared.Limits.{Limits}
 use Rattle.index_read.specs.declared.Leg.{Leg}
@@ -69,7 +70,8 @@ pub record Stood (ib : List ℕ) (by : Limits) (key seen buf : List ℕ) (from :
   pub stand : Stand ib by key old seen buf high (from .p) true (from .left) (from .reach)
 
 -- where the walk over a section's entries ends: before its highest or the entry sought, or because the record isn't fine. The key is still sought if it was
--- before, with whatever reach; and the last entry of all is a section's highest, wherever the key leads.
+-- before, with whatever reach; and the last entry of all is a section's highest, wherever the key leads. The highest of the section before stays the same, and an
+-- entry that is no section's highest is the one sought: a look at it told so.
 pub record Paused (ib : List ℕ) (by : Limits) (key old : List ℕ) (from : Leg) (seen buf high : List ℕ) (p : Place) (left : ℕ) : Type 0 where
   pub reach : ℕ
   pub still : 0 < from .reach → 0 < reach
@@ -77,6 +79,8 @@ pub record Paused (ib : List ℕ) (by : Limits) (key old : List ℕ) (from : Leg
   pub some : 0 < left
   pub few : left ≤ from .left
   pub last : left ≡ 1 → closesAt (by .width) p ≡ true
+  pub above : p .high ≡ from .p .high
+  pub here : closesAt (by .width) p ≡ false → (frontAt (by .width) ib (p .right) < reach) × (0 ≡ lookOf ib p by key reach)
 
 abbrev pub Stopped : List ℕ → Limits → List ℕ → List ℕ → Leg → List ℕ → List ℕ → List ℕ → Stop → Type 0
 Stopped ib by key old from seen buf high Wrong = false ≡ fineFrom by ib old (by .count)

@@ -5,7 +5,7 @@ ghost use mathlib.Core.Bool.{true, false};
 ghost use mathlib.Core.List.{List};
 ghost use mathlib.Core.Logic.{_⊎_};
 ghost use lib.ListN.{length, getD, take};
-ghost use lib.Dec.{eqb, ltb};
+ghost use lib.Dec.{eqb};
 ghost use Rattle.fields.specs.Choice.{pick, both};
 ghost use Rattle.fields.specs.Bytes.{part, number};
 ghost use Rattle.measures.specs.Judgement.{limit};
@@ -15,7 +15,7 @@ ghost use Rattle.index.specs.Reading.{numbersAt, frame};
 ghost use Rattle.index_read.specs.Check.{indexOf, Seeks, SpotWithin};
 ghost use Rattle.index_read.specs.AidParsing.{closesAt, parsedOf};
 ghost use Rattle.index_read.specs.AidWalk.{Ascends, placesOf, Before, entryOf, Taken, marking, seenAfter, emptyMarks, fineFrom, walkedFine};
-ghost use Rattle.index_read.specs.AidSeek.{reachOf, lookOf, noSpot, spotIn, FoundBy};
+ghost use Rattle.index_read.specs.AidSeek.{reachOf, lookOf, aimOf, noSpot, spotIn, FoundBy};
 ghost use Rattle.index_read.specs.AidStand.{Walkable, Stand, Stood, Stopped};
 ghost use Rattle.index_read.specs.AidJudged.{JudgedAs};
 use fields::Order;
@@ -331,33 +331,39 @@ pub(crate) fn look(key: &[u8], ib: &[u8], p: Place, by: Limits, reach: usize) ->
     reach_of(key, s.front, &ib[a..z])
 }
 
-// While a key is sought: the first `len` bytes of buf, at the front of another buffer. Behind them may stand anything.
-pub(crate) fn keep(to: &mut [u8], buf: &[u8], len: usize, reach: usize)
-    requires { ⌜ (len ≤ 255) × (263 ≤ length (now to)) × (263 ≤ length (now buf)) ⌝ }
-    ensures { λ _. ⌜ now (to .exit) ≡ pick (ltb 0 reach) (copiedFrom (now (buf .entry)) len (now (to .entry))) (now (to .entry)) ⌝ }
-{
-    if reach == 0 {
-        return;
-    }
-    index_step::extend(to, 0, buf, 0, len);
-}
-
-// While a key is sought: its reach past the separator with which buf begins.
-pub(crate) fn reach_past(key: &[u8], buf: &[u8], len: usize, reach: usize) -> usize
-    requires { ⌜ (len ≤ length (now buf)) × (0 < reach → len ≤ length (now key)) ⌝ }
-    ensures { λ r. ⌜ r ≡ pick (ltb 0 reach) (reachOf (now (key .entry)) 0 (take len (now (buf .entry)))) 0 ⌝ }
+// The reach of a key past the entry before which a walk over a section's entries stopped, 0 where the key leads to it. `reach` is that past the highest of the section
+// before, to which F of a section's highest refers; the walk stopped before any other because the key leads to it.
+pub(crate) fn aimed(key: &[u8], ib: &[u8], p: Place, by: Limits, reach: usize) -> usize
+    requires { ⌜ (1 ≤ by .width) × (by .width ≤ 4) × (p .right ≤ length (now ib)) × (by .width + 2 ≤ p .right) × (by .edge < 65536) × (0 < reach → length (now key) ≡ by .key) ⌝ }
+    ensures { λ r. ⌜ r ≡ aimOf (now (ib .entry)) p by (now (key .entry)) reach ⌝ }
 {
     if reach == 0 {
         return 0;
     }
-    reach_of(key, 0, &buf[..len])
+    let c = p.right - (by.width + 2);
+    if c != p.end {
+        return 0;
+    }
+    if reach <= fields::wide(ib[c]) {
+        return reach;
+    }
+    let Parsed::Of(s) = piece_at(ib, p, by, true) else {
+        return reach;
+    };
+    let a = s.at;
+    let z = a + s.len;
+    reach_of(key, s.front, &ib[a..z])
 }
 
-// While a key is sought, the entry just met; afterwards the one that was found.
-pub(crate) fn met(found: Spot, now: Spot, reach: usize) -> Spot
-    ensures { λ r. ⌜ r ≡ pick (ltb 0 reach) now found ⌝ }
+// Where the key's entry is met: the first `len` bytes of buf, at the front of another buffer. Behind them may stand anything.
+pub(crate) fn keep(to: &mut [u8], buf: &[u8], len: usize, meets: bool)
+    requires { ⌜ (len ≤ 255) × (263 ≤ length (now to)) × (263 ≤ length (now buf)) ⌝ }
+    ensures { λ _. ⌜ now (to .exit) ≡ pick meets (copiedFrom (now (buf .entry)) len (now (to .entry))) (now (to .entry)) ⌝ }
 {
-    if reach == 0 { found } else { now }
+    if !meets {
+        return;
+    }
+    index_step::extend(to, 0, buf, 0, len);
 }
 
 // No entry met yet.
@@ -504,7 +510,9 @@ pub(crate) fn mark_entries(
         let Stop::At { p: q, left: l } = walk_inner(seen, &mut buf, ib, key, leg, by) else {
             return Walked { ok: false, spot };
         };
-        keep(before, &buf, q.len, reach);
+        let aim = aimed(key, ib, q, by, reach);
+        let meets = if reach == 0 { false } else { aim == 0 };
+        keep(before, &buf, q.len, meets);
         let Parsed::Of(s) = next_entry(&mut buf, &mut high, l == by.count, ib, q, by) else {
             return Walked { ok: false, spot };
         };
@@ -518,15 +526,16 @@ pub(crate) fn mark_entries(
         seen[number] = 1;
         p = index_step::past(ib, s, q);
         left = l - 1;
-        let here = Spot {
-            ordinal: by.count - l,
-            number,
-            before: q.len,
-            own: p.len,
-        };
-        spot = met(spot, here, reach);
-        keep(own, &buf, p.len, reach);
-        reach = reach_past(key, &buf, p.len, reach);
+        if meets {
+            spot = Spot {
+                ordinal: by.count - l,
+                number,
+                before: q.len,
+                own: p.len,
+            };
+        }
+        keep(own, &buf, p.len, meets);
+        reach = aim;
     }
     Walked {
         ok: ends(ib, p, by),

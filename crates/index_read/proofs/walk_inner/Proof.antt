@@ -179,8 +179,9 @@ returns-4 c =
     let l = loop-from-wide v in
     let o = l .loop in
     let a = start-from-loop l .args in
+    let k = c .before .before in
     ends-found (now (a .ib)) (a .by) (now (a .key)) (now (a .seen)) (now (a .buf)) (a .from) (o .seen) (o .buf) (o .p) (o .left) (o .reach) (o .inv) (more v) (walkable l)
-    (c .if5 .left)
+    (c .if5 .left) (v .wide .result) (k .look .result) (v .wide .ensures .0) (k .before .if3 .taken) (k .look .ensures) (c .before .if4 .taken)
 
 next-inner-requires : tie.Need-next-inner-requires Inv-loop μ-loop
 next-inner-requires c κs =
