@@ -13,7 +13,7 @@ use Rattle.fields.proofs.Choices.{false-true}
 use Rattle.index_step.specs.declared.Place.{Place}
 use Rattle.index_step.specs.declared.Step.{Step}
 use Rattle.index_step.specs.AidStep.{placePast, copiedFrom, Renewed}
-use Rattle.index_step.specs.AidEntries.{Here, sepHere, hereNext, Held}
+use Rattle.index_step.specs.AidEntries.{Here, partHere, sepHere, hereNext, Held}
 use Rattle.index_step.proofs.Reaching.{reach-most, extended-chars, extended-length}
 use Rattle.index_read.specs.AidWalk.{entryOf, fineFrom}
 use Rattle.index_read.specs.AidSeek.{aimOf, FoundBy}
@@ -114,11 +114,14 @@ module _ {ib : List ℕ} {by : Limits} {key old : List ℕ} {from : Leg} {seen b
   abbrev st : Stand ib by key old seen buf high p true left (t .paused .reach)
   st = t .paused .stand
 
+  number-is : s .number ≡ partHere (by .width) ib (st .h) .piece .num
+  number-is = num-is ib by key old seen buf high p true left (t .paused .reach) st (t .paused .some) (t .walkable .least) s (t .entry)
+
   pub turn-big : by .n ≤ s .number → false ≡ fineFrom by ib old (by .count)
-  turn-big = too-big ib by key old seen buf high p true left (t .paused .reach) st (t .paused .some) (t .walkable .least) s (t .entry)
+  turn-big = too-big ib by key old seen buf high p true left (t .paused .reach) st (t .paused .some) (t .walkable .least) (s .number) number-is
 
   pub turn-again : (getD seen (s .number) 0 ≡ 0 → ⊥) → false ≡ fineFrom by ib old (by .count)
-  turn-again = again ib by key old seen buf high p true left (t .paused .reach) st (t .paused .some) (t .walkable .least) s (t .entry)
+  turn-again = again ib by key old seen buf high p true left (t .paused .reach) st (t .paused .some) (t .walkable .least) (s .number) number-is
 
   pub turn-passes : (s .front + s .len ≤ 510) × (s .at ≤ length ib) × (pick (s .closes) 2 0 ≤ s .at)
   turn-passes = passes-top ib by key old seen buf high p true left (t .paused .reach) st (t .paused .some) (t .walkable .least) s (t .entry) (t .walkable .most)
@@ -176,7 +179,7 @@ module _ {ib : List ℕ} {by : Limits} {key old : List ℕ} {from : Leg} {seen b
               found = λ (x : r ≡ 0) (y : 0 < length key).
                   found-here ib by key here left (t .paused .reach) (st .search) (t .paused .some) (t .paused .still sought) (aim .off x sought) spot-here (copiedFrom buf (p .len) before)
                   (copiedFrom buf' (p' .len) own) refl
-                  (num-is ib by key old seen buf high p true left (t .paused .reach) st (t .paused .some) (t .walkable .least) s (t .entry)) (sym (st .held .long)) (sym (held .long))
+                  number-is (sym (st .held .long)) (sym (held .long))
                   (copied-front buf before (p .len) (st .held .short) (omega (arith, g .low)) (st .held .whole) ∙ st .held .ref)
                   (copied-front buf' own (p' .len) (held .short) (omega (arith, g .high)) (held .whole) ∙ held .ref);
             }

@@ -15,6 +15,7 @@ use Rattle.fields.specs.Order.{orderOf, less}
 use Rattle.fields.proofs.Choices.{false-true, both-split, both-join, off, both-none, both-true, both-false}
 use Rattle.fields.proofs.Splices.{length-mid}
 use Rattle.index.specs.Bounds.{empty, bound, separator}
+use Rattle.index.specs.Meaning.{Entry, separatorBefore}
 use Rattle.index.specs.Reading.{lengthAt}
 use Rattle.index.proofs.Keeping.{separator-short}
 use Rattle.index.proofs.Apart.{chars-long}
@@ -315,6 +316,15 @@ module _ (ib : List ℕ) (by : Limits) (key old seen buf high : List ℕ) (p : P
         held = rw (st .held .ref, ← st .held .long) (st .fine);
       }
 
+  -- before the first entry there is no separator
+  pub first-empty : eqb left count ≡ true → p .len ≡ 0
+  unfolding separatorBefore
+  first-empty e = go (st .search .passed) (omega (arith, st .search .many, eqb-true left count e)) (st .search .last)
+    where
+      go : (es : List Entry) → length es ≡ 0 → separatorBefore [] es ≡ st .h .ref → p .len ≡ 0
+      go [] none last = omega (arith, ap length last, st .held .long)
+      go (x ∷ es) none last = absurd (omega (arith, none))
+
   pub tall : by .key ≤ 255 → by .key + 8 ≤ length high
   tall most = omega (arith, st .whole')
 
@@ -324,6 +334,12 @@ module _ (ib : List ℕ) (by : Limits) (key old seen buf high : List ℕ) (p : P
 
   pub within : p .right + 7 ≤ length ib
   within = omega (arith, st .inside, st .held .right)
+
+  -- L stands behind F
+  pub length-is : Walkable ib by key → (l : ℕ) → l ≡ getD ib (p .right - (by .width + 2) + 1) 0 → l ≡ lengthAt (by .width) ib (p .right)
+  length-is w l is =
+      let i : p .right - (by .width + 2) + 1 ≡ p .right - (by .width + 1) = omega (arith, roomy w) in
+      is ∙ ap (λ (k : ℕ). getD ib k 0) i
 
   abbrev all : Bool
   all = fineFrom by ib old count
@@ -365,6 +381,23 @@ module _ (ib : List ℕ) (by : Limits) (key old seen buf high : List ℕ) (p : P
     not-all : (Fine → ⊥) → false ≡ all
     not-all f = sym (st .same ∙ off here (λ z. f (fine-apart by ib seen low h' closed left more z)))
 
+    -- it lies left of the edge
+    pub no-room : (l : ℕ) → l ≡ lengthAt w' ib (p .right) → p .right - (w' + 2) < by .edge + l → false ≡ all
+    no-room l is z = not-all no
+      where
+        no : Fine → ⊥
+        no x =
+            let e : l ≡ L' = is ∙ ap (λ (k : ℕ). lengthAt w' ib k) (st .held .right) in
+            omega (arith, x .room, z, e, st .held .right, chars-long w' ib (h' .right) (omega (arith, st .inside)) (omega (arith, x .room)))
+
+    -- its number is too big, or was met before
+    module _ (n : ℕ) (is : n ≡ part' .piece .num) where
+      pub too-big : by .n ≤ n → false ≡ all
+      too-big z = not-all (λ x. omega (arith, x .small, is, z))
+
+      pub again : (getD seen n 0 ≡ 0 → ⊥) → false ≡ all
+      again z = not-all (λ x. z (rw is (x .new)))
+
     nexts : F' ≤ length former' → nextIn ib p by buf high ≡ sep'
     nexts = next-is by ib h' p buf high (st .held)
 
@@ -391,12 +424,6 @@ module _ (ib : List ℕ) (by : Limits) (key old seen buf high : List ℕ) (p : P
 
       pub passes-top : K ≤ 255 → (s .front + s .len ≤ 510) × (s .at ≤ length ib) × (pick (s .closes) 2 0 ≤ s .at)
       passes-top most = passes ib p by s fits within most
-
-      pub too-big : by .n ≤ s .number → false ≡ all
-      too-big z = not-all (λ x. omega (arith, x .small, num-is))
-
-      pub again : (getD seen (s .number) 0 ≡ 0 → ⊥) → false ≡ all
-      again z = not-all (λ x. z (rw num-is (x .new)))
 
       room : by .edge + (w' + 2 + L' + pick (part' .closes) 2 0) ≤ h' .right
       room =
@@ -560,11 +587,7 @@ module _ (ib : List ℕ) (by : Limits) (key old seen buf high : List ℕ) (p : P
         let b = both-split (eqb (p .len) 0) _ (a .1) in
         not-sought-at-end ib by key h' reach (rw done at (st .search)) some (omega (arith, eqb-true (p .len) 0 (b .0), st .held .long))
 
-  -- ---- an entry that lies left of the edge, or is the last and closes no section
-
-  pub no-room : 0 < left → p .right < by .edge + (by .width + 2) → false ≡ all
-  no-room more z =
-      sym (st .same ∙ off _ (λ y. omega (arith, fine-apart by ib seen low h' closed left more y .room, st .held .right)))
+  -- ---- an entry that is the last and closes no section
 
   pub last-open : left ≡ 1 → closesAt w' p ≡ false → false ≡ all
   last-open one which = sym (st .same ∙ off _ (λ y. false-true (sym (none y) ∙ y)))
@@ -610,8 +633,8 @@ module _ (ib : List ℕ) (by : Limits) (key seen₀ buf₀ : List ℕ) (from : L
   abbrev more : ℕ
   more = from .left
 
-  pub ends-left : (seen' buf' : List ℕ) → p .right < by .edge + (by .width + 2) → Ends seen' buf' Wrong
-  ends-left seen' buf' z = λ old high st. no-room ib by key old seen buf high p (eqb left more) left reach (g .goes old high st) some z
+  pub ends-left : (seen' buf' : List ℕ) (l : ℕ) → l ≡ lengthAt (by .width) ib (p .right) → p .right - (by .width + 2) < by .edge + l → Ends seen' buf' Wrong
+  ends-left seen' buf' l is z = λ old high st. no-room ib by key old seen buf high p (eqb left more) left reach (g .goes old high st) some (wk .least) l is z
 
   pub ends-last : (seen' buf' : List ℕ) → left ≡ 1 → closesAt (by .width) p ≡ false → Ends seen' buf' Wrong
   ends-last seen' buf' one which = λ old high st. last-open ib by key old seen buf high p (eqb left more) left reach (g .goes old high st) one which
@@ -649,19 +672,24 @@ module _ (ib : List ℕ) (by : Limits) (key seen₀ buf₀ : List ℕ) (from : L
       bad-entry ib by key old seen buf high p (eqb left more) left reach t some (wk .least)
       (sym (is high (tall ib by key old seen buf high p (eqb left more) left reach t (wk .most))) ∙ bad)
 
+  -- its number, as it is read
+  module _ (n : ℕ) (n-is : n ≡ number (by .width) ib (p .right - by .width)) where
+    num-there : (old high : List ℕ) → (t : Stand ib by key old seen buf high p (eqb left more) left reach) → n ≡ partHere (by .width) ib (t .h) .piece .num
+    num-there old high t = n-is ∙ ap (λ (k : ℕ). number (by .width) ib (k - by .width)) (t .held .right)
+
+    pub ends-big : (seen' buf' : List ℕ) → by .n ≤ n → Ends seen' buf' Wrong
+    ends-big seen' buf' z = λ old high st.
+        let t = g .goes old high st in
+        too-big ib by key old seen buf high p (eqb left more) left reach t some (wk .least) n (num-there old high t) z
+
+    pub ends-again : (seen' buf' : List ℕ) → (getD seen n 0 ≡ 0 → ⊥) → Ends seen' buf' Wrong
+    ends-again seen' buf' z = λ old high st.
+        let t = g .goes old high st in
+        again ib by key old seen buf high p (eqb left more) left reach t some (wk .least) n (num-there old high t) z
+
   module _ (x : Parsed) (s : Step) (is : Answers x) (good' : x ≡ Of s) where
     entry : (old high : List ℕ) → Stand ib by key old seen buf high p (eqb left more) left reach → entryOf ib p by (eqb left (by .count)) buf high ≡ Of s
     entry old high t = sym (is high (tall ib by key old seen buf high p (eqb left more) left reach t (wk .most))) ∙ good'
-
-    pub ends-big : (seen' buf' : List ℕ) → by .n ≤ s .number → Ends seen' buf' Wrong
-    ends-big seen' buf' z = λ old high st.
-        let t = g .goes old high st in
-        too-big ib by key old seen buf high p (eqb left more) left reach t some (wk .least) s (entry old high t) z
-
-    pub ends-again : (seen' buf' : List ℕ) → (getD seen (s .number) 0 ≡ 0 → ⊥) → Ends seen' buf' Wrong
-    ends-again seen' buf' z = λ old high st.
-        let t = g .goes old high st in
-        again ib by key old seen buf high p (eqb left more) left reach t some (wk .least) s (entry old high t) z
 
     -- for the call past it
     pub passes-on : (old high : List ℕ) → Stand ib by key old seen buf high p (eqb left more) left reach
@@ -676,8 +704,9 @@ module _ (ib : List ℕ) (by : Limits) (key seen₀ buf₀ : List ℕ) (from : L
       stays-open : (old high : List ℕ) → Stand ib by key old seen buf high p (eqb left more) left reach → s .closes ≡ false
       stays-open old high t = closes-is ib p by s (entry-good ib p by (eqb left (by .count)) buf high s (entry old high t) .0) false inner
 
-      pub goes-on : s .number < by .n → getD seen (s .number) 0 ≡ 0 → Along ib by key seen₀ buf₀ from (set seen (s .number) 1) buf' p' (left - 1) r
-      goes-on k z =
+      pub goes-on : (n : ℕ) → n ≡ number (by .width) ib (p .right - by .width) → n < by .n → getD seen n 0 ≡ 0
+          → Along ib by key seen₀ buf₀ from (set seen n 1) buf' p' (left - 1) r
+      goes-on n n-is k z =
           record {
             few = omega (arith, g .few);
             still = λ (y : 0 < from .reach). reached-sought ib p by key reach r new (g .still y);
@@ -685,10 +714,13 @@ module _ (ib : List ℕ) (by : Limits) (key seen₀ buf₀ : List ℕ) (from : L
                 let t = g .goes old high st in
                 let tl = tall ib by key old seen buf high p (eqb left more) left reach t (wk .most) in
                 let e = entry old high t in
+                let m : s .number ≡ n =
+                ap (λ (y : Step). y .number) (good ib p by s (entry-good ib p by (eqb left (by .count)) buf high s e .0) .is) ∙ sym n-is in
                 let u : eqb (left - 1) more ≡ false = ne-eqb (left - 1) more (omega (arith, g .few, some)) in
                 let y = onward ib by key old seen buf high p (eqb left more) left reach t some (wk .least) s e buf' high (taken-of ib buf high buf' high x s good' (renewed high tl)) long refl p'
-                past (wk .most) r (reached ib by key old seen buf high p (eqb left more) left reach t some (wk .least) s e inner r new) (sought-reached ib p by key reach r new) k z in
-                rw u (rw (stays-open old high t) at y);
+                past (wk .most) r (reached ib by key old seen buf high p (eqb left more) left reach t some (wk .least) s e inner r new) (sought-reached ib p by key reach r new)
+                (rw m k) (rw m z) in
+                rw u (rw (m, stays-open old high t) at y);
             above = λ (old high : List ℕ) st.
                 ap (λ (x : Place). x .high) past ∙ past-inner ib s p (stays-open old high (g .goes old high st)) ∙ g .above old high st;
           }

@@ -6,12 +6,12 @@ ghost use mathlib.Core.List.{List};
 ghost use mathlib.Core.Logic.{_⊎_};
 ghost use lib.ListN.{length, getD, take};
 ghost use lib.Dec.{eqb};
-ghost use Rattle.fields.specs.Choice.{pick, both};
+ghost use Rattle.fields.specs.Choice.{pick, both, no};
 ghost use Rattle.fields.specs.Bytes.{part, number};
 ghost use Rattle.measures.specs.Judgement.{limit};
 ghost use Rattle.index.specs.Bounds.{bound, separator};
 ghost use Rattle.index.specs.Rules.{baseFine};
-ghost use Rattle.index.specs.Reading.{numbersAt, frame};
+ghost use Rattle.index.specs.Reading.{numbersAt, lengthAt, frame};
 ghost use Rattle.index_read.specs.Check.{indexOf, Seeks, SpotWithin};
 ghost use Rattle.index_read.specs.AidParsing.{closesAt, parsedOf};
 ghost use Rattle.index_read.specs.AidWalk.{Ascends, placesOf, Before, entryOf, Taken, marking, seenAfter, emptyMarks, fineFrom, walkedFine};
@@ -19,7 +19,7 @@ ghost use Rattle.index_read.specs.AidSeek.{reachOf, lookOf, aimOf, noSpo
 ghost use Rattle.index_read.specs.AidStand.{Walkable, Stand, Stood, Stopped};
 ghost use Rattle.index_read.specs.AidJudged.{JudgedAs};
 use fields::Order;
-ghost use Rattle.index_step.specs.AidStep.{copiedFrom};
+ghost use Rattle.index_step.specs.AidStep.{joinedOf, copiedFrom};
 use index_step::BUFFER;
 use index_step::Place;
 use index_step::Step;
@@ -156,33 +156,28 @@ pub(crate) fn compares(buf: &[u8], front: usize, len: usize, ib: &[u8], at: usiz
     }
 }
 
-// The same, mostly told by one byte: F must be below the length of the separator before; then no characters at all rise, and a first one
-// above the byte that it takes the place of does. The first entry has none before it.
-pub(crate) fn ascends(
-    buf: &[u8],
-    first: bool,
-    front: usize,
-    len: usize,
-    ib: &[u8],
-    at: usize,
-    l: usize,
-) -> bool
-    requires { ⌜ (front ≤ len) × (len ≤ length (now buf)) × (at + l ≤ length (now ib)) × (separator len (take len (now buf)) ≡ true) ⌝ }
-    ensures { λ r. ⌜ Ascends first front len (now (buf .entry)) (now (ib .entry)) at l r ⌝ }
+// The same for the next entry, mostly told by one byte: F must be below the length of the separator before; then no characters at all rise, and a first one above the
+// byte that it takes the place of does. The first entry has none before it, and so an F of 0.
+pub(crate) fn ascends(buf: &[u8], first: bool, len: usize, ib: &[u8], s: Step) -> bool
+    requires { ⌜ (len ≤ length (now buf)) × (s .at + s .len ≤ length (now ib)) × (separator len (take len (now buf)) ≡ true) × (first ≡ true → len ≡ 0) ⌝ }
+    ensures over { λ r. ⌜ (len < s .front → r ≡ false) ⌝ }
+    ensures rises { λ r. ⌜ (s .front ≤ len → Ascends first (s .front) len (now (buf .entry)) (now (ib .entry)) (s .at) (s .len) r) ⌝ }
 {
-    if first {
+    let f = s.front;
+    let at = s.at;
+    if len <= f {
+        if len < f {
+            return false;
+        }
+        return first;
+    }
+    if s.len == 0 {
         return true;
     }
-    if len <= front {
-        return false;
-    }
-    if l == 0 {
+    if buf[f] < ib[at] {
         return true;
     }
-    if buf[front] < ib[at] {
-        return true;
-    }
-    compares(buf, front, len, ib, at, l)
+    compares(buf, f, len, ib, at, s.len)
 }
 
 // The last of the first len bytes, 0 where there is none.
@@ -196,24 +191,38 @@ pub(crate) fn last_of(buf: &[u8], len: usize) -> u8
     buf[len - 1]
 }
 
-// The next entry, no section's highest, with every rule on its separator: the place, F, the length, the order of the bounds, the last byte. The buffer begins
-// with the separator before it, and afterwards with its own. A wrong entry ends the walk, so that nothing is stored of one.
+// Whether the next separator does not end with X'FF': its last character, or the last of the F bytes where it has none.
+pub(crate) fn ends_low(buf: &[u8], ib: &[u8], s: Step) -> bool
+    requires { ⌜ (s .front ≤ length (now buf)) × (s .at + s .len ≤ length (now ib)) ⌝ }
+    ensures { λ r. ⌜ r ≡ no (eqb (getD (joinedOf (s .front) (now (buf .entry)) (now (ib .entry)) (s .at) (s .len)) (s .front + s .len - 1) 0) 255) ⌝ }
+{
+    if s.len == 0 {
+        return last_of(buf, s.front) != 255;
+    }
+    let z = s.at + s.len;
+    ib[z - 1] != 255
+}
+
+// The next entry, no section's highest, which lies right of the edge, with every rule on its separator: F, the length, the order of the bounds, the last byte. The
+// buffer begins with the separator before it, and afterwards with its own. A wrong entry ends the walk, so that nothing is stored of one.
 pub(crate) fn next_inner(buf: &mut [u8], first: bool, ib: &[u8], p: Place, by: Limits) -> Parsed
-    requires { ⌜ Before (now ib) p by (now buf) ⌝ }
+    requires { ⌜ Before (now ib) p by (now buf) × (first ≡ true → p .len ≡ 0) ⌝ }
     requires which { ⌜ closesAt (by .width) p ≡ false ⌝ }
+    requires lies { ⌜ by .edge + (by .width + 2 + lengthAt (by .width) (now ib) (p .right)) ≤ p .right ⌝ }
     ensures is { λ x. ⌜ ((high : List ℕ) → by .key + 8 ≤ length high → x ≡ entryOf (now (ib .entry)) p by first (now (buf .entry)) high) ⌝ }
     ensures renewed { λ x. ⌜ ((high : List ℕ) → by .key + 8 ≤ length high → Taken (now (ib .entry)) (now (buf .entry)) high (now (buf .exit)) high x) ⌝ }
 {
-    let Parsed::Of(s) = piece_at(ib, p, by, false) else {
+    let s = index_step::entry_at(ib, by.width, p);
+    if by.key < s.front + s.len {
         return Parsed::Bad;
-    };
-    if !ascends(buf, first, s.front, p.len, ib, s.at, s.len) {
+    }
+    if !ascends(buf, first, p.len, ib, s) {
+        return Parsed::Bad;
+    }
+    if !ends_low(buf, ib, s) {
         return Parsed::Bad;
     }
     index_step::extend(buf, s.front, ib, s.at, s.len);
-    if last_of(buf, s.front + s.len) == 255 {
-        return Parsed::Bad;
-    }
     Parsed::Of(s)
 }
 
@@ -262,7 +271,7 @@ pub(crate) fn next_top(
 // The same for the one entry that the key leads to, where it is no section's highest. It stands apart from `next_inner`, whose body is then put into the loop that alone calls
 // it: with a call in that loop the walk takes more than twice as long.
 pub(crate) fn next_met(buf: &mut [u8], first: bool, ib: &[u8], p: Place, by: Limits) -> Parsed
-    requires { ⌜ Before (now ib) p by (now buf) ⌝ }
+    requires { ⌜ Before (now ib) p by (now buf) × (first ≡ true → p .len ≡ 0) ⌝ }
     requires which { ⌜ closesAt (by .width) p ≡ false ⌝ }
     ensures is { λ x. ⌜ ((high : List ℕ) → by .key + 8 ≤ length high → x ≡ entryOf (now (ib .entry)) p by first (now (buf .entry)) high) ⌝ }
     ensures renewed { λ x. ⌜ ((high : List ℕ) → by .key + 8 ≤ length high → Taken (now (ib .entry)) (now (buf .entry)) high (now (buf .exit)) high x) ⌝ }
@@ -270,7 +279,7 @@ pub(crate) fn next_met(buf: &mut [u8], first: bool, ib: &[u8], p: Place, by: Lim
     let Parsed::Of(s) = piece_at(ib, p, by, false) else {
         return Parsed::Bad;
     };
-    if !ascends(buf, first, s.front, p.len, ib, s.at, s.len) {
+    if !ascends(buf, first, p.len, ib, s) {
         return Parsed::Bad;
     }
     index_step::extend(buf, s.front, ib, s.at, s.len);
@@ -289,7 +298,7 @@ pub(crate) fn next_entry(
     p: Place,
     by: Limits,
 ) -> Parsed
-    requires { ⌜ Before (now ib) p by (now buf) ⌝ }
+    requires { ⌜ Before (now ib) p by (now buf) × (first ≡ true → p .len ≡ 0) ⌝ }
     requires tall { ⌜ by .key + 8 ≤ length (now high) ⌝ }
     ensures is { λ x. ⌜ x ≡ entryOf (now (ib .entry)) p by first (now (buf .entry)) (now (high .entry)) ⌝ }
     ensures renewed { λ x. ⌜ Taken (now (ib .entry)) (now (buf .entry)) (now (high .entry)) (now (buf .exit)) (now (high .exit)) x ⌝ }
@@ -437,13 +446,14 @@ pub(crate) fn walk_inner(
     let mut reach = from.reach;
     while 0 < left {
         let r = p.right;
-        if r < by.edge + (w + 2) {
-            return Stop::Wrong;
-        }
-        if r - (w + 2) == p.end {
+        let c = r - (w + 2);
+        if c == p.end {
             return Stop::At { p, left };
         }
-        if fields::wide(ib[r - (w + 2)]) < reach {
+        if c < by.edge + fields::wide(ib[c + 1]) {
+            return Stop::Wrong;
+        }
+        if fields::wide(ib[c]) < reach {
             reach = look(key, ib, p, by, reach);
             if reach == 0 {
                 if left == 1 {
@@ -452,10 +462,7 @@ pub(crate) fn walk_inner(
                 return Stop::At { p, left };
             }
         }
-        let Parsed::Of(s) = next_inner(buf, left == by.count, ib, p, by) else {
-            return Stop::Wrong;
-        };
-        let number = s.number;
+        let number = fields::read_pointer(ib, r - w, w);
         if by.n <= number {
             return Stop::Wrong;
         }
@@ -463,6 +470,9 @@ pub(crate) fn walk_inner(
             return Stop::Wrong;
         }
         seen[number] = 1;
+        let Parsed::Of(s) = next_inner(buf, left == by.count, ib, p, by) else {
+            return Stop::Wrong;
+        };
         p = index_step::past(ib, s, p);
         left -= 1;
     }

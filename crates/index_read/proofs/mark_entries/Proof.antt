@@ -20,7 +20,7 @@ use Rattle.index_read.specs.declared.Leg.{Leg}
 use Rattle.index_read.proofs.Entry.{chosen}
 use Rattle.index_read.proofs.Next.{taken-of}
 use Rattle.index_read.proofs.Reaching.{Above}
-use Rattle.index_read.proofs.Walking.{start, ready, tall, bad-entry, at-end, stopped-wrong, stopped-at, aimable}
+use Rattle.index_read.proofs.Walking.{start, ready, first-empty, tall, bad-entry, at-end, stopped-wrong, stopped-at, aimable}
 use Rattle.index_read.proofs.Finding.{Begun, begun-few, begun-keyed, Finding, finding-start, above-start, Meets, Turn, turn-big, turn-again, turn-passes, turn-keeps, turn-on, turn-above, turn-finds, finding-end}
 use Rattle.index_read.proofs.mark_entries.Statement.{statement}
 use Rattle.index_read.proofs.mark_entries.Tie as tie
@@ -227,7 +227,10 @@ next-entry-requires c κs =
     let a = start-from-walk k .args in
     let t = paused m in
     let w = walkable k in (
-      ready (now (a .ib)) (a .by) (now (a .key)) (now (a .seen)) (x .last .0) (x .last .1 .0) (o .high) (m .before .q .given .0 .0) true (m .before .q .given .0 .1 .0) (t .reach) (t .stand) w,
+      (
+        ready (now (a .ib)) (a .by) (now (a .key)) (now (a .seen)) (x .last .0) (x .last .1 .0) (o .high) (m .before .q .given .0 .0) true (m .before .q .given .0 .1 .0) (t .reach) (t .stand) w,
+        first-empty (now (a .ib)) (a .by) (now (a .key)) (now (a .seen)) (x .last .0) (x .last .1 .0) (o .high) (m .before .q .given .0 .0) true (m .before .q .given .0 .1 .0) (t .reach) (t .stand),
+      ),
       tall (now (a .ib)) (a .by) (now (a .key)) (now (a .seen)) (x .last .0) (x .last .1 .0) (o .high) (m .before .q .given .0 .0) true (m .before .q .given .0 .1 .0) (t .reach) (t .stand) (w .most),
     )
 
