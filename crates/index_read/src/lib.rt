@@ -572,8 +572,9 @@ pub(crate) fn walk(
     let mut m = marks;
     m.free = free;
     m.used = by.count;
-    m.ok = false;
-    if !mark_free(&mut m.seen, ib, by.width, free, by.n) {
+    let ok = mark_free(&mut m.seen, ib, by.width, free, by.n);
+    m.ok = ok;
+    if !ok {
         return m;
     }
     let walked = mark_entries(&mut m.seen, ib, by, key, before, own);

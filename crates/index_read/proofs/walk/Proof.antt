@@ -1,6 +1,6 @@
 -- No loop. Where a free number is wrong nothing more is asked; else the walk over the entries tells the rest, with the marks that the free numbers left.
 use mathlib.Core.Path.{_≡_, refl, sym, _∙_}
-use mathlib.Core.Bool.{true}
+use mathlib.Core.Bool.{true, false}
 use native.Mathlib.Omega.{arith}
 use denote.Ref.{now}
 use borrow.Author.Tests.{not-true, not-false}
@@ -29,9 +29,10 @@ free-from-entries k = k .before .before .before .before .before
 returns : tie.Need-returns
 returns c =
     let m = c .before in
-    let a = start-from-free m .args in (
-      walked-wrong (a .by) (now (a .ib)) (a .marks .seen) (sym (not-true _ (c .if1 .taken)) ∙ m .mark-free .ensures .0),
-      ((λ _ f. absurd (false-true f)), (refl, refl)),
+    let a = start-from-free m .args in
+    let bad : m .mark-free .result ≡ false = not-true _ (c .if1 .taken) in (
+      bad ∙ walked-wrong (a .by) (now (a .ib)) (a .marks .seen) (sym bad ∙ m .mark-free .ensures .0),
+      ((λ _ f. absurd (false-true (sym bad ∙ f))), (refl, refl)),
     )
 
 mark-entries-requires : tie.Need-mark-entries-requires
