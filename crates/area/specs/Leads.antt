@@ -2,14 +2,14 @@
 use Prim.Native.Nat.{ℕ}
 use mathlib.Core.Bool.{Bool}
 use mathlib.Core.List.{List, []}
-use lib.ListN.{getD, take}
+use lib.ListN.{take}
 use Rattle.measures.specs.Judgement.{widthFor}
 use Rattle.measures.specs.declared.Measures.{Measures}
 use Rattle.interval.specs.Role.{soundUsed}
 use Rattle.index.specs.Bounds.{bound}
-use Rattle.index.specs.Meaning.{Entry, entry}
+use Rattle.index.specs.Meaning.{Entry}
 use Rattle.index.specs.Rules.{boundBefore}
-use Rattle.index.specs.Search.{leadsTo}
+use Rattle.index.specs.Search.{leadsTo, entryFor}
 use Rattle.sections.specs.Reading.{readIndex, soundIndex}
 use Rattle.area.specs.Content.{indexIn, dataIn}
 
@@ -17,14 +17,11 @@ use Rattle.area.specs.Content.{indexIn, dataIn}
 abbrev pub indexSound : Measures → ℕ → List ℕ → Bool
 indexSound m n area = soundIndex (widthFor n) (m .key) n [] [] (indexIn m area)
 
--- its entries, and the one that a key leads to
+-- its entries
 abbrev pub entriesFor : Measures → ℕ → List ℕ → List Entry
 entriesFor m n area = readIndex (widthFor n) n (indexIn m area) .entries
 
-abbrev pub entryFor : List ℕ → List Entry → Entry
-entryFor wanted es = getD es (leadsTo wanted es) (entry [] 0)
-
--- the number of its interval, and the interval
+-- the number of the interval that a key leads to, and the interval
 abbrev pub numberFor : Measures → ℕ → List ℕ → List ℕ → ℕ
 numberFor m n area wanted = entryFor wanted (entriesFor m n area) .num
 

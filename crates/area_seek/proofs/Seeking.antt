@@ -27,14 +27,14 @@ use Rattle.interval_read.specs.declared.Opened.the-variants as opened
 use Rattle.index.specs.Bounds.{bound}
 use Rattle.index.specs.Meaning.{Entry, separatorBefore}
 use Rattle.index.specs.Rules.{boundBefore}
-use Rattle.index.specs.Search.{leadsTo}
-use Rattle.index_read.specs.Check.{soundFor as indexSoundFor, SpotWithin}
+use Rattle.index.specs.Search.{leadsTo, entryFor}
+use Rattle.index_read.specs.Check.{soundWith, SpotWithin}
 use Rattle.index_read.specs.declared.Spot.{Spot}
 use Rattle.index_read.specs.declared.Sought.{Sought}
 use Rattle.index_read.specs.declared.Sought.the-variants as sought
 use Rattle.index_read.proofs.Answers.{Led}
 use Rattle.area.specs.Content.{indexIn, dataIn}
-use Rattle.area.specs.Leads.{indexSound, entriesFor, entryFor, numberFor, intervalFor, soundFor}
+use Rattle.area.specs.Leads.{indexSound, entriesFor, numberFor, intervalFor, soundFor}
 use Rattle.area.proofs.Intervals.{used-apart}
 use Rattle.area.proofs.Places.{length-data, data-ends}
 use Rattle.area_seek.specs.AidLooked.{lookedAt, lookedOf}
@@ -102,7 +102,7 @@ pub spot-within : (n K : ℕ) (r : Sought) (spot : Spot) → r ≡ sought.At spo
 spot-within n K r spot e w = rw e at w
 
 -- the index record is unsound
-pub way-unsound : (m : Measures) (n : ℕ) (area key : List ℕ) → length key ≡ m .key → indexSoundFor n (indexIn m area) key ≡ false → Damaged 0 ≡ lookedOf m n area key
+pub way-unsound : (m : Measures) (n : ℕ) (area key : List ℕ) → length key ≡ m .key → soundWith n (indexIn m area) key ≡ false → Damaged 0 ≡ lookedOf m n area key
 unfolding lookedOf
 way-unsound m n area key long h = let t : indexSound m n area ≡ false = rw long at h in sym (rw t)
 

@@ -9,8 +9,9 @@ use Rattle.fields.specs.Choice.{pick}
 use Rattle.fields.specs.Bytes.{splice}
 use Rattle.fields.proofs.Splices.{take-front}
 use Rattle.measures.specs.Judgement.{widthFor}
+use Rattle.index.specs.Search.{entryFor}
 use Rattle.sections.specs.Reading.{readIndex, soundIndex}
-use Rattle.index_read.specs.Check.{indexBy, indexOf, soundFor, lowFor, entryAt, spotOf, soughtOf, Seeks}
+use Rattle.index_read.specs.Check.{indexBy, indexOf, soundWith, entriesIn, lowFor, spotOf, soughtOf, Seeks}
 use Rattle.index_read.specs.declared.Index.the-variants.{Sound, Unsound}
 use Rattle.index_read.specs.declared.Spot.{Spot}
 use Rattle.index_read.specs.declared.Sought.{Sought}
@@ -45,31 +46,31 @@ answer-unsound K n ib = go (soundIndex (widthFor n) K n [] [] ib)
 
 -- the record is sound, the entry is the one that the key leads to, and both buffers begin with the separators
 pub record Led (n : ℕ) (ib key : List ℕ) (s : Spot) (before own : List ℕ) : Type 0 where
-  pub sound : soundFor n ib key ≡ true
+  pub sound : soundWith n ib key ≡ true
   pub spot : s ≡ spotOf n ib key
   pub low : take (s .before) before ≡ lowFor n ib key
-  pub high : take (s .own) own ≡ entryAt n ib key .sep
+  pub high : take (s .own) own ≡ entryFor key (entriesIn n ib) .sep
 
 module _ (n : ℕ) (ib key before own : List ℕ) (r : Sought) (before' own' : List ℕ) (k : Seeks n ib key before own r before' own') where
   pub answer-led : (s : Spot) → r ≡ sought.At s → Led n ib key s before' own'
   unfolding soughtOf
-  answer-led s e = go (soundFor n ib key) refl (sym e ∙ k .answers) (k .low) (k .high)
+  answer-led s e = go (soundWith n ib key) refl (sym e ∙ k .answers) (k .low) (k .high)
     where
-      go : (t : Bool) → soundFor n ib key ≡ t → sought.At s ≡ pick t (sought.At (spotOf n ib key)) sought.Unsound → before' ≡ pick t (splice before 0 (lowFor n ib key)) before
-          → own' ≡ pick t (splice own 0 (entryAt n ib key .sep)) own → Led n ib key s before' own'
+      go : (t : Bool) → soundWith n ib key ≡ t → sought.At s ≡ pick t (sought.At (spotOf n ib key)) sought.Unsound → before' ≡ pick t (splice before 0 (lowFor n ib key)) before
+          → own' ≡ pick t (splice own 0 (entryFor key (entriesIn n ib) .sep)) own → Led n ib key s before' own'
       go true t h b o =
           let m : s ≡ spotOf n ib key = cc in
           record {
             sound = t;
             spot = m;
             low = rw b (take-front before (lowFor n ib key) (s .before) (ap (λ (x : Spot). x .before) m));
-            high = rw o (take-front own (entryAt n ib key .sep) (s .own) (ap (λ (x : Spot). x .own) m));
+            high = rw o (take-front own (entryFor key (entriesIn n ib) .sep) (s .own) (ap (λ (x : Spot). x .own) m));
           }
       go false t h b o = absurd (let z : _≡_ {A = ℕ} 0 1 = cc in omega arith)
 
-  pub answer-not-led : r ≡ sought.Unsound → soundFor n ib key ≡ false
+  pub answer-not-led : r ≡ sought.Unsound → soundWith n ib key ≡ false
   unfolding soughtOf
-  answer-not-led e = go (soundFor n ib key) (sym e ∙ k .answers)
+  answer-not-led e = go (soundWith n ib key) (sym e ∙ k .answers)
     where
       go : (t : Bool) → sought.Unsound ≡ pick t (sought.At (spotOf n ib key)) sought.Unsound → t ≡ false
       go true h = absurd (let z : _≡_ {A = ℕ} 0 1 = cc in omega arith)

@@ -1,20 +1,21 @@
 -- Laws of one entry: how it is taken apart, and how far the copy of its characters reaches.
 use Prim.Native.Nat.{ℕ, _+_, _-_, _≤_, _<_}
 use mathlib.Core.Path.{_≡_, refl, _∙_, sym, ap}
-use mathlib.Core.Bool.{Bool, true, false}
-use mathlib.Core.List.{List}
+use mathlib.Core.Bool.{Bool, true, false, not}
+use mathlib.Core.List.{List, _++_, append-nil}
 use mathlib.Core.Logic.{_⊎_, ⊎-elim}
-use lib.ListN.{length, getD, take}
-use lib.Seq.{getD-take}
-use lib.Dec.{leb}
+use lib.ListN.{length, getD, take, drop}
+use lib.Seq.{length-take-le, getD-append-add, getD-take, getD-drop}
+use lib.Dec.{eqb, leb}
 use native.Mathlib.Omega.{arith}
 use borrow.Author.Tests.{le-leb, leb-true}
-use Rattle.fields.specs.Choice.{pick, both}
+use Rattle.fields.specs.Choice.{pick, both, no}
+use Rattle.fields.specs.Bytes.{part}
 use Rattle.fields.proofs.Choices.{both-split, off}
 use Rattle.index.specs.Reading.{lengthAt}
 use Rattle.index_step.specs.declared.Place.{Place}
 use Rattle.index_step.specs.declared.Step.{Step}
-use Rattle.index_step.specs.AidStep.{frontAt, stepAt, reach}
+use Rattle.index_step.specs.AidStep.{frontAt, stepAt, joinedOf, reach}
 use Rattle.index_step.proofs.Reaching.{reach-most}
 use Rattle.index_read.specs.AidParsing.{closesAt, parses, parsedOf}
 use Rattle.index_read.specs.declared.Limits.{Limits}
@@ -127,9 +128,9 @@ pub passes : (ib : List ℕ) (p : Place) (by : Limits) (s : Step) → Good ib p 
     → (s .front + s .len ≤ 510) × (s .at ≤ length ib) × (pick (s .closes) 2 0 ≤ s .at)
 passes ib p by s g inside most = (omega (arith, g .fits), omega (arith, g .at-is), omega (arith, g .at-is, g .room))
 
--- ---- a number that a test chose
+-- ---- what a test chose
 
-pub chosen : (t : Bool) (x a b : ℕ) → ((t ≡ true) × (x ≡ a)) ⊎ ((t ≡ false) × (x ≡ b)) → x ≡ pick t a b
+pub chosen : {A : Type 0} (t : Bool) (x a b : A) → ((t ≡ true) × (x ≡ a)) ⊎ ((t ≡ false) × (x ≡ b)) → x ≡ pick t a b
 chosen t x a b h = ⊎-elim (λ (q : (t ≡ true) × (x ≡ a)). rw (q .0) (q .1)) (λ (q : (t ≡ false) × (x ≡ b)). rw (q .0) (q .1)) h
 
 pub two-most : (t : Bool) → pick t 2 0 ≤ 2
@@ -140,3 +141,27 @@ two-most false = omega arith
 
 pub last-is : (P : List ℕ) (len : ℕ) → (len ≡ 0 → ⊥) → getD P (len - 1) 0 ≡ getD (take len P) (len - 1) 0
 last-is P len h = sym (getD-take len P (len - 1) 0 (omega arith))
+
+not-no : (t : Bool) → not t ≡ no t
+not-no true = refl
+not-no false = refl
+
+-- of the separator that F bytes of a buffer and the characters make: the last of the characters, or of the F bytes where there are none
+module _ (buf ib : List ℕ) (f at l : ℕ) where
+  abbrev joined-last : ℕ
+  joined-last = getD (joinedOf f buf ib at l) (f + l - 1) 0
+
+  pub low-front : l ≡ 0 → (x : ℕ) → x ≡ getD (take f buf) (f - 1) 0 → not (eqb x 255) ≡ no (eqb joined-last 255)
+  low-front z x is =
+      let e : f + l - 1 ≡ f - 1 = omega arith in
+      let t : joinedOf f buf ib at l ≡ take f buf = ap (λ (k : ℕ). take f buf ++ part ib at k) z ∙ append-nil (take f buf) in
+      rw (is, e, t) (not-no (eqb (getD (take f buf) (f - 1) 0) 255))
+
+  pub low-chars : f ≤ length buf → (l ≡ 0 → ⊥) → not (eqb (getD ib (at + l - 1) 0) 255) ≡ no (eqb joined-last 255)
+  low-chars whole some =
+      let e : f + l - 1 ≡ length (take f buf) + (l - 1) = omega (arith, length-take-le f buf whole, some) in
+      let i : at + (l - 1) ≡ at + l - 1 = omega (arith, some) in
+      let t : joined-last ≡ getD ib (at + l - 1) 0 =
+      ap (λ (k : ℕ). getD (joinedOf f buf ib at l) k 0) e ∙ getD-append-add (take f buf) (part ib at l) (l - 1) 0 ∙ getD-take l (drop at ib) (l - 1) 0 (omega (arith, some))
+      ∙ getD-drop at ib (l - 1) 0 ∙ ap (λ (k : ℕ). getD ib k 0) i in
+      rw t (not-no (eqb (getD ib (at + l - 1) 0) 255))

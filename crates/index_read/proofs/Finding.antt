@@ -4,25 +4,26 @@ use mathlib.Core.Path.{_≡_, refl, _∙_, sym, ap}
 use mathlib.Core.Bool.{Bool, true, false}
 use mathlib.Core.List.{List}
 use mathlib.Core.Logic.{_⊎_, ⊎-elim}
-use lib.ListN.{length, getD, take, set}
-use lib.Dec.{eqb, ltb}
+use lib.ListN.{length, getD, take, set, length-take}
+use lib.Dec.{eqb}
 use native.Mathlib.Omega.{arith}
-use borrow.Author.Tests.{ltb-true, ltb-false}
+use borrow.Author.Tests.{eqb-false}
 use Rattle.fields.specs.Choice.{pick}
+use Rattle.fields.proofs.Choices.{false-true}
 use Rattle.index_step.specs.declared.Place.{Place}
 use Rattle.index_step.specs.declared.Step.{Step}
 use Rattle.index_step.specs.AidStep.{placePast, copiedFrom, Renewed}
-use Rattle.index_step.specs.AidEntries.{Here, sepHere, hereNext, Held}
+use Rattle.index_step.specs.AidEntries.{Here, partHere, sepHere, hereNext, Held}
 use Rattle.index_step.proofs.Reaching.{reach-most, extended-chars, extended-length}
 use Rattle.index_read.specs.AidWalk.{entryOf, fineFrom}
-use Rattle.index_read.specs.AidSeek.{reachOf, FoundBy}
+use Rattle.index_read.specs.AidSeek.{aimOf, FoundBy}
 use Rattle.index_read.specs.AidStand.{Walkable, Stand, Paused}
 use Rattle.index_read.specs.declared.Leg.{Leg}
 use Rattle.index_read.specs.declared.Limits.{Limits}
 use Rattle.index_read.specs.declared.Parsed.the-variants.{Of}
 use Rattle.index_read.specs.declared.Spot.{Spot}
-use Rattle.index_read.proofs.Reaching.{found-here}
-use Rattle.index_read.proofs.Walking.{too-big, again, passes-top, num-is, sep-fits, held-past, turned, unsought}
+use Rattle.index_read.proofs.Reaching.{aim-top, Above, Aims, found-here}
+use Rattle.index_read.proofs.Walking.{too-big, again, passes-top, num-is, aims, held-past, turned, topped, unsought}
 
 -- ---- a buffer to whose front another's was copied
 
@@ -70,9 +71,35 @@ pub finding-start : (ib : List ℕ) (by : Limits) (key before own : List ℕ) (s
 finding-start ib by key before own spot reach b low high =
     record { low = low; high = high; found = λ (x : reach ≡ 0) (y : 0 < length key). absurd (begun-sought key reach b x y) }
 
+-- no highest before the first section
+pub above-start : (key high : List ℕ) (n reach : ℕ) → n ≡ 0 → reach ≤ 1 → Above key (take n high) reach
+above-start key high n reach none few =
+    let z : reach - 1 ≡ 0 = omega arith in
+    record {
+      same = λ (x : 0 < reach). rw z;
+      ahead = λ (x : 0 < reach) (y : reach ≤ length (take n high)). absurd (omega (arith, x, y, none, length-take n high));
+    }
+
+-- ---- whether the key's entry is met
+
+-- a key is sought, and no more past the entry
+abbrev pub Meets : ℕ → ℕ → Bool → Type 0
+Meets reach r meets = ((reach ≡ 0) × (meets ≡ false)) ⊎ ((reach ≡ 0 → ⊥) × (meets ≡ eqb r 0))
+
+module _ (reach r : ℕ) (meets : Bool) (m : Meets reach r meets) where
+  meets-sought : meets ≡ true → 0 < reach
+  meets-sought e =
+      ⊎-elim (λ (x : (reach ≡ 0) × (meets ≡ false)). absurd (false-true (sym (x .1) ∙ e))) (λ (x : (reach ≡ 0 → ⊥) × (meets ≡ eqb r 0)). omega (arith, x .0)) m
+
+  unmet-unsought : meets ≡ false → r ≡ 0 → reach ≡ 0
+  unmet-unsought e z =
+      ⊎-elim (λ (x : (reach ≡ 0) × (meets ≡ false)). x .0)
+      (λ (x : (reach ≡ 0 → ⊥) × (meets ≡ eqb r 0)). absurd (eqb-false r 0 (sym (x .1) ∙ e) z)) m
+
 -- ---- one turn
 
--- Past an entry that is fine: where the walk over its section paused, and what the entry says. `from` is what the walk set out from.
+-- Past an entry that is fine: where the walk over its section paused, what the entry says, and the reach past the highest of the section before. `from` is what the
+-- walk set out from.
 pub record Turn (ib : List ℕ) (by : Limits) (key old : List ℕ) (from : Leg) (seen buf high : List ℕ) (p : Place) (left : ℕ) (s : Step) (buf' high' : List ℕ) : Type 0 where
   pub paused : Paused ib by key old from seen buf high p left
   pub walkable : Walkable ib by key
@@ -80,17 +107,21 @@ pub record Turn (ib : List ℕ) (by : Limits) (key old : List ℕ) (from : Leg) 
   pub renewed : Renewed ib s buf high buf' high'
   pub long : length buf' ≡ length buf
   pub long' : length high' ≡ length high
+  pub above : Above key (take (from .p .high) high) (from .reach)
 
 module _ {ib : List ℕ} {by : Limits} {key old : List ℕ} {from : Leg} {seen buf high : List ℕ} {p : Place} {left : ℕ} {s : Step} {buf' high' : List ℕ}
     (t : Turn ib by key old from seen buf high p left s buf' high') where
   abbrev st : Stand ib by key old seen buf high p true left (t .paused .reach)
   st = t .paused .stand
 
+  number-is : s .number ≡ partHere (by .width) ib (st .h) .piece .num
+  number-is = num-is ib by key old seen buf high p true left (t .paused .reach) st (t .paused .some) (t .walkable .least) s (t .entry)
+
   pub turn-big : by .n ≤ s .number → false ≡ fineFrom by ib old (by .count)
-  turn-big = too-big ib by key old seen buf high p true left (t .paused .reach) st (t .paused .some) (t .walkable .least) s (t .entry)
+  turn-big = too-big ib by key old seen buf high p true left (t .paused .reach) st (t .paused .some) (t .walkable .least) (s .number) number-is
 
   pub turn-again : (getD seen (s .number) 0 ≡ 0 → ⊥) → false ≡ fineFrom by ib old (by .count)
-  turn-again = again ib by key old seen buf high p true left (t .paused .reach) st (t .paused .some) (t .walkable .least) s (t .entry)
+  turn-again = again ib by key old seen buf high p true left (t .paused .reach) st (t .paused .some) (t .walkable .least) (s .number) number-is
 
   pub turn-passes : (s .front + s .len ≤ 510) × (s .at ≤ length ib) × (pick (s .closes) 2 0 ≤ s .at)
   turn-passes = passes-top ib by key old seen buf high p true left (t .paused .reach) st (t .paused .some) (t .walkable .least) s (t .entry) (t .walkable .most)
@@ -111,46 +142,52 @@ module _ {ib : List ℕ} {by : Limits} {key old : List ℕ} {from : Leg} {seen b
     pub turn-keeps : (own : List ℕ) → length own ≡ 263 → (p' .len ≤ 255) × (263 ≤ length own) × (263 ≤ length buf')
     turn-keeps own high = (held .short, omega (arith, high), held .whole)
 
-    sep-short : length sep ≤ by .key
-    sep-short = sep-fits ib by key old seen buf high p true left (t .paused .reach) st (t .paused .some) (t .walkable .least) s (t .entry)
+    module _ (r : ℕ) (is : r ≡ aimOf ib p by key (from .reach)) where
+      aim : Aims key sep (from .reach) r
+      aim = aims ib by key old seen buf high p true left (t .paused .reach) st (t .paused .some) (t .walkable .least) s (t .entry) (from .reach) above (t .paused .here) r is
+        where
+          top-is : take (from .p .high) high ≡ here .high
+          top-is = ap (λ (x : ℕ). take x high) (sym (t .paused .above)) ∙ st .held .top
 
-    pub turn-reaches : (p' .len ≤ length buf') × (0 < from .reach → p' .len ≤ length key)
-    turn-reaches =
-        (omega (arith, held .short, held .whole), λ (x : 0 < from .reach). omega (arith, held .long, sep-short, st .keyed (t .paused .still x)))
+          above : Above key (here .high) (from .reach)
+          above = rw top-is at (t .above)
 
-    pub turn-on : (r : ℕ) → r ≡ pick (ltb 0 (from .reach)) (reachOf key 0 (take (p' .len) buf')) 0 → s .number < by .n → getD seen (s .number) 0 ≡ 0
-        → Stand ib by key old (set seen (s .number) 1) buf' high' p' true (left - 1) r
-    turn-on r is small new =
-        turned ib by key old seen buf high p true left (t .paused .reach) st (t .paused .some) (t .walkable .least) s (t .entry) buf' high' (t .renewed) (t .long) (t .long') p' past
-        (t .walkable .most) (from .reach) (t .paused .still) r is small new (t .paused .last)
+      pub turn-on : s .number < by .n → getD seen (s .number) 0 ≡ 0 → Stand ib by key old (set seen (s .number) 1) buf' high' p' true (left - 1) r
+      turn-on small new =
+          turned ib by key old seen buf high p true left (t .paused .reach) st (t .paused .some) (t .walkable .least) s (t .entry) buf' high' (t .renewed) (t .long) (t .long') p' past
+          (t .walkable .most) (from .reach) (t .paused .still) r aim small new (t .paused .last)
 
-    -- the entry is kept while the key is sought
-    module _ (before own : List ℕ) (spot : Spot) (g : Finding ib by key before own spot (from .reach)) where
-      abbrev spot-here : Spot
-      spot-here = record { ordinal = by .count - left; number = s .number; before = p .len; own = p' .len }
+      pub turn-above : Above key (take (p' .high) high') r
+      turn-above =
+          topped ib by key old seen buf high p true left (t .paused .reach) st (t .paused .some) (t .walkable .least) s (t .entry) buf' high' (t .renewed) (t .long) (t .long') p' past
+          (t .walkable .most) (from .reach) r aim (λ (x : 0 < r). aim-top ib p by key (from .reach) (rw is at x))
 
-      kept : (b : Bool) → ltb 0 (from .reach) ≡ b
-          → Finding ib by key (pick b (copiedFrom buf (p .len) before) before) (pick b (copiedFrom buf' (p' .len) own) own) (pick b spot-here spot)
-          (pick b (reachOf key 0 (take (p' .len) buf')) 0)
-      kept true sought =
-          let long-before : length (copiedFrom buf (p .len) before) ≡ length before = copied-long buf before (p .len) (st .held .short) (omega (arith, g .low)) (st .held .whole) in
-          let long-own : length (copiedFrom buf' (p' .len) own) ≡ length own = copied-long buf' own (p' .len) (held .short) (omega (arith, g .high)) (held .whole) in
-          record {
-            low = long-before ∙ g .low;
-            high = long-own ∙ g .high;
-            found = λ (x : reachOf key 0 (take (p' .len) buf') ≡ 0) (y : 0 < length key).
-                found-here ib by key here left (t .paused .reach) (st .search) (t .paused .some) (t .paused .still (ltb-true 0 (from .reach) sought))
-                (sym (ap (λ (z : List ℕ). reachOf key 0 z) (sym (held .ref)) ∙ x)) spot-here (copiedFrom buf (p .len) before) (copiedFrom buf' (p' .len) own) refl
-                (num-is ib by key old seen buf high p true left (t .paused .reach) st (t .paused .some) (t .walkable .least) s (t .entry)) (sym (st .held .long)) (sym (held .long))
-                (copied-front buf before (p .len) (st .held .short) (omega (arith, g .low)) (st .held .whole) ∙ st .held .ref)
-                (copied-front buf' own (p' .len) (held .short) (omega (arith, g .high)) (held .whole) ∙ held .ref);
-          }
-      kept false sought = record { low = g .low; high = g .high; found = λ (x : _≡_ {A = ℕ} 0 0). g .found (omega (arith, ltb-false 0 (from .reach) sought)) }
+      -- the entry is kept where the key leads to it
+      module _ (before own : List ℕ) (spot : Spot) (g : Finding ib by key before own spot (from .reach)) (meets : Bool) (m : Meets (from .reach) r meets) where
+        abbrev spot-here : Spot
+        spot-here = record { ordinal = by .count - left; number = s .number; before = p .len; own = p' .len }
 
-      pub turn-finds : (before' own' : List ℕ) (spot' : Spot) (r : ℕ) → before' ≡ pick (ltb 0 (from .reach)) (copiedFrom buf (p .len) before) before
-          → own' ≡ pick (ltb 0 (from .reach)) (copiedFrom buf' (p' .len) own) own → spot' ≡ pick (ltb 0 (from .reach)) spot-here spot
-          → r ≡ pick (ltb 0 (from .reach)) (reachOf key 0 (take (p' .len) buf')) 0 → Finding ib by key before' own' spot' r
-      turn-finds before' own' spot' r b-is o-is s-is r-is = rw (b-is, o-is, s-is, r-is) (kept (ltb 0 (from .reach)) refl)
+        kept : (b : Bool) → meets ≡ b
+            → Finding ib by key (pick b (copiedFrom buf (p .len) before) before) (pick b (copiedFrom buf' (p' .len) own) own) (pick b spot-here spot) r
+        kept true met =
+            let long-before : length (copiedFrom buf (p .len) before) ≡ length before = copied-long buf before (p .len) (st .held .short) (omega (arith, g .low)) (st .held .whole) in
+            let long-own : length (copiedFrom buf' (p' .len) own) ≡ length own = copied-long buf' own (p' .len) (held .short) (omega (arith, g .high)) (held .whole) in
+            let sought : 0 < from .reach = meets-sought (from .reach) r meets m met in
+            record {
+              low = long-before ∙ g .low;
+              high = long-own ∙ g .high;
+              found = λ (x : r ≡ 0) (y : 0 < length key).
+                  found-here ib by key here left (t .paused .reach) (st .search) (t .paused .some) (t .paused .still sought) (aim .off x sought) spot-here (copiedFrom buf (p .len) before)
+                  (copiedFrom buf' (p' .len) own) refl
+                  number-is (sym (st .held .long)) (sym (held .long))
+                  (copied-front buf before (p .len) (st .held .short) (omega (arith, g .low)) (st .held .whole) ∙ st .held .ref)
+                  (copied-front buf' own (p' .len) (held .short) (omega (arith, g .high)) (held .whole) ∙ held .ref);
+            }
+        kept false met = record { low = g .low; high = g .high; found = λ (x : r ≡ 0). g .found (unmet-unsought (from .reach) r meets m met x) }
+
+        pub turn-finds : (before' own' : List ℕ) (spot' : Spot) → before' ≡ pick meets (copiedFrom buf (p .len) before) before
+            → own' ≡ pick meets (copiedFrom buf' (p' .len) own) own → spot' ≡ pick meets spot-here spot → Finding ib by key before' own' spot' r
+        turn-finds before' own' spot' b-is o-is s-is = rw (b-is, o-is, s-is) (kept meets refl)
 
 -- ---- past the last entry
 

@@ -23,7 +23,7 @@ use Rattle.sections.proofs.Chains.{Followed, followed}
 use Rattle.sections.proofs.Laying.{ahead-some, ahead-most}
 use Rattle.sections.proofs.Apart.{length-partsAt, entries-are}
 use Rattle.index_step.proofs.Stepping.{entries-count}
-use Rattle.index_read.specs.AidWalk.{placesOf, chain, partNumbers, marking, seenAfter, fineFrom}
+use Rattle.index_read.specs.AidWalk.{placesOf, chain, partNumbers, marking, seenAfter, fineFrom, walkedFine}
 use Rattle.index_read.specs.AidSeek.{FoundBy}
 use Rattle.index_read.specs.AidJudged.{JudgedAs}
 use Rattle.index_read.specs.declared.Limits.{Limits}
@@ -240,14 +240,20 @@ module _ (w K n : ℕ) (ib : List ℕ) (is : w ≡ widthFor n) where
     e-is = place-good w n ib c e at .2
 
     -- for the calls
-    pub free-inside : 31 ≤ length ib → 24 + w * c ≤ length ib
-    free-inside h = omega (arith, l .unused, l .order, l .inside, ap (λ (x : ℕ). w * x) c-is)
-
     pub free-few : c ≤ n
     free-few = omega (arith, l .some, c-is)
 
-    pub edge-inside : 31 ≤ length ib → e + 2 ≤ length ib
+    left-free : n - (n - c) ≡ freeCount w ib
+    left-free = omega (arith, free-few, c-is)
+
+    pub free-inside : 31 ≤ length ib → (n - c ≤ n) × (24 + w * (n - (n - c)) ≤ length ib)
+    free-inside h = (omega arith, omega (arith, l .unused, l .order, l .inside, ap (λ (x : ℕ). w * x) left-free))
+
+    pub edge-inside : 31 ≤ length ib → e + 7 ≤ length ib
     edge-inside h = omega (arith, l .inside, l .order, e-is)
+
+    pub edge-far : 6 ≤ e
+    edge-far = omega (arith, l .unused, l .order, e-is)
 
     pub edge-small : length ib ≤ 32768 → e < 65536
     edge-small h = omega (arith, l .inside, e-is)
@@ -258,39 +264,30 @@ module _ (w K n : ℕ) (ib : List ℕ) (is : w ≡ widthFor n) where
     abbrev by : Limits
     by = record { width = w; edge = e; n = n; count = n - c; key = K }
 
-    abbrev free : List ℕ
-    free = numbersAt w ib 24 c
-
     abbrev none-yet : List ℕ
     none-yet = replicate limit 0
 
-    by-both : soundIndex w K n [] [] ib ≡ both (marking n none-yet free) (fineFrom by ib (seenAfter none-yet free) (n - c))
-    by-both = rw (c-is, e-is) (sound-by w K n ib (sym f) (sym b) l big)
+    by-walk : soundIndex w K n [] [] ib ≡ walkedFine by ib none-yet
+    unfolding walkedFine
+    by-walk = rw left-free (rw (c-is, e-is) (sound-by w K n ib (sym f) (sym b) l big))
+
+    free-long : n - (n - c) ≡ length (readIndex w n ib .free)
+    unfolding readIndex
+    free-long = left-free ∙ sym (length-numbersAt w ib 24 (freeCount w ib))
+
+    entries-long : n - c ≡ length (readIndex w n ib .entries)
+    entries-long = omega (arith, entries-count w n ib, c-is)
 
     module _ (m₀ : List ℕ) (em : m₀ ≡ none-yet) where
-      pub no-free : false ≡ marking n m₀ free → Refused
-      no-free h = unsound (λ p. false-true (h ∙ ap (λ (m : List ℕ). marking n m free) em ∙ both-split (marking n none-yet free) _ (sym by-both ∙ p) .0))
+      pub no-walk : false ≡ walkedFine by ib m₀ → Refused
+      no-walk h = unsound (λ p. false-true (h ∙ ap (λ (m : List ℕ). walkedFine by ib m) em ∙ sym by-walk ∙ p))
 
-      module _ (ok₁ : true ≡ marking n m₀ free) (seen : List ℕ) (marked : seen ≡ seenAfter m₀ free) where
-        by-walk : soundIndex w K n [] [] ib ≡ fineFrom by ib seen (n - c)
-        by-walk = by-both ∙ rw (← em, ← ok₁, ← marked)
-
-        pub no-chain : false ≡ fineFrom by ib seen (n - c) → Refused
-        no-chain h = unsound (λ p. false-true (h ∙ sym by-walk ∙ p))
-
-        free-long : c ≡ length (readIndex w n ib .free)
-        unfolding readIndex
-        free-long = c-is ∙ sym (length-numbersAt w ib 24 (freeCount w ib))
-
-        entries-long : n - c ≡ length (readIndex w n ib .entries)
-        entries-long = omega (arith, entries-count w n ib, c-is)
-
-        pub all-fine : true ≡ fineFrom by ib seen (n - c) → (wanted before own : List ℕ) (spot : Spot) → (0 < length wanted → FoundBy w (n - c) ib wanted spot before own)
-            → (x y : ℕ) → x ≡ c → y ≡ n - c → JudgedAs K n ib wanted before own (SoundWith x y spot)
-        all-fine ok₂ wanted before own spot found x y x-is y-is =
-            rw (← is) (
-              by-walk ∙ sym ok₂,
-              x-is ∙ free-long,
-              y-is ∙ entries-long,
-              λ (x : 0 < length wanted). rw (← entries-long) (found x),
-            )
+      pub all-fine : true ≡ walkedFine by ib m₀ → (wanted before own : List ℕ) (spot : Spot) → (0 < length wanted → FoundBy w (n - c) ib wanted spot before own)
+          → (x y : ℕ) → x ≡ n - (n - c) → y ≡ n - c → JudgedAs K n ib wanted before own (SoundWith x y spot)
+      all-fine ok wanted before own spot found x y x-is y-is =
+          rw (← is) (
+            by-walk ∙ ap (λ (m : List ℕ). walkedFine by ib m) (sym em) ∙ sym ok,
+            x-is ∙ free-long,
+            y-is ∙ entries-long,
+            λ (x : 0 < length wanted). rw (← entries-long) (found x),
+          )

@@ -20,7 +20,8 @@ use Rattle.index.specs.Meaning.{count, below, once, namedOnce}
 use Rattle.index.specs.Reading.{numbersAt}
 use Rattle.index.proofs.Counting.{count-same, count-other}
 use Rattle.index.proofs.Naming.{all-named}
-use Rattle.index_read.specs.AidWalk.{marking, seenAfter}
+use Rattle.index_read.specs.AidWalk.{marking, seenAfter, fineFrom, walkedFine}
+use Rattle.index_read.specs.declared.Limits.{Limits}
 
 record Sane (m : List ℕ) : Type 0 where
   whole : length m ≡ limit
@@ -169,3 +170,17 @@ mark-end w n seen ib at left h = sym (rw h)
 pub seen-end : (w : ℕ) (seen ib : List ℕ) (at left : ℕ) → left ≡ 0 → seen ≡ seenAfter seen (numbersAt w ib at left)
 unfolding seenAfter numbersAt
 seen-end w seen ib at left h = sym (rw h)
+
+-- ---- the free numbers, and the entries past them
+
+module _ (by : Limits) (ib seen : List ℕ) where
+  abbrev free : List ℕ
+  free = numbersAt (by .width) ib 24 (by .n - by .count)
+
+  pub walked-wrong : false ≡ marking (by .n) seen free → false ≡ walkedFine by ib seen
+  unfolding walkedFine
+  walked-wrong h = rw (← h)
+
+  pub walked-on : true ≡ marking (by .n) seen free → (seen' : List ℕ) → seen' ≡ seenAfter seen free → (ok : Bool) → ok ≡ fineFrom by ib seen' (by .count) → ok ≡ walkedFine by ib seen
+  unfolding walkedFine
+  walked-on h seen' is ok fine = rw (← h, ← is) fine

@@ -9,12 +9,12 @@ use lib.Seq.{length-take-le, take-take, take-append-le, take-add, append-snoc, t
 use lib.Dec.{ltb}
 use native.Mathlib.Nat.{eq-or-lt-of-le}
 use native.Mathlib.Omega.{arith}
-use borrow.Author.Tests.{ltb-true, lt-ltb, eq-eqb, ne-eqb}
-use Rattle.fields.specs.Choice.{pick}
+use borrow.Author.Tests.{ltb-true, ltb-false, lt-ltb, le-ltb, eq-eqb, ne-eqb}
+use Rattle.fields.specs.Choice.{pick, both}
 use Rattle.fields.specs.Bytes.{part}
 use Rattle.fields.specs.Order.{orderOf, less, common}
 use Rattle.fields.specs.declared.Order.the-variants.{Less, Same, Greater}
-use Rattle.fields.proofs.Choices.{false-true}
+use Rattle.fields.proofs.Choices.{false-true, both-split, both-true, both-false}
 use Rattle.fields.proofs.Orders.{order-prefix, less-inv, less-lt, less-eq}
 use Rattle.fields.proofs.Fronts.{common-take, common-prefix, common-differs, order-ends, order-lower, order-higher}
 use Rattle.fields.proofs.Splices.{length-mid, part-is}
@@ -22,9 +22,10 @@ use Rattle.index.specs.Meaning.{Entry, entry, separatorBefore}
 use Rattle.index.specs.Search.{leadsTo}
 use Rattle.index_step.specs.declared.Place.{Place}
 use Rattle.index_step.specs.declared.Step.{Step}
+use Rattle.index_step.specs.AidStep.{frontAt}
 use Rattle.index_step.specs.AidEntries.{Here, hereFirst, partHere, sepHere, entryHere, hereNext, entriesHere}
-use Rattle.index_read.specs.AidParsing.{parsedOf}
-use Rattle.index_read.specs.AidSeek.{reachOf, lookOf, Search, FoundBy}
+use Rattle.index_read.specs.AidParsing.{closesAt, parsedOf}
+use Rattle.index_read.specs.AidSeek.{reachOf, lookOf, aimOf, Search, FoundBy}
 use Rattle.index_read.specs.declared.Limits.{Limits}
 use Rattle.index_read.specs.declared.Parsed.the-variants.{Of, Bad}
 use Rattle.index_read.specs.declared.Spot.{Spot}
@@ -102,7 +103,7 @@ module _ (key : List ℕ) (front : ℕ) (chars : List ℕ) (fits : front + lengt
       let o : orderOf chars there ≡ Less = order-lower chars there i is h (omega (arith, there-long)) m in
       rw (o, is)
 
--- ---- past the next entry, no section's highest
+-- ---- past the next entry
 
 module _ (ib : List ℕ) (p : Place) (by : Limits) (key : List ℕ) (reach : ℕ) where
   pub look-bad : parsedOf ib p by ≡ Bad → reach ≡ lookOf ib p by key reach
@@ -120,18 +121,46 @@ module _ (ib : List ℕ) (p : Place) (by : Limits) (key : List ℕ) (reach : ℕ
       let g : Good ib p by s = good ib p by s e in
       omega (arith, g .fits, long, length-take (s .at + s .len - s .at) (drop (s .at) ib))
 
--- ---- whether a key is sought
+-- ---- past the entry before which a walk over a section's entries stopped
 
-pub unsought : {A : Type 0} (reach : ℕ) (x y : A) → reach ≡ 0 → y ≡ pick (ltb 0 reach) x y
-unsought reach x y none = rw none
+module _ (ib : List ℕ) (p : Place) (by : Limits) (key : List ℕ) (reach : ℕ) where
+  pub aim-none : reach ≡ 0 → 0 ≡ aimOf ib p by key reach
+  unfolding aimOf
+  aim-none none = rw none
 
-pub sought : {A : Type 0} (reach : ℕ) (x y : A) → (reach ≡ 0 → ⊥) → x ≡ pick (ltb 0 reach) x y
-sought zero x y some = absurd (some refl)
-sought (suc reach) x y some = rw (lt-ltb 0 (suc reach) (omega arith))
+  pub aim-inner : (p .right - (by .width + 2) ≡ p .end → ⊥) → 0 ≡ aimOf ib p by key reach
+  unfolding aimOf
+  aim-inner other = rw (ne-eqb (p .right - (by .width + 2)) (p .end) other, both-false (ltb 0 reach))
 
-pub some-of : (reach : ℕ) → (reach ≡ 0 → ⊥) → 0 < reach
-some-of zero some = absurd (some refl)
-some-of (suc reach) some = omega arith
+  -- while the key is sought past it as well, it is a section's highest
+  pub aim-top : 0 < aimOf ib p by key reach → closesAt (by .width) p ≡ true
+  unfolding aimOf
+  aim-top = go (both (ltb 0 reach) (closesAt (by .width) p)) refl
+    where
+      go : (t : Bool) → both (ltb 0 reach) (closesAt (by .width) p) ≡ t
+          → 0 < pick t (pick (ltb (frontAt (by .width) ib (p .right)) reach) (lookOf ib p by key reach) reach) 0 → closesAt (by .width) p ≡ true
+      go true e some = both-split (ltb 0 reach) (closesAt (by .width) p) e .1
+      go false e some = absurd (omega (arith, some))
+
+  -- a section's highest, while a key is sought; f is its F
+  module _ (on : 0 < reach) (top : p .right - (by .width + 2) ≡ p .end) (f : ℕ) (is : f ≡ frontAt (by .width) ib (p .right)) where
+    pub aim-kept : reach ≤ f → reach ≡ aimOf ib p by key reach
+    unfolding aimOf
+    aim-kept over =
+        rw (
+          lt-ltb 0 reach on,
+          eq-eqb (p .right - (by .width + 2)) (p .end) top,
+          le-ltb (frontAt (by .width) ib (p .right)) reach (omega (arith, over, is)),
+        )
+
+    pub aim-look : f < reach → lookOf ib p by key reach ≡ aimOf ib p by key reach
+    unfolding aimOf
+    aim-look under =
+        rw (
+          lt-ltb 0 reach on,
+          eq-eqb (p .right - (by .width + 2)) (p .end) top,
+          lt-ltb (frontAt (by .width) ib (p .right)) reach (omega (arith, under, is)),
+        )
 
 -- ---- what a reach says of the separator that it was found past
 
@@ -196,6 +225,58 @@ reached-joined key ref chars F reach under front same =
     let c : 0 + (length (take F ref) + common chars (part key F (length chars))) + 1 ≡ F + common chars (part key F (length chars)) + 1 = omega (arith, n) in
     rw (t, order-prefix (take F ref) chars (part key F (length chars)), common-prefix (take F ref) chars (part key F (length chars)), c)
 
+-- ---- past the entry before which a walk over a section's entries stopped: what the reach there says
+
+-- of the highest of the section before, while the key is sought
+pub record Above (key top : List ℕ) (reach : ℕ) : Type 0 where
+  pub same : 0 < reach → take (reach - 1) top ≡ take (reach - 1) key
+  pub ahead : 0 < reach → reach ≤ length top → less (take reach top) (take reach key) ≡ true
+
+-- of the entry's separator; `was` is the reach before, 0 where no key was sought
+pub record Aims (key sep : List ℕ) (was r : ℕ) : Type 0 where
+  pub still : 0 < r → 0 < was
+  pub on : 0 < r → Reached key sep r
+  pub off : r ≡ 0 → 0 < was → 0 ≡ reachOf key 0 sep
+
+-- a section's highest; f is its F, l what a look at it gives
+pub aims-top : (key top chars : List ℕ) (F was r : ℕ) → F ≤ length top → Above key top was → (f l : ℕ) → f ≡ F → l ≡ reachOf key F chars
+    → r ≡ pick (both (ltb 0 was) true) (pick (ltb f was) l was) 0 → Aims key (take F top ++ chars) was r
+aims-top key top chars F was r front above f l f-is l-is is = go (ltb 0 was) (ltb F was) refl refl (is ∙ rw (both-true (ltb 0 was), f-is, l-is))
+  where
+    go : (t u : Bool) → ltb 0 was ≡ t → ltb F was ≡ u → r ≡ pick t (pick u (reachOf key F chars) was) 0 → Aims key (take F top ++ chars) was r
+    go true true e f q =
+        let sought : 0 < was = ltb-true 0 was e in
+        let is : r ≡ reachOf key 0 (take F top ++ chars) = q ∙ reached-joined key top chars F was (ltb-true F was f) front (above .same sought) in
+        record {
+          still = λ (x : 0 < r). sought;
+          on = λ (x : 0 < r). reached-past key (take F top ++ chars) r is x;
+          off = λ (x : r ≡ 0) (y : 0 < was). sym x ∙ is;
+        }
+    go true false e f q =
+        let sought : 0 < was = ltb-true 0 was e in
+        let over : was ≤ F = ltb-false F was f in
+        record {
+          still = λ (x : 0 < r). sought;
+          on = λ (x : 0 < r). rw q (reached-kept key top chars F was sought over front (above .same sought) (above .ahead sought (omega (arith, over, front))));
+          off = λ (x : r ≡ 0) (y : 0 < was). absurd (omega (arith, q, x, y));
+        }
+    go false u e f q =
+        record {
+          still = λ (x : 0 < r). absurd (omega (arith, q, x));
+          on = λ (x : 0 < r). absurd (omega (arith, q, x));
+          off = λ (x : r ≡ 0) (y : 0 < was). absurd (omega (arith, ltb-false 0 was e, y));
+        }
+
+-- another: the key leads to it, as a look told
+pub aims-inner : (key ref chars : List ℕ) (F reach was r : ℕ) → F < reach → F ≤ length ref → take (reach - 1) ref ≡ take (reach - 1) key → 0 ≡ reachOf key F chars → r ≡ 0
+    → Aims key (take F ref ++ chars) was r
+aims-inner key ref chars F reach was r under front same here none =
+    record {
+      still = λ (x : 0 < r). absurd (omega (arith, none, x));
+      on = λ (x : 0 < r). absurd (omega (arith, none, x));
+      off = λ (x : r ≡ 0) (y : 0 < was). here ∙ reached-joined key ref chars F reach under front same;
+    }
+
 -- ---- where a key leads
 
 before-last : (ref : List ℕ) (es : List Entry) (e : Entry) → separatorBefore ref (es ++ (e ∷ [])) ≡ e .sep
@@ -251,7 +332,7 @@ module _ (ib : List ℕ) (by : Limits) (key : List ℕ) where
     rest-there more = let z : left ≡ suc (left - 1) = omega arith in ap (λ (k : ℕ). entriesHere (by .width) ib h k) z
 
     -- past an entry; what its reach says must hold while the key is sought
-    search-on : 0 < left → (r : ℕ) → (0 < r → 0 < reach) → (0 < r → Reached key sep r) → Search ib by key (hereNext (by .width) ib h) (left - 1) r
+    pub search-on : 0 < left → (r : ℕ) → (0 < r → 0 < reach) → (0 < r → Reached key sep r) → Search ib by key (hereNext (by .width) ib h) (left - 1) r
     search-on more r still told =
         let e : Entry = entryHere (by .width) ib h in
         let n : length (s .passed ++ (e ∷ [])) ≡ length (s .passed) + 1 = length-append (s .passed) (e ∷ []) in
@@ -267,10 +348,6 @@ module _ (ib : List ℕ) (by : Limits) (key : List ℕ) where
           long = λ (p : 0 < r) (q : 0 < length (s .passed ++ (e ∷ []))). told p .long;
           ahead = λ (p : 0 < r) (q : r ≤ length sep). told p .ahead;
         }
-
-    -- with an entry after which no key is sought any more, or none was before
-    pub search-off : 0 < left → (r : ℕ) → r ≡ 0 → Search ib by key (hereNext (by .width) ib h) (left - 1) r
-    search-off more r none = search-on more r (λ (p : 0 < r). absurd (omega (arith, p, none))) (λ (p : 0 < r). absurd (omega (arith, p, none)))
 
     sep-inner : partHere (by .width) ib h .closes ≡ false → sep ≡ take F (h .ref) ++ chars
     sep-inner inner = rw inner
@@ -289,19 +366,6 @@ module _ (ib : List ℕ) (by : Limits) (key : List ℕ) where
         let p : 0 < reach = omega (arith, under) in
         search-on more r (λ (q : 0 < r). p)
         (λ (q : 0 < r). rw (sep-inner inner) (reached-past key (take F (h .ref) ++ chars) r (is ∙ reached-joined key (h .ref) chars F reach under front (s .same p)) q))
-
-    -- past any entry whose whole separator was held against the key
-    pub search-past : 0 < left → 0 < reach → (r : ℕ) → r ≡ reachOf key 0 sep → Search ib by key (hereNext (by .width) ib h) (left - 1) r
-    search-past more sought r is = search-on more r (λ (q : 0 < r). sought) (λ (q : 0 < r). reached-past key sep r is q)
-
-    -- both at once: `old` is the reach by which code tells whether a key is sought
-    pub search-turn : 0 < left → (old : ℕ) → (0 < old → 0 < reach) → (r : ℕ) → r ≡ pick (ltb 0 old) (reachOf key 0 sep) 0
-        → Search ib by key (hereNext (by .width) ib h) (left - 1) r
-    search-turn more old sought r is = go (ltb 0 old) refl is
-      where
-        go : (t : Bool) → ltb 0 old ≡ t → r ≡ pick t (reachOf key 0 sep) 0 → Search ib by key (hereNext (by .width) ib h) (left - 1) r
-        go true e q = search-past more (sought (ltb-true 0 old e)) r q
-        go false e q = search-off more r q
 
     -- the next entry is the one that the key leads to: its separator is not below the key
     pub found-here : 0 < left → 0 < reach → 0 ≡ reachOf key 0 sep → (spot : Spot) (before own : List ℕ) → spot .ordinal ≡ by .count - left

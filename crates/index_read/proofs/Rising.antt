@@ -14,7 +14,7 @@ use Rattle.fields.specs.Bytes.{Octets, part}
 use Rattle.fields.specs.Order.{orderOf, isLess, less}
 use Rattle.fields.specs.declared.Order.{Order}
 use Rattle.fields.specs.declared.Order.the-variants.{Less, Same, Greater}
-use Rattle.fields.proofs.Choices.{both-split, no-true}
+use Rattle.fields.proofs.Choices.{both-split, no-true, off}
 use Rattle.fields.proofs.Splices.{length-mid, drop-take}
 use Rattle.fields.proofs.Orders.{andThen, order-prefix, order-front, less-order, less-lt}
 use Rattle.fields.proofs.Octets.{octets-take, octets-drop, octets-append, octets-replicate}
@@ -82,6 +82,10 @@ last-low K s o h =
     let b = both-split (leb (length s) K) (no (eqb (getD s (length s - 1) 0) 255)) h in
     let n = eqb-false (getD s (length s - 1) 0) 255 (no-true (eqb (getD s (length s - 1) 0) 255) (b .1)) in
     omega (arith, o (length s - 1))
+
+-- with something left behind the F bytes there is a separator before
+pub not-first : (first : Bool) (f len : ℕ) → (first ≡ true → len ≡ 0) → f < len → first ≡ false
+not-first first f len alone h = off first (λ (e : first ≡ true). omega (arith, alone e, h))
 
 module _ (buf ib : List ℕ) (f len at l : ℕ) (front : f ≤ len) (whole : len ≤ length buf) (inside : at + l ≤ length ib) (fine : separator len (take len buf) ≡ true)
     (ob : Octets buf) (oi : Octets ib) (K : ℕ) (k1 : len ≤ K) (k2 : f + l ≤ K) where
@@ -182,21 +186,22 @@ module _ (buf ib : List ℕ) (f len at l : ℕ) (front : f ≤ len) (whole : len
 
   -- ---- told by one byte at most
 
-  module _ (first : Bool) (no-first : first ≡ false) where
-    -- nothing of the separator before is left behind the F bytes
-    pub none-left : len ≤ f → false ≡ boundRises first K (take len buf) (take f buf ++ c)
-    none-left h =
-        let z : len - f ≡ 0 = omega arith in
-        let e1 : f + 0 - f ≡ 0 = omega arith in
-        let e2 : at + 0 - at ≡ 0 = omega arith in
-        sym (le-ltb l (len - f) (omega arith)) ∙ above-same first no-first 0 (inr (omega arith, sym z)) Same (rw (e1, e2) (unfold orderOf in refl)) refl
+  -- nothing of the separator before is left behind the F bytes: only an entry with none before it rises
+  pub none-left : (first : Bool) → len ≤ f → first ≡ boundRises first K (take len buf) (take f buf ++ c)
+  none-left true h = refl
+  none-left false h =
+      let z : len - f ≡ 0 = omega arith in
+      let e1 : f + 0 - f ≡ 0 = omega arith in
+      let e2 : at + 0 - at ≡ 0 = omega arith in
+      sym (le-ltb l (len - f) (omega arith)) ∙ above-same false refl 0 (inr (omega arith, sym z)) Same (rw (e1, e2) (unfold orderOf in refl)) refl
 
+  module _ (first : Bool) (alone : first ≡ true → len ≡ 0) where
     -- something is, and no character takes its place
     pub none-new : f < len → l ≡ 0 → true ≡ boundRises first K (take len buf) (take f buf ++ c)
     none-new h z =
         let e1 : f + 0 - f ≡ 0 = omega arith in
         let e2 : at + 0 - at ≡ 0 = omega arith in
-        sym (lt-ltb l (len - f) (omega arith)) ∙ above-same first no-first 0 (inl (omega arith, sym z)) Same (rw (e1, e2) (unfold orderOf in refl)) refl
+        sym (lt-ltb l (len - f) (omega arith)) ∙ above-same first (not-first first f len alone h) 0 (inl (omega arith, sym z)) Same (rw (e1, e2) (unfold orderOf in refl)) refl
 
     -- the first character is above the byte in whose place it stands
     pub first-above : f < len → 0 < l → getD buf f 0 < getD ib at 0 → true ≡ boundRises first K (take len buf) (take f buf ++ c)
@@ -210,7 +215,7 @@ module _ (buf ib : List ℕ) (f len at l : ℕ) (front : f ≤ len) (whole : len
             let d2 : drop at ib ≡ getD ib at 0 ∷ drop (suc at) ib = drop-cons ib at 0 (omega arith) in
             let y : isLess (orderOf (getD buf f 0 ∷ take (m - 1) (drop (suc f) buf)) (getD ib at 0 ∷ take (m - 1) (drop (suc at) ib))) ≡ true =
             less-lt (getD buf f 0) (getD ib at 0) (take (m - 1) (drop (suc f) buf)) (take (m - 1) (drop (suc at) ib)) x in
-            above-less first no-first m e Less (sym (rw (e1, e2, d1, d2) (less-order _ y))) refl
+            above-less first (not-first first f len alone h) m e Less (sym (rw (e1, e2, d1, d2) (less-order _ y))) refl
 
 -- ---- with nothing before it, and with something
 

@@ -10,14 +10,14 @@ use Rattle.measures.specs.Judgement.{widthFor}
 use Rattle.index.specs.Bounds.{bound}
 use Rattle.index.specs.Meaning.{Entry, entry, numbers, below, separatorBefore}
 use Rattle.index.specs.Rules.{rises}
-use Rattle.index.specs.Search.{leadsTo}
+use Rattle.index.specs.Search.{leadsTo, entryFor}
 use Rattle.index.proofs.Keeping.{rules-apart, rises-apart, separator-short}
 use Rattle.index.proofs.Counting.{below-apart}
 use Rattle.sections.specs.Reading.{readIndex, soundIndex}
 use Rattle.sections.proofs.Sounding.{sound-apart, sound-below}
 use Rattle.index_step.specs.AidEntries.{hereFirst, entriesHere}
 use Rattle.index_step.proofs.Stepping.{entries-passed, entries-count}
-use Rattle.index_read.specs.Check.{indexBy, indexOf, soundFor, entriesIn, lowFor, entryAt, spotOf, soughtOf, Seeks}
+use Rattle.index_read.specs.Check.{indexBy, indexOf, soundWith, entriesIn, lowFor, spotOf, soughtOf, Seeks}
 use Rattle.index_read.specs.AidSeek.{FoundBy}
 use Rattle.index_read.specs.AidJudged.{JudgedAs}
 use Rattle.index_read.specs.declared.Spot.{Spot}
@@ -90,7 +90,7 @@ module _ (n : ℕ) (ib key low high : List ℕ) (f e : ℕ) (spot : Spot) (j : J
   low-is : take (spot .before) low ≡ lowFor n ib key
   low-is = found .low ∙ rw (met, ordinal-is)
 
-  high-is : take (spot .own) high ≡ entryAt n ib key .sep
+  high-is : take (spot .own) high ≡ entryFor key (entriesIn n ib) .sep
   high-is = found .high ∙ rw (met, ordinal-is)
 
   spot-is : spot ≡ spotOf n ib key
@@ -117,6 +117,6 @@ module _ (n : ℕ) (ib key low high : List ℕ) (f e : ℕ) (spot : Spot) (j : J
         high = rw (j .0) (o ∙ ap (λ (x : List ℕ). splice own 0 x) high-is);
       }
 
-pub seeks-unsound : (n : ℕ) (ib key before own : List ℕ) → soundFor n ib key ≡ false → Seeks n ib key before own sought.Unsound before own
+pub seeks-unsound : (n : ℕ) (ib key before own : List ℕ) → soundWith n ib key ≡ false → Seeks n ib key before own sought.Unsound before own
 unfolding soughtOf
 seeks-unsound n ib key before own h = record { answers = sym (rw h); low = sym (rw h); high = sym (rw h) }

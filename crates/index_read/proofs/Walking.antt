@@ -15,6 +15,7 @@ use Rattle.fields.specs.Order.{orderOf, less}
 use Rattle.fields.proofs.Choices.{false-true, both-split, both-join, off, both-none, both-true, both-false}
 use Rattle.fields.proofs.Splices.{length-mid}
 use Rattle.index.specs.Bounds.{empty, bound, separator}
+use Rattle.index.specs.Meaning.{Entry, separatorBefore}
 use Rattle.index.specs.Reading.{lengthAt}
 use Rattle.index.proofs.Keeping.{separator-short}
 use Rattle.index.proofs.Apart.{chars-long}
@@ -28,7 +29,7 @@ use Rattle.index_step.proofs.Passing.{held-on}
 use Rattle.index_step.proofs.Stepping.{held-start}
 use Rattle.index_read.specs.AidParsing.{closesAt, parses}
 use Rattle.index_read.specs.AidWalk.{boundRises, Before, nextIn, entryOf, Taken, chain, marking, fineFrom}
-use Rattle.index_read.specs.AidSeek.{reachOf, reachPast, lookOf, Search}
+use Rattle.index_read.specs.AidSeek.{reachOf, reachPast, lookOf, aimOf, Search}
 use Rattle.index_read.specs.AidStand.{Walkable, fineAt, lowOf, Stand, Paused, Stopped}
 use Rattle.index_read.specs.declared.Leg.{Leg}
 use Rattle.index_read.specs.declared.Limits.{Limits}
@@ -38,7 +39,7 @@ use Rattle.index_read.specs.declared.Stop.{Stop}
 use Rattle.index_read.specs.declared.Stop.the-variants.{At, Wrong}
 use Rattle.index_read.proofs.Entry.{Good, good, passes, parses-joined}
 use Rattle.index_read.proofs.Next.{closes-is, entry-good, entry-bad, taken-of}
-use Rattle.index_read.proofs.Reaching.{search-start, search-skip, search-look, search-turn, not-sought-at-end}
+use Rattle.index_read.proofs.Reaching.{Above, Aims, aims-top, aims-inner, search-start, search-on, search-skip, search-look, not-sought-at-end}
 
 -- ---- the tests, entry by entry
 
@@ -152,15 +153,16 @@ reclosed ib by key old seen buf high p t u left reach more st =
       low = st .low;
       fine = st .fine;
       inside = st .inside;
+      off = st .off;
       few = st .few;
       same = st .same ∙ fine-open by ib seen (lowOf (eqb left (by .count)) (by .key) (st .h .ref)) (st .h) t u left more;
       search = st .search;
       keyed = st .keyed;
     }
 
-pub start : (ib : List ℕ) (by : Limits) (key old : List ℕ) (p : Place) (reach : ℕ) → p ≡ placeStart ib → 31 ≤ length ib → 0 < by .count → reach ≤ 1
+pub start : (ib : List ℕ) (by : Limits) (key old : List ℕ) (p : Place) (reach : ℕ) → p ≡ placeStart ib → 31 ≤ length ib → by .edge + 7 ≤ length ib → 0 < by .count → reach ≤ 1
     → (0 < reach → length key ≡ by .key) → Stand ib by key old old (replicate 263 0) (replicate 263 0) p true (by .count) reach
-start ib by key old p reach is large some few keyed =
+start ib by key old p reach is large before some few keyed =
     let k : length {A = ℕ} (replicate 263 0) ≡ 263 = length-replicate {A = ℕ} 263 0 in
     reclosed ib by key old old (replicate 263 0) (replicate 263 0) p false true (by .count) reach some
     (record {
@@ -172,6 +174,7 @@ start ib by key old p reach is large some few keyed =
       low = omega arith;
       fine = unfold separator in refl;
       inside = omega arith;
+      off = omega arith;
       few = omega arith;
       same = fine-first by ib old (by .count) ∙ rw (eq-eqb (by .count) (by .count) refl);
       search = search-start ib by key reach few;
@@ -237,13 +240,6 @@ sought-reached ib p by key reach r x some =
     ⊎-elim (λ (y : (frontAt (by .width) ib (p .right) < reach) × (r ≡ lookOf ib p by key reach) × (0 < r)). omega (arith, y .0))
     (λ (y : (reach ≤ frontAt (by .width) ib (p .right)) × (r ≡ reach)). omega (arith, y .1, some)) x
 
-pick-sought : (was x : ℕ) → 0 < pick (ltb 0 was) x 0 → 0 < was
-pick-sought was x = go (ltb 0 was) refl
-  where
-    go : (t : Bool) → ltb 0 was ≡ t → 0 < pick t x 0 → 0 < was
-    go true e h = ltb-true 0 was e
-    go false e h = absurd (omega arith)
-
 -- ---- the next entry, by the place and the buffers and by the entries
 
 module _ (by : Limits) (ib : List ℕ) (h : Here) (p : Place) (buf high : List ℕ) (held : Held h p buf high) where
@@ -303,13 +299,16 @@ module _ (ib : List ℕ) (by : Limits) (key old seen buf high : List ℕ) (p : P
   count = by .count
 
   -- for the calls
-  pub ready : Walkable ib by key → by .edge + (by .width + 2) ≤ p .right → Before ib p by buf
-  ready w room =
+  pub roomy : Walkable ib by key → by .width + 2 ≤ p .right
+  roomy w = omega (arith, w .few, w .far, st .off, st .held .right)
+
+  pub ready : Walkable ib by key → Before ib p by buf
+  ready w =
       record {
         some = w .some;
         few = w .few;
         inside = omega (arith, st .inside, st .held .right);
-        room = room;
+        room = roomy w;
         edge = w .edge;
         whole = omega (arith, st .whole, w .most);
         short = omega (arith, st .short, st .held .long);
@@ -317,15 +316,30 @@ module _ (ib : List ℕ) (by : Limits) (key old seen buf high : List ℕ) (p : P
         held = rw (st .held .ref, ← st .held .long) (st .fine);
       }
 
+  -- before the first entry there is no separator
+  pub first-empty : eqb left count ≡ true → p .len ≡ 0
+  unfolding separatorBefore
+  first-empty e = go (st .search .passed) (omega (arith, st .search .many, eqb-true left count e)) (st .search .last)
+    where
+      go : (es : List Entry) → length es ≡ 0 → separatorBefore [] es ≡ st .h .ref → p .len ≡ 0
+      go [] none last = omega (arith, ap length last, st .held .long)
+      go (x ∷ es) none last = absurd (omega (arith, none))
+
   pub tall : by .key ≤ 255 → by .key + 8 ≤ length high
   tall most = omega (arith, st .whole')
 
-  pub sighted : Walkable ib by key → by .edge + (by .width + 2) ≤ p .right → 0 < reach
-      → (1 ≤ by .width) × (by .width ≤ 4) × (p .right ≤ length ib) × (by .edge + (by .width + 2) ≤ p .right) × (by .edge < 65536) × (length key ≡ by .key)
-  sighted w room sought = (w .some, w .few, omega (arith, st .inside, st .held .right), room, w .edge, st .keyed sought)
+  pub sighted : Walkable ib by key → 0 < reach
+      → (1 ≤ by .width) × (by .width ≤ 4) × (p .right ≤ length ib) × (by .width + 2 ≤ p .right) × (by .edge < 65536) × (length key ≡ by .key)
+  sighted w sought = (w .some, w .few, omega (arith, st .inside, st .held .right), roomy w, w .edge, st .keyed sought)
 
   pub within : p .right + 7 ≤ length ib
   within = omega (arith, st .inside, st .held .right)
+
+  -- L stands behind F
+  pub length-is : Walkable ib by key → (l : ℕ) → l ≡ getD ib (p .right - (by .width + 2) + 1) 0 → l ≡ lengthAt (by .width) ib (p .right)
+  length-is w l is =
+      let i : p .right - (by .width + 2) + 1 ≡ p .right - (by .width + 1) = omega (arith, roomy w) in
+      is ∙ ap (λ (k : ℕ). getD ib k 0) i
 
   abbrev all : Bool
   all = fineFrom by ib old count
@@ -367,6 +381,23 @@ module _ (ib : List ℕ) (by : Limits) (key old seen buf high : List ℕ) (p : P
     not-all : (Fine → ⊥) → false ≡ all
     not-all f = sym (st .same ∙ off here (λ z. f (fine-apart by ib seen low h' closed left more z)))
 
+    -- it lies left of the edge
+    pub no-room : (l : ℕ) → l ≡ lengthAt w' ib (p .right) → p .right - (w' + 2) < by .edge + l → false ≡ all
+    no-room l is z = not-all no
+      where
+        no : Fine → ⊥
+        no x =
+            let e : l ≡ L' = is ∙ ap (λ (k : ℕ). lengthAt w' ib k) (st .held .right) in
+            omega (arith, x .room, z, e, st .held .right, chars-long w' ib (h' .right) (omega (arith, st .inside)) (omega (arith, x .room)))
+
+    -- its number is too big, or was met before
+    module _ (n : ℕ) (is : n ≡ part' .piece .num) where
+      pub too-big : by .n ≤ n → false ≡ all
+      too-big z = not-all (λ x. omega (arith, x .small, is, z))
+
+      pub again : (getD seen n 0 ≡ 0 → ⊥) → false ≡ all
+      again z = not-all (λ x. z (rw is (x .new)))
+
     nexts : F' ≤ length former' → nextIn ib p by buf high ≡ sep'
     nexts = next-is by ib h' p buf high (st .held)
 
@@ -394,12 +425,6 @@ module _ (ib : List ℕ) (by : Limits) (key old seen buf high : List ℕ) (p : P
       pub passes-top : K ≤ 255 → (s .front + s .len ≤ 510) × (s .at ≤ length ib) × (pick (s .closes) 2 0 ≤ s .at)
       passes-top most = passes ib p by s fits within most
 
-      pub too-big : by .n ≤ s .number → false ≡ all
-      too-big z = not-all (λ x. omega (arith, x .small, num-is))
-
-      pub again : (getD seen (s .number) 0 ≡ 0 → ⊥) → false ≡ all
-      again z = not-all (λ x. z (rw num-is (x .new)))
-
       room : by .edge + (w' + 2 + L' + pick (part' .closes) 2 0) ≤ h' .right
       room =
           let z : by .edge + (w' + 2 + L' + pick (part' .closes) 2 0) ≤ p .right = rw steps at (fits .room) in
@@ -420,7 +445,7 @@ module _ (ib : List ℕ) (by : Limits) (key old seen buf high : List ℕ) (p : P
       fine : separator K sep' ≡ true
       fine = ap (λ (x : List ℕ). separator K x) (sym (nexts front)) ∙ entry-good ib p by (eqb left count) buf high s entry .2
 
-      pub sep-fits : length sep' ≤ K
+      sep-fits : length sep' ≤ K
       sep-fits = separator-short K sep' fine
 
       rising : less low (bound K sep') ≡ true
@@ -441,16 +466,39 @@ module _ (ib : List ℕ) (by : Limits) (key old seen buf high : List ℕ) (p : P
           let c : s .closes ≡ part' .closes = ap (λ (y : Step). y .closes) steps in
           st .same ∙ fine-on by ib seen low h' closed left more x ∙ rw (← num-is, ← c)
 
+      closing : (t : Bool) → closesAt w' p ≡ t → part' .closes ≡ t
+      closing t e = sym (ap (λ (x : Step). x .closes) steps) ∙ closes-is ib p by s (entry-good ib p by (eqb left count) buf high s entry .0) t e
+
+      looks : (z : ℕ) → lookOf ib p by key z ≡ reachOf key F' (part' .piece .chars)
+      looks z = ap (λ (x : Parsed). reachPast ib key z x) (entry-good ib p by (eqb left count) buf high s entry .0) ∙ rw steps
+
+      -- the reach past it, if a walk over its section's entries stopped before it; `was` is that past the highest of the section before
+      pub aims : (was : ℕ) → Above key (h' .high) was → (closesAt w' p ≡ false → (frontAt w' ib (p .right) < reach) × (0 ≡ lookOf ib p by key reach))
+          → (r : ℕ) → r ≡ aimOf ib p by key was → Aims key sep' was r
+      unfolding aimOf
+      aims was above found r is = go (closesAt w' p) refl is
+        where
+          go : (t : Bool) → closesAt w' p ≡ t → r ≡ pick (both (ltb 0 was) t) (pick (ltb (frontAt w' ib (p .right)) was) (lookOf ib p by key was) was) 0 → Aims key sep' was r
+          go true e q =
+              let c : part' .closes ≡ true = closing true e in
+              let f : F' ≤ length (h' .high) = rw c at front in
+              let f-is : frontAt w' ib (p .right) ≡ F' = ap (λ (x : ℕ). frontAt w' ib x) (st .held .right) in
+              rw c (aims-top key (h' .high) (part' .piece .chars) F' was r f above (frontAt w' ib (p .right)) (lookOf ib p by key was) f-is (looks was) q)
+          go false e q =
+              let c : part' .closes ≡ false = closing false e in
+              let f : F' ≤ length (h' .ref) = rw c at front in
+              let n : r ≡ 0 = q ∙ rw (both-false (ltb 0 was)) in
+              let x = found e in
+              let u : F' < reach = rw (st .held .right) at (x .0) in
+              rw c (aims-inner key (h' .ref) (part' .piece .chars) F' reach was r u f (st .search .same (omega (arith, u))) (x .1 ∙ looks reach) n)
+
       -- the key past it, with the reach that a look at it gives
       module _ (inner : closesAt w' p ≡ false) where
         unclosed : part' .closes ≡ false
-        unclosed = sym (ap (λ (x : Step). x .closes) steps) ∙ closes-is ib p by s (entry-good ib p by (eqb left count) buf high s entry .0) false inner
+        unclosed = closing false inner
 
         front-inner : F' ≤ length (h' .ref)
         front-inner = rw unclosed at front
-
-        looks : lookOf ib p by key reach ≡ reachOf key F' (part' .piece .chars)
-        looks = ap (λ (x : Parsed). reachPast ib key reach x) (entry-good ib p by (eqb left count) buf high s entry .0) ∙ rw steps
 
         pub reached : (r : ℕ) → Reached ib p by key reach r → Search ib by key (hereNext w' ib h') (left - 1) r
         reached r x =
@@ -460,7 +508,7 @@ module _ (ib : List ℕ) (by : Limits) (key old seen buf high : List ℕ) (p : P
             looked : (frontAt w' ib (p .right) < reach) × (r ≡ lookOf ib p by key reach) × (0 < r) → Search ib by key (hereNext w' ib h') (left - 1) r
             looked y =
                 let f : F' < reach = rw (st .held .right) at (y .0) in
-                search-look ib by key h' left reach (st .search) more unclosed f front-inner r (y .1 ∙ looks) (y .2)
+                search-look ib by key h' left reach (st .search) more unclosed f front-inner r (y .1 ∙ looks reach) (y .2)
 
             skipped : (reach ≤ frontAt w' ib (p .right)) × (r ≡ reach) → Search ib by key (hereNext w' ib h') (left - 1) r
             skipped y =
@@ -485,6 +533,7 @@ module _ (ib : List ℕ) (by : Limits) (key old seen buf high : List ℕ) (p : P
               low = pick-short (part' .closes) sep' (h' .high) K sep-fits (st .low);
               fine = separator-own K sep' fine;
               inside = omega (arith, st .inside);
+              off = omega (arith, size);
               few = omega (arith, st .few);
               same = same-on k z ∙ rw u;
               search = search;
@@ -492,21 +541,32 @@ module _ (ib : List ℕ) (by : Limits) (key old seen buf high : List ℕ) (p : P
             }
 
         -- one turn of the walk over all entries; by `was` it tells whether a key is sought
-        pub turned : (was : ℕ) → (0 < was → 0 < reach) → (r : ℕ) → r ≡ pick (ltb 0 was) (reachOf key 0 (take (p' .len) buf')) 0
+        pub turned : (was : ℕ) → (0 < was → 0 < reach) → (r : ℕ) → Aims key sep' was r
             → s .number < by .n → getD seen (s .number) 0 ≡ 0 → (left ≡ 1 → closesAt w' p ≡ true) → Stand ib by key old (set seen (s .number) 1) buf' high' p' true (left - 1) r
-        turned was sought r is k z last = go (eqb left 1) refl
+        turned was sought r aim k z last = go (eqb left 1) refl
           where
-            is' : r ≡ pick (ltb 0 was) (reachOf key 0 sep') 0
-            is' = is ∙ ap (λ (x : List ℕ). pick (ltb 0 was) (reachOf key 0 x) 0) (held-past .ref)
+            still : 0 < r → 0 < reach
+            still y = sought (aim .still y)
 
             on : Stand ib by key old (set seen (s .number) 1) buf' high' p' (s .closes) (left - 1) r
-            on = onward r (search-turn ib by key h' left reach (st .search) more was sought r is') (λ (y : 0 < r). sought (pick-sought was (reachOf key 0 sep') (rw is' at y))) k z
+            on = onward r (search-on ib by key h' left reach (st .search) more r still (aim .on)) still k z
 
             go : (t : Bool) → eqb left 1 ≡ t → Stand ib by key old (set seen (s .number) 1) buf' high' p' true (left - 1) r
             go true e =
                 let c : s .closes ≡ true = closes-is ib p by s (entry-good ib p by (eqb left count) buf high s entry .0) true (last (eqb-true left 1 e)) in
                 rw c at on
             go false e = reclosed ib by key old (set seen (s .number) 1) buf' high' p' (s .closes) true (left - 1) r (omega (arith, eqb-false left 1 e, more)) on
+
+        -- while the key is sought past it, it is the highest of the section before the next entry
+        pub topped : (was r : ℕ) → Aims key sep' was r → (0 < r → closesAt w' p ≡ true) → Above key (take (p' .high) high') r
+        topped was r aim top =
+            record {
+              same = λ (x : 0 < r). ap (λ (y : List ℕ). take (r - 1) y) (is x) ∙ aim .on x .same;
+              ahead = λ (x : 0 < r) (y : r ≤ length (take (p' .high) high')). rw (is x) (aim .on x .ahead);
+            }
+          where
+            is : 0 < r → take (p' .high) high' ≡ sep'
+            is x = let c : part' .closes ≡ true = closing true (top x) in held-past .top ∙ rw c
 
   -- ---- the end
 
@@ -527,11 +587,7 @@ module _ (ib : List ℕ) (by : Limits) (key old seen buf high : List ℕ) (p : P
         let b = both-split (eqb (p .len) 0) _ (a .1) in
         not-sought-at-end ib by key h' reach (rw done at (st .search)) some (omega (arith, eqb-true (p .len) 0 (b .0), st .held .long))
 
-  -- ---- an entry that lies left of the edge, or is the last and closes no section
-
-  pub no-room : 0 < left → p .right < by .edge + (by .width + 2) → false ≡ all
-  no-room more z =
-      sym (st .same ∙ off _ (λ y. omega (arith, fine-apart by ib seen low h' closed left more y .room, st .held .right)))
+  -- ---- an entry that is the last and closes no section
 
   pub last-open : left ≡ 1 → closesAt w' p ≡ false → false ≡ all
   last-open one which = sym (st .same ∙ off _ (λ y. false-true (sym (none y) ∙ y)))
@@ -547,17 +603,26 @@ module _ (ib : List ℕ) (by : Limits) (key old seen buf high : List ℕ) (p : P
 
 -- ---- the walk over a section's entries
 
--- How far it has come from its own start: whatever walk stood there stands here now; past an entry that closed no section, unless it still is at its start. A key
--- that was sought still is.
+past-inner : (ib : List ℕ) (s : Step) (p : Place) → s .closes ≡ false → placePast ib s p .high ≡ p .high
+past-inner ib s p c = rw c
+
+-- How far it has come from its own start: whatever walk stood there stands here now, with the same highest of the section before; past an entry that closed no
+-- section, unless it still is at its start. A key that was sought still is.
 pub record Along (ib : List ℕ) (by : Limits) (key seen₀ buf₀ : List ℕ) (from : Leg) (seen buf : List ℕ) (p : Place) (left reach : ℕ) : Type 0 where
   pub few : left ≤ from .left
   pub still : 0 < from .reach → 0 < reach
   pub goes : (old high : List ℕ) → Stand ib by key old seen₀ buf₀ high (from .p) true (from .left) (from .reach)
       → Stand ib by key old seen buf high p (eqb left (from .left)) left reach
+  pub above : (old high : List ℕ) → Stand ib by key old seen₀ buf₀ high (from .p) true (from .left) (from .reach) → p .high ≡ from .p .high
 
 pub set-out : (ib : List ℕ) (by : Limits) (key seen buf : List ℕ) (from : Leg) → Along ib by key seen buf from seen buf (from .p) (from .left) (from .reach)
 set-out ib by key seen buf from =
-    record { few = omega arith; still = λ (x : 0 < from .reach). x; goes = λ (old high : List ℕ) st. rw (eq-eqb (from .left) (from .left) refl) st }
+    record {
+      few = omega arith;
+      still = λ (x : 0 < from .reach). x;
+      goes = λ (old high : List ℕ) st. rw (eq-eqb (from .left) (from .left) refl) st;
+      above = λ (old high : List ℕ) st. refl;
+    }
 
 module _ (ib : List ℕ) (by : Limits) (key seen₀ buf₀ : List ℕ) (from : Leg) (seen buf : List ℕ) (p : Place) (left reach : ℕ)
     (g : Along ib by key seen₀ buf₀ from seen buf p left reach) (some : 0 < left) (wk : Walkable ib by key) where
@@ -568,29 +633,35 @@ module _ (ib : List ℕ) (by : Limits) (key seen₀ buf₀ : List ℕ) (from : L
   abbrev more : ℕ
   more = from .left
 
-  pub ends-left : (seen' buf' : List ℕ) → p .right < by .edge + (by .width + 2) → Ends seen' buf' Wrong
-  ends-left seen' buf' z = λ old high st. no-room ib by key old seen buf high p (eqb left more) left reach (g .goes old high st) some z
+  pub ends-left : (seen' buf' : List ℕ) (l : ℕ) → l ≡ lengthAt (by .width) ib (p .right) → p .right - (by .width + 2) < by .edge + l → Ends seen' buf' Wrong
+  ends-left seen' buf' l is z = λ old high st. no-room ib by key old seen buf high p (eqb left more) left reach (g .goes old high st) some (wk .least) l is z
 
   pub ends-last : (seen' buf' : List ℕ) → left ≡ 1 → closesAt (by .width) p ≡ false → Ends seen' buf' Wrong
   ends-last seen' buf' one which = λ old high st. last-open ib by key old seen buf high p (eqb left more) left reach (g .goes old high st) one which
 
-  pauses : by .edge + (by .width + 2) ≤ p .right → (left ≡ 1 → closesAt (by .width) p ≡ true) → Ends seen buf (At p left)
-  pauses room last = λ old high st.
+  pauses : (left ≡ 1 → closesAt (by .width) p ≡ true)
+      → (closesAt (by .width) p ≡ false → (frontAt (by .width) ib (p .right) < reach) × (0 ≡ lookOf ib p by key reach)) → Ends seen buf (At p left)
+  pauses last here = λ old high st.
       record {
         reach = reach;
         still = g .still;
         stand = reclosed ib by key old seen buf high p (eqb left more) true left reach some (g .goes old high st);
         some = some;
         few = g .few;
-        room = room;
         last = last;
+        above = g .above old high st;
+        here = here;
       }
 
-  pub ends-top : by .edge + (by .width + 2) ≤ p .right → p .right - (by .width + 2) ≡ p .end → Ends seen buf (At p left)
-  ends-top room z = pauses room (λ (x : left ≡ 1). eq-eqb (p .right - (by .width + 2)) (p .end) z)
+  pub ends-top : p .right - (by .width + 2) ≡ p .end → Ends seen buf (At p left)
+  ends-top z =
+      let c : closesAt (by .width) p ≡ true = eq-eqb (p .right - (by .width + 2)) (p .end) z in
+      pauses (λ (x : left ≡ 1). c) (λ (x : closesAt (by .width) p ≡ false). absurd (false-true (sym x ∙ c)))
 
-  pub ends-found : by .edge + (by .width + 2) ≤ p .right → (left ≡ 1 → ⊥) → Ends seen buf (At p left)
-  ends-found room z = pauses room (λ (x : left ≡ 1). absurd (z x))
+  -- f is the entry's F, l what a look at it gave
+  pub ends-found : (left ≡ 1 → ⊥) → (f l : ℕ) → f ≡ frontAt (by .width) ib (p .right) → f < reach → l ≡ lookOf ib p by key reach → l ≡ 0 → Ends seen buf (At p left)
+  ends-found z f l f-is under l-is none =
+      pauses (λ (x : left ≡ 1). absurd (z x)) (λ (x : closesAt (by .width) p ≡ false). (omega (arith, under, f-is), sym none ∙ l-is))
 
   abbrev Answers : Parsed → Type 0
   Answers x = (high : List ℕ) → by .key + 8 ≤ length high → x ≡ entryOf ib p by (eqb left (by .count)) buf high
@@ -601,19 +672,24 @@ module _ (ib : List ℕ) (by : Limits) (key seen₀ buf₀ : List ℕ) (from : L
       bad-entry ib by key old seen buf high p (eqb left more) left reach t some (wk .least)
       (sym (is high (tall ib by key old seen buf high p (eqb left more) left reach t (wk .most))) ∙ bad)
 
+  -- its number, as it is read
+  module _ (n : ℕ) (n-is : n ≡ number (by .width) ib (p .right - by .width)) where
+    num-there : (old high : List ℕ) → (t : Stand ib by key old seen buf high p (eqb left more) left reach) → n ≡ partHere (by .width) ib (t .h) .piece .num
+    num-there old high t = n-is ∙ ap (λ (k : ℕ). number (by .width) ib (k - by .width)) (t .held .right)
+
+    pub ends-big : (seen' buf' : List ℕ) → by .n ≤ n → Ends seen' buf' Wrong
+    ends-big seen' buf' z = λ old high st.
+        let t = g .goes old high st in
+        too-big ib by key old seen buf high p (eqb left more) left reach t some (wk .least) n (num-there old high t) z
+
+    pub ends-again : (seen' buf' : List ℕ) → (getD seen n 0 ≡ 0 → ⊥) → Ends seen' buf' Wrong
+    ends-again seen' buf' z = λ old high st.
+        let t = g .goes old high st in
+        again ib by key old seen buf high p (eqb left more) left reach t some (wk .least) n (num-there old high t) z
+
   module _ (x : Parsed) (s : Step) (is : Answers x) (good' : x ≡ Of s) where
     entry : (old high : List ℕ) → Stand ib by key old seen buf high p (eqb left more) left reach → entryOf ib p by (eqb left (by .count)) buf high ≡ Of s
     entry old high t = sym (is high (tall ib by key old seen buf high p (eqb left more) left reach t (wk .most))) ∙ good'
-
-    pub ends-big : (seen' buf' : List ℕ) → by .n ≤ s .number → Ends seen' buf' Wrong
-    ends-big seen' buf' z = λ old high st.
-        let t = g .goes old high st in
-        too-big ib by key old seen buf high p (eqb left more) left reach t some (wk .least) s (entry old high t) z
-
-    pub ends-again : (seen' buf' : List ℕ) → (getD seen (s .number) 0 ≡ 0 → ⊥) → Ends seen' buf' Wrong
-    ends-again seen' buf' z = λ old high st.
-        let t = g .goes old high st in
-        again ib by key old seen buf high p (eqb left more) left reach t some (wk .least) s (entry old high t) z
 
     -- for the call past it
     pub passes-on : (old high : List ℕ) → Stand ib by key old seen buf high p (eqb left more) left reach
@@ -625,8 +701,12 @@ module _ (ib : List ℕ) (by : Limits) (key seen₀ buf₀ : List ℕ) (from : L
     -- and one turn
     module _ (buf' : List ℕ) (renewed : (high : List ℕ) → by .key + 8 ≤ length high → Taken ib buf high buf' high x) (long : length buf' ≡ length buf) (p' : Place)
         (past : p' ≡ placePast ib s p) (inner : closesAt (by .width) p ≡ false) (r : ℕ) (new : Reached ib p by key reach r) where
-      pub goes-on : s .number < by .n → getD seen (s .number) 0 ≡ 0 → Along ib by key seen₀ buf₀ from (set seen (s .number) 1) buf' p' (left - 1) r
-      goes-on k z =
+      stays-open : (old high : List ℕ) → Stand ib by key old seen buf high p (eqb left more) left reach → s .closes ≡ false
+      stays-open old high t = closes-is ib p by s (entry-good ib p by (eqb left (by .count)) buf high s (entry old high t) .0) false inner
+
+      pub goes-on : (n : ℕ) → n ≡ number (by .width) ib (p .right - by .width) → n < by .n → getD seen n 0 ≡ 0
+          → Along ib by key seen₀ buf₀ from (set seen n 1) buf' p' (left - 1) r
+      goes-on n n-is k z =
           record {
             few = omega (arith, g .few);
             still = λ (y : 0 < from .reach). reached-sought ib p by key reach r new (g .still y);
@@ -634,11 +714,15 @@ module _ (ib : List ℕ) (by : Limits) (key seen₀ buf₀ : List ℕ) (from : L
                 let t = g .goes old high st in
                 let tl = tall ib by key old seen buf high p (eqb left more) left reach t (wk .most) in
                 let e = entry old high t in
-                let c : s .closes ≡ false = closes-is ib p by s (entry-good ib p by (eqb left (by .count)) buf high s e .0) false inner in
+                let m : s .number ≡ n =
+                ap (λ (y : Step). y .number) (good ib p by s (entry-good ib p by (eqb left (by .count)) buf high s e .0) .is) ∙ sym n-is in
                 let u : eqb (left - 1) more ≡ false = ne-eqb (left - 1) more (omega (arith, g .few, some)) in
                 let y = onward ib by key old seen buf high p (eqb left more) left reach t some (wk .least) s e buf' high (taken-of ib buf high buf' high x s good' (renewed high tl)) long refl p'
-                past (wk .most) r (reached ib by key old seen buf high p (eqb left more) left reach t some (wk .least) s e inner r new) (sought-reached ib p by key reach r new) k z in
-                rw u (rw c at y);
+                past (wk .most) r (reached ib by key old seen buf high p (eqb left more) left reach t some (wk .least) s e inner r new) (sought-reached ib p by key reach r new)
+                (rw m k) (rw m z) in
+                rw u (rw (m, stays-open old high t) at y);
+            above = λ (old high : List ℕ) st.
+                ap (λ (x : Place). x .high) past ∙ past-inner ib s p (stays-open old high (g .goes old high st)) ∙ g .above old high st;
           }
 
 -- at its end no entry is left, and none closed a section
@@ -656,3 +740,15 @@ stopped-wrong ib by key old from seen buf high r e t = rw e at t
 pub stopped-at : (ib : List ℕ) (by : Limits) (key old : List ℕ) (from : Leg) (seen buf high : List ℕ) (r : Stop) (p : Place) (left : ℕ) → r ≡ At p left
     → Stopped ib by key old from seen buf high r → Paused ib by key old from seen buf high p left
 stopped-at ib by key old from seen buf high r p left e t = rw e at t
+
+-- for the look at the entry before which it stopped
+pub aimable : (ib : List ℕ) (by : Limits) (key old : List ℕ) (from : Leg) (seen buf high : List ℕ) (p : Place) (left : ℕ) → Paused ib by key old from seen buf high p left → Walkable ib by key
+    → (1 ≤ by .width) × (by .width ≤ 4) × (p .right ≤ length ib) × (by .width + 2 ≤ p .right) × (by .edge < 65536) × (0 < from .reach → length key ≡ by .key)
+aimable ib by key old from seen buf high p left t w = (
+  w .some,
+  w .few,
+  omega (arith, within ib by key old seen buf high p true left (t .reach) (t .stand)),
+  roomy ib by key old seen buf high p true left (t .reach) (t .stand) w,
+  w .edge,
+  λ (x : 0 < from .reach). t .stand .keyed (t .still x),
+)

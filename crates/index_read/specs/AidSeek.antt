@@ -4,14 +4,16 @@ use mathlib.Core.Path.{_≡_}
 use mathlib.Core.Bool.{true}
 use mathlib.Core.List.{List, [], _++_}
 use lib.ListN.{length, getD, take}
-use Rattle.fields.specs.Choice.{pick}
+use lib.Dec.{ltb}
+use Rattle.fields.specs.Choice.{pick, both}
 use Rattle.fields.specs.Bytes.{part}
 use Rattle.fields.specs.Order.{common, less}
 use Rattle.index.specs.Meaning.{Entry, entry, separatorBefore}
 use Rattle.index.specs.Search.{leadsTo}
 use Rattle.index_step.specs.declared.Place.{Place}
+use Rattle.index_step.specs.AidStep.{frontAt}
 use Rattle.index_step.specs.AidEntries.{Here, hereFirst, entriesHere}
-use Rattle.index_read.specs.AidParsing.{parsedOf}
+use Rattle.index_read.specs.AidParsing.{closesAt, parsedOf}
 use Rattle.index_read.specs.declared.Limits.{Limits}
 use Rattle.index_read.specs.declared.Parsed.{Parsed}
 use Rattle.index_read.specs.declared.Parsed.the-variants.{Of, Bad}
@@ -23,13 +25,19 @@ unfoldable pub reachOf : List ℕ → ℕ → List ℕ → ℕ
 reachOf key front chars =
     pick (less chars (part key front (length chars))) (front + common chars (part key front (length chars)) + 1) 0
 
--- past the next entry, no section's highest; a wrong one tells nothing
+-- past the next entry, whose F refers to a separator with that reach; a wrong one tells nothing
 abbrev pub reachPast : List ℕ → List ℕ → ℕ → Parsed → ℕ
 reachPast ib key reach (Of s) = reachOf key (s .front) (part ib (s .at) (s .len))
 reachPast ib key reach Bad = reach
 
 abbrev pub lookOf : List ℕ → Place → Limits → List ℕ → ℕ → ℕ
 lookOf ib p by key reach = reachPast ib key reach (parsedOf ib p by)
+
+-- past the entry before which a walk over a section's entries stopped: 0 where no key is sought, or where it stopped before another than the section's highest; of that F
+-- refers to the highest of the section before, past which `reach` is that of the key
+unfoldable pub aimOf : List ℕ → Place → Limits → List ℕ → ℕ → ℕ
+aimOf ib p by key reach =
+    pick (both (ltb 0 reach) (closesAt (by .width) p)) (pick (ltb (frontAt (by .width) ib (p .right)) reach) (lookOf ib p by key reach) reach) 0
 
 -- where it leads, as the struct with the marks has it
 abbrev pub spotIn : Marks → Spot

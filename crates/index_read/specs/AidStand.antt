@@ -11,21 +11,24 @@ use Rattle.measures.specs.Judgement.{limit}
 use Rattle.index.specs.Bounds.{bound, separator}
 use Rattle.sections.specs.Reading.{partsAt}
 use Rattle.index_step.specs.declared.Place.{Place}
+use Rattle.index_step.specs.AidStep.{frontAt}
 use Rattle.index_step.specs.AidEntries.{Here, Held}
 use Rattle.index_read.specs.AidParsing.{closesAt}
-use Rattle.index_read.specs.AidSeek.{Search}
+use Rattle.index_read.specs.AidSeek.{lookOf, Search}
 use Rattle.index_read.specs.AidWalk.{chain, partNumbers, marking, fineFrom}
 use Rattle.index_read.specs.declared.Limits.{Limits}
 use Rattle.index_read.specs.declared.Leg.{Leg}
 use Rattle.index_read.specs.declared.Stop.{Stop}
 use Rattle.index_read.specs.declared.Stop.the-variants.{At, Wrong}
 
--- what a walk asks: a width and a key that were judged, an edge that two bytes tell, a mark for each number; a key that is sought has the right length
+-- what a walk asks: a width and a key that were judged, an edge that two bytes tell, with the header before it and the RDF behind; a mark for each number; a key that
+-- is sought has the right length
 pub record Walkable (ib : List ℕ) (by : Limits) (key : List ℕ) : Type 0 where
   pub some : 1 ≤ by .width
   pub few : by .width ≤ 4
   pub large : 31 ≤ length ib
-  pub inside : by .edge + 2 ≤ length ib
+  pub inside : by .edge + 7 ≤ length ib
+  pub far : 6 ≤ by .edge
   pub edge : by .edge < 65536
   pub least : 1 ≤ by .key
   pub most : by .key ≤ 255
@@ -54,6 +57,7 @@ pub record Stand (ib : List ℕ) (by : Limits) (key old seen buf high : List ℕ
   pub low : length (h .high) ≤ by .key
   pub fine : separator (length (h .ref)) (h .ref) ≡ true
   pub inside : h .right + 7 ≤ length ib
+  pub off : by .edge ≤ h .right
   pub few : left ≤ by .count
   pub same : fineFrom by ib old (by .count) ≡ fineAt by ib seen closed (lowOf (eqb left (by .count)) (by .key) (h .ref)) h left
   pub search : Search ib by key h left reach
@@ -66,15 +70,17 @@ pub record Stood (ib : List ℕ) (by : Limits) (key seen buf : List ℕ) (from :
   pub stand : Stand ib by key old seen buf high (from .p) true (from .left) (from .reach)
 
 -- where the walk over a section's entries ends: before its highest or the entry sought, or because the record isn't fine. The key is still sought if it was
--- before, with whatever reach; and the last entry of all is a section's highest, wherever the key leads.
+-- before, with whatever reach; and the last entry of all is a section's highest, wherever the key leads. The highest of the section before stays the same, and an
+-- entry that is no section's highest is the one sought: a look at it told so.
 pub record Paused (ib : List ℕ) (by : Limits) (key old : List ℕ) (from : Leg) (seen buf high : List ℕ) (p : Place) (left : ℕ) : Type 0 where
   pub reach : ℕ
   pub still : 0 < from .reach → 0 < reach
   pub stand : Stand ib by key old seen buf high p true left reach
   pub some : 0 < left
   pub few : left ≤ from .left
-  pub room : by .edge + (by .width + 2) ≤ p .right
   pub last : left ≡ 1 → closesAt (by .width) p ≡ true
+  pub above : p .high ≡ from .p .high
+  pub here : closesAt (by .width) p ≡ false → (frontAt (by .width) ib (p .right) < reach) × (0 ≡ lookOf ib p by key reach)
 
 abbrev pub Stopped : List ℕ → Limits → List ℕ → List ℕ → Leg → List ℕ → List ℕ → List ℕ → Stop → Type 0
 Stopped ib by key old from seen buf high Wrong = false ≡ fineFrom by ib old (by .count)

@@ -11,7 +11,7 @@ use Rattle.fields.specs.Bytes.{part, number}
 use Rattle.fields.specs.Order.{less}
 use Rattle.measures.specs.Judgement.{limit}
 use Rattle.index.specs.Bounds.{empty, bound, separator}
-use Rattle.index.specs.Reading.{unusedAt, lastAt, sectionAt, freeCount, lengthAt}
+use Rattle.index.specs.Reading.{unusedAt, lastAt, sectionAt, freeCount, lengthAt, numbersAt}
 use Rattle.sections.specs.Parts.{Part, against, sepOf, highAfter, partSize}
 use Rattle.sections.specs.Reading.{partsAt}
 use Rattle.index_step.specs.declared.Place.{Place}
@@ -56,7 +56,7 @@ pub record Before (ib : List ℕ) (p : Place) (by : Limits) (buf : List ℕ) : T
   pub some : 1 ≤ by .width
   pub few : by .width ≤ 4
   pub inside : p .right + 7 ≤ length ib
-  pub room : by .edge + (by .width + 2) ≤ p .right
+  pub room : by .width + 2 ≤ p .right
   pub edge : by .edge < 65536
   pub whole : by .key + 8 ≤ length buf
   pub short : p .len ≤ by .key
@@ -115,3 +115,9 @@ unfoldable pub fineFrom : Limits → List ℕ → List ℕ → ℕ → Bool
 fineFrom by ib seen count =
     let ps = partsAt (by .width) ib (length ib - 7) (sectionAt ib) count in
     both (chain (by .width) (by .key) (by .edge) ib (length ib - 7) false [] [] [] ps) (marking (by .n) seen (partNumbers ps))
+
+-- the free numbers are new, and the entries keep the rules past them
+unfoldable pub walkedFine : Limits → List ℕ → List ℕ → Bool
+walkedFine by ib seen =
+    let free = numbersAt (by .width) ib 24 (by .n - by .count) in
+    both (marking (by .n) seen free) (fineFrom by ib (seenAfter seen free) (by .count))

@@ -4,12 +4,12 @@ use Prim.Native.Nat.{ℕ, _≤_, _<_}
 use mathlib.Core.Path.{_≡_}
 use mathlib.Core.Bool.{Bool}
 use mathlib.Core.List.{List, []}
-use lib.ListN.{length, getD, take}
+use lib.ListN.{length, take}
 use Rattle.fields.specs.Choice.{pick}
 use Rattle.fields.specs.Bytes.{splice}
 use Rattle.measures.specs.Judgement.{widthFor}
-use Rattle.index.specs.Meaning.{Entry, entry, separatorBefore}
-use Rattle.index.specs.Search.{leadsTo}
+use Rattle.index.specs.Meaning.{Entry, separatorBefore}
+use Rattle.index.specs.Search.{leadsTo, entryFor}
 use Rattle.sections.specs.Reading.{readIndex, soundIndex}
 use Rattle.index_read.specs.declared.Index.{Index}
 use Rattle.index_read.specs.declared.Index.the-variants.{Sound, Unsound}
@@ -27,32 +27,30 @@ indexOf K n ib = indexBy (widthFor n) K n ib
 
 -- ---- with a key
 
-abbrev pub soundFor : ℕ → List ℕ → List ℕ → Bool
-soundFor n ib key = soundIndex (widthFor n) (length key) n [] [] ib
+-- sound, where keys are as long as this one
+abbrev pub soundWith : ℕ → List ℕ → List ℕ → Bool
+soundWith n ib key = soundIndex (widthFor n) (length key) n [] [] ib
 
 abbrev pub entriesIn : ℕ → List ℕ → List Entry
 entriesIn n ib = readIndex (widthFor n) n ib .entries
 
--- the separator before the entry that the key leads to, none before the first; and that entry
+-- the separator before the entry that the key leads to, none before the first
 abbrev pub lowFor : ℕ → List ℕ → List ℕ → List ℕ
 lowFor n ib key = separatorBefore [] (take (leadsTo key (entriesIn n ib)) (entriesIn n ib))
 
-abbrev pub entryAt : ℕ → List ℕ → List ℕ → Entry
-entryAt n ib key = getD (entriesIn n ib) (leadsTo key (entriesIn n ib)) (entry [] 0)
-
 abbrev pub spotOf : ℕ → List ℕ → List ℕ → Spot
 spotOf n ib key =
-    record { ordinal = leadsTo key (entriesIn n ib); number = entryAt n ib key .num; before = length (lowFor n ib key); own = length (entryAt n ib key .sep) }
+    record { ordinal = leadsTo key (entriesIn n ib); number = entryFor key (entriesIn n ib) .num; before = length (lowFor n ib key); own = length (entryFor key (entriesIn n ib) .sep) }
 
 -- where the key leads in a sound record
 unfoldable pub soughtOf : ℕ → List ℕ → List ℕ → Sought
-soughtOf n ib key = pick (soundFor n ib key) (sought.At (spotOf n ib key)) sought.Unsound
+soughtOf n ib key = pick (soundWith n ib key) (sought.At (spotOf n ib key)) sought.Unsound
 
 -- the answer, and the two separators at the front of the buffers, which stay where the record is unsound
 pub record Seeks (n : ℕ) (ib key before own : List ℕ) (r : Sought) (before' own' : List ℕ) : Type 0 where
   pub answers : r ≡ soughtOf n ib key
-  pub low : before' ≡ pick (soundFor n ib key) (splice before 0 (lowFor n ib key)) before
-  pub high : own' ≡ pick (soundFor n ib key) (splice own 0 (entryAt n ib key .sep)) own
+  pub low : before' ≡ pick (soundWith n ib key) (splice before 0 (lowFor n ib key)) before
+  pub high : own' ≡ pick (soundWith n ib key) (splice own 0 (entryFor key (entriesIn n ib) .sep)) own
 
 -- what was found lies within its limits; K is the key's length
 abbrev pub SpotWithin : ℕ → ℕ → Sought → Type 0

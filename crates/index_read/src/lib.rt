@@ -5,21 +5,21 @@ ghost use mathlib.Core.Bool.{true, false};
 ghost use mathlib.Core.List.{List};
 ghost use mathlib.Core.Logic.{_⊎_};
 ghost use lib.ListN.{length, getD, take};
-ghost use lib.Dec.{eqb, ltb};
-ghost use Rattle.fields.specs.Choice.{pick, both};
+ghost use lib.Dec.{eqb};
+ghost use Rattle.fields.specs.Choice.{pick, both, no};
 ghost use Rattle.fields.specs.Bytes.{part, number};
 ghost use Rattle.measures.specs.Judgement.{limit};
 ghost use Rattle.index.specs.Bounds.{bound, separator};
 ghost use Rattle.index.specs.Rules.{baseFine};
-ghost use Rattle.index.specs.Reading.{numbersAt, frame};
+ghost use Rattle.index.specs.Reading.{numbersAt, lengthAt, frame};
 ghost use Rattle.index_read.specs.Check.{indexOf, Seeks, SpotWithin};
 ghost use Rattle.index_read.specs.AidParsing.{closesAt, parsedOf};
-ghost use Rattle.index_read.specs.AidWalk.{Ascends, placesOf, Before, entryOf, Taken, marking, seenAfter, emptyMarks, fineFrom};
-ghost use Rattle.index_read.specs.AidSeek.{reachOf, lookOf, noSpot, spotIn, FoundBy};
+ghost use Rattle.index_read.specs.AidWalk.{Ascends, placesOf, Before, entryOf, Taken, marking, seenAfter, emptyMarks, fineFrom, walkedFine};
+ghost use Rattle.index_read.specs.AidSeek.{reachOf, lookOf, aimOf, noSpot, spotIn, FoundBy};
 ghost use Rattle.index_read.specs.AidStand.{Walkable, Stand, Stood, Stopped};
 ghost use Rattle.index_read.specs.AidJudged.{JudgedAs};
 use fields::Order;
-ghost use Rattle.index_step.specs.AidStep.{copiedFrom};
+ghost use Rattle.index_step.specs.AidStep.{joinedOf, copiedFrom};
 use index_step::BUFFER;
 use index_step::Place;
 use index_step::Step;
@@ -33,8 +33,8 @@ pub struct Spot {
     pub own: usize,
 }
 
-// Which interval numbers were met, how many of them as free and by entries, whether all that was met kept the rules, and where the key leads that was sought. One
-// struct goes through both walks; their loops have its marks lent, so that nothing is copied within a walk.
+// Which interval numbers were met, how many of them as free and by entries, whether all that was met kept the rules, and where the key leads that was sought. The
+// struct goes through the walk, whose loops have its marks lent.
 pub(crate) struct Marks {
     pub seen: [u8; LIMIT],
     pub used: usize,
@@ -115,7 +115,7 @@ pub enum Sought {
 // F is at most the length of the separator that it refers to, and the separator that F and L make has at most `key` bytes. F and L are bytes, so their sum may
 // reach 510. The caller tells whether it is the highest: so each of the two ways is compiled by itself, without a choice left in it.
 pub(crate) fn piece_at(ib: &[u8], p: Place, by: Limits, closes: bool) -> Parsed
-    requires { ⌜ (1 ≤ by .width) × (by .width ≤ 4) × (p .right ≤ length (now ib)) × (by .edge + (by .width + 2) ≤ p .right) × (by .edge < 65536) ⌝ }
+    requires { ⌜ (1 ≤ by .width) × (by .width ≤ 4) × (p .right ≤ length (now ib)) × (by .width + 2 ≤ p .right) × (by .edge < 65536) ⌝ }
     requires which { ⌜ closesAt (by .width) p ≡ closes ⌝ }
     ensures { λ x. ⌜ x ≡ parsedOf (now (ib .entry)) p by ⌝ }
 {
@@ -156,33 +156,28 @@ pub(crate) fn compares(buf: &[u8], front: usize, len: usize, ib: &[u8], at: usiz
     }
 }
 
-// The same, mostly told by one byte: F must be below the length of the separator before; then no characters at all rise, and a first one
-// above the byte that it takes the place of does. The first entry has none before it.
-pub(crate) fn ascends(
-    buf: &[u8],
-    first: bool,
-    front: usize,
-    len: usize,
-    ib: &[u8],
-    at: usize,
-    l: usize,
-) -> bool
-    requires { ⌜ (front ≤ len) × (len ≤ length (now buf)) × (at + l ≤ length (now ib)) × (separator len (take len (now buf)) ≡ true) ⌝ }
-    ensures { λ r. ⌜ Ascends first front len (now (buf .entry)) (now (ib .entry)) at l r ⌝ }
+// The same for the next entry, mostly told by one byte: F must be below the length of the separator before; then no characters at all rise, and a first one above the
+// byte that it takes the place of does. The first entry has none before it, and so an F of 0.
+pub(crate) fn ascends(buf: &[u8], first: bool, len: usize, ib: &[u8], s: Step) -> bool
+    requires { ⌜ (len ≤ length (now buf)) × (s .at + s .len ≤ length (now ib)) × (separator len (take len (now buf)) ≡ true) × (first ≡ true → len ≡ 0) ⌝ }
+    ensures over { λ r. ⌜ (len < s .front → r ≡ false) ⌝ }
+    ensures rises { λ r. ⌜ (s .front ≤ len → Ascends first (s .front) len (now (buf .entry)) (now (ib .entry)) (s .at) (s .len) r) ⌝ }
 {
-    if first {
+    let f = s.front;
+    let at = s.at;
+    if len <= f {
+        if len < f {
+            return false;
+        }
+        return first;
+    }
+    if s.len == 0 {
         return true;
     }
-    if len <= front {
-        return false;
-    }
-    if l == 0 {
+    if buf[f] < ib[at] {
         return true;
     }
-    if buf[front] < ib[at] {
-        return true;
-    }
-    compares(buf, front, len, ib, at, l)
+    compares(buf, f, len, ib, at, s.len)
 }
 
 // The last of the first len bytes, 0 where there is none.
@@ -196,24 +191,38 @@ pub(crate) fn last_of(buf: &[u8], len: usize) -> u8
     buf[len - 1]
 }
 
-// The next entry, no section's highest, with every rule on its separator: the place, F, the length, the order of the bounds, the last byte. The buffer begins
-// with the separator before it, and afterwards with its own. A wrong entry ends the walk, so that nothing is stored of one.
+// Whether the next separator does not end with X'FF': its last character, or the last of the F bytes where it has none.
+pub(crate) fn ends_low(buf: &[u8], ib: &[u8], s: Step) -> bool
+    requires { ⌜ (s .front ≤ length (now buf)) × (s .at + s .len ≤ length (now ib)) ⌝ }
+    ensures { λ r. ⌜ r ≡ no (eqb (getD (joinedOf (s .front) (now (buf .entry)) (now (ib .entry)) (s .at) (s .len)) (s .front + s .len - 1) 0) 255) ⌝ }
+{
+    if s.len == 0 {
+        return last_of(buf, s.front) != 255;
+    }
+    let z = s.at + s.len;
+    ib[z - 1] != 255
+}
+
+// The next entry, no section's highest, which lies right of the edge, with every rule on its separator: F, the length, the order of the bounds, the last byte. The
+// buffer begins with the separator before it, and afterwards with its own. A wrong entry ends the walk, so that nothing is stored of one.
 pub(crate) fn next_inner(buf: &mut [u8], first: bool, ib: &[u8], p: Place, by: Limits) -> Parsed
-    requires { ⌜ Before (now ib) p by (now buf) ⌝ }
+    requires { ⌜ Before (now ib) p by (now buf) × (first ≡ true → p .len ≡ 0) ⌝ }
     requires which { ⌜ closesAt (by .width) p ≡ false ⌝ }
+    requires lies { ⌜ by .edge + (by .width + 2 + lengthAt (by .width) (now ib) (p .right)) ≤ p .right ⌝ }
     ensures is { λ x. ⌜ ((high : List ℕ) → by .key + 8 ≤ length high → x ≡ entryOf (now (ib .entry)) p by first (now (buf .entry)) high) ⌝ }
     ensures renewed { λ x. ⌜ ((high : List ℕ) → by .key + 8 ≤ length high → Taken (now (ib .entry)) (now (buf .entry)) high (now (buf .exit)) high x) ⌝ }
 {
-    let Parsed::Of(s) = piece_at(ib, p, by, false) else {
+    let s = index_step::entry_at(ib, by.width, p);
+    if by.key < s.front + s.len {
         return Parsed::Bad;
-    };
-    if !ascends(buf, first, s.front, p.len, ib, s.at, s.len) {
+    }
+    if !ascends(buf, first, p.len, ib, s) {
+        return Parsed::Bad;
+    }
+    if !ends_low(buf, ib, s) {
         return Parsed::Bad;
     }
     index_step::extend(buf, s.front, ib, s.at, s.len);
-    if last_of(buf, s.front + s.len) == 255 {
-        return Parsed::Bad;
-    }
     Parsed::Of(s)
 }
 
@@ -262,7 +271,7 @@ pub(crate) fn next_top(
 // The same for the one entry that the key leads to, where it is no section's highest. It stands apart from `next_inner`, whose body is then put into the loop that alone calls
 // it: with a call in that loop the walk takes more than twice as long.
 pub(crate) fn next_met(buf: &mut [u8], first: bool, ib: &[u8], p: Place, by: Limits) -> Parsed
-    requires { ⌜ Before (now ib) p by (now buf) ⌝ }
+    requires { ⌜ Before (now ib) p by (now buf) × (first ≡ true → p .len ≡ 0) ⌝ }
     requires which { ⌜ closesAt (by .width) p ≡ false ⌝ }
     ensures is { λ x. ⌜ ((high : List ℕ) → by .key + 8 ≤ length high → x ≡ entryOf (now (ib .entry)) p by first (now (buf .entry)) high) ⌝ }
     ensures renewed { λ x. ⌜ ((high : List ℕ) → by .key + 8 ≤ length high → Taken (now (ib .entry)) (now (buf .entry)) high (now (buf .exit)) high x) ⌝ }
@@ -270,7 +279,7 @@ pub(crate) fn next_met(buf: &mut [u8], first: bool, ib: &[u8], p: Place, by: Lim
     let Parsed::Of(s) = piece_at(ib, p, by, false) else {
         return Parsed::Bad;
     };
-    if !ascends(buf, first, s.front, p.len, ib, s.at, s.len) {
+    if !ascends(buf, first, p.len, ib, s) {
         return Parsed::Bad;
     }
     index_step::extend(buf, s.front, ib, s.at, s.len);
@@ -289,7 +298,7 @@ pub(crate) fn next_entry(
     p: Place,
     by: Limits,
 ) -> Parsed
-    requires { ⌜ Before (now ib) p by (now buf) ⌝ }
+    requires { ⌜ Before (now ib) p by (now buf) × (first ≡ true → p .len ≡ 0) ⌝ }
     requires tall { ⌜ by .key + 8 ≤ length (now high) ⌝ }
     ensures is { λ x. ⌜ x ≡ entryOf (now (ib .entry)) p by first (now (buf .entry)) (now (high .entry)) ⌝ }
     ensures renewed { λ x. ⌜ Taken (now (ib .entry)) (now (buf .entry)) (now (high .entry)) (now (buf .exit)) (now (high .exit)) x ⌝ }
@@ -319,7 +328,7 @@ pub(crate) fn reach_of(key: &[u8], front: usize, chars: &[u8]) -> usize
 
 // The reach of a key past the next entry, no section's highest, whose F is below the reach before it. Of an entry that is wrong nothing is told: it ends the walk.
 pub(crate) fn look(key: &[u8], ib: &[u8], p: Place, by: Limits, reach: usize) -> usize
-    requires { ⌜ (1 ≤ by .width) × (by .width ≤ 4) × (p .right ≤ length (now ib)) × (by .edge + (by .width + 2) ≤ p .right) × (by .edge < 65536) × (length (now key) ≡ by .key) ⌝ }
+    requires { ⌜ (1 ≤ by .width) × (by .width ≤ 4) × (p .right ≤ length (now ib)) × (by .width + 2 ≤ p .right) × (by .edge < 65536) × (length (now key) ≡ by .key) ⌝ }
     requires which { ⌜ closesAt (by .width) p ≡ false ⌝ }
     ensures { λ r. ⌜ r ≡ lookOf (now (ib .entry)) p by (now (key .entry)) reach ⌝ }
 {
@@ -331,33 +340,39 @@ pub(crate) fn look(key: &[u8], ib: &[u8], p: Place, by: Limits, reach: usize) ->
     reach_of(key, s.front, &ib[a..z])
 }
 
-// While a key is sought: the first `len` bytes of buf, at the front of another buffer. Behind them may stand anything.
-pub(crate) fn keep(to: &mut [u8], buf: &[u8], len: usize, reach: usize)
-    requires { ⌜ (len ≤ 255) × (263 ≤ length (now to)) × (263 ≤ length (now buf)) ⌝ }
-    ensures { λ _. ⌜ now (to .exit) ≡ pick (ltb 0 reach) (copiedFrom (now (buf .entry)) len (now (to .entry))) (now (to .entry)) ⌝ }
-{
-    if reach == 0 {
-        return;
-    }
-    index_step::extend(to, 0, buf, 0, len);
-}
-
-// While a key is sought: its reach past the separator with which buf begins.
-pub(crate) fn reach_past(key: &[u8], buf: &[u8], len: usize, reach: usize) -> usize
-    requires { ⌜ (len ≤ length (now buf)) × (0 < reach → len ≤ length (now key)) ⌝ }
-    ensures { λ r. ⌜ r ≡ pick (ltb 0 reach) (reachOf (now (key .entry)) 0 (take len (now (buf .entry)))) 0 ⌝ }
+// The reach of a key past the entry before which a walk over a section's entries stopped, 0 where the key leads to it. `reach` is that past the highest of the section
+// before, to which F of a section's highest refers; the walk stopped before any other because the key leads to it.
+pub(crate) fn aimed(key: &[u8], ib: &[u8], p: Place, by: Limits, reach: usize) -> usize
+    requires { ⌜ (1 ≤ by .width) × (by .width ≤ 4) × (p .right ≤ length (now ib)) × (by .width + 2 ≤ p .right) × (by .edge < 65536) × (0 < reach → length (now key) ≡ by .key) ⌝ }
+    ensures { λ r. ⌜ r ≡ aimOf (now (ib .entry)) p by (now (key .entry)) reach ⌝ }
 {
     if reach == 0 {
         return 0;
     }
-    reach_of(key, 0, &buf[..len])
+    let c = p.right - (by.width + 2);
+    if c != p.end {
+        return 0;
+    }
+    if reach <= fields::wide(ib[c]) {
+        return reach;
+    }
+    let Parsed::Of(s) = piece_at(ib, p, by, true) else {
+        return reach;
+    };
+    let a = s.at;
+    let z = a + s.len;
+    reach_of(key, s.front, &ib[a..z])
 }
 
-// While a key is sought, the entry just met; afterwards the one that was found.
-pub(crate) fn met(found: Spot, now: Spot, reach: usize) -> Spot
-    ensures { λ r. ⌜ r ≡ pick (ltb 0 reach) now found ⌝ }
+// Where the key's entry is met: the first `len` bytes of buf, at the front of another buffer. Behind them may stand anything.
+pub(crate) fn keep(to: &mut [u8], buf: &[u8], len: usize, meets: bool)
+    requires { ⌜ (len ≤ 255) × (263 ≤ length (now to)) × (263 ≤ length (now buf)) ⌝ }
+    ensures { λ _. ⌜ now (to .exit) ≡ pick meets (copiedFrom (now (buf .entry)) len (now (to .entry))) (now (to .entry)) ⌝ }
 {
-    if reach == 0 { found } else { now }
+    if !meets {
+        return;
+    }
+    index_step::extend(to, 0, buf, 0, len);
 }
 
 // No entry met yet.
@@ -411,20 +426,6 @@ pub(crate) fn mark_free(seen: &mut [u8; LIMIT], ib: &[u8], w: usize, count: usiz
     true
 }
 
-// The walk over the free numbers.
-pub(crate) fn walk_free(marks: Marks, ib: &[u8], w: usize, count: usize, n: usize) -> Marks
-    requires { ⌜ (1 ≤ w) × (w ≤ 4) × (24 + w * count ≤ length (now ib)) × (n ≤ limit) ⌝ }
-    ensures sound { λ r. ⌜ r .ok ≡ marking n (marks .seen) (numbersAt w (now (ib .entry)) 24 count) ⌝ }
-    ensures marks { λ r. ⌜ (r .ok ≡ true → r .seen ≡ seenAfter (marks .seen) (numbersAt w (now (ib .entry)) 24 count)) ⌝ }
-    ensures counts { λ r. ⌜ (r .free ≡ count) × (r .used ≡ marks .used) ⌝ }
-{
-    let mut m = marks;
-    let ok = mark_free(&mut m.seen, ib, w, count, n);
-    m.ok = ok;
-    m.free = count;
-    m
-}
-
 // Walks the entries of a section leftwards up to its highest, or to the one that the key leads to, and marks their numbers. Of `left` entries the last must close
 // a section, so that one must be met. These are nearly all entries, and their loop has nothing else in it: what it needs stays in registers.
 pub(crate) fn walk_inner(
@@ -445,13 +446,14 @@ pub(crate) fn walk_inner(
     let mut reach = from.reach;
     while 0 < left {
         let r = p.right;
-        if r < by.edge + (w + 2) {
-            return Stop::Wrong;
-        }
-        if r - (w + 2) == p.end {
+        let c = r - (w + 2);
+        if c == p.end {
             return Stop::At { p, left };
         }
-        if fields::wide(ib[r - (w + 2)]) < reach {
+        if c < by.edge + fields::wide(ib[c + 1]) {
+            return Stop::Wrong;
+        }
+        if fields::wide(ib[c]) < reach {
             reach = look(key, ib, p, by, reach);
             if reach == 0 {
                 if left == 1 {
@@ -460,10 +462,7 @@ pub(crate) fn walk_inner(
                 return Stop::At { p, left };
             }
         }
-        let Parsed::Of(s) = next_inner(buf, left == by.count, ib, p, by) else {
-            return Stop::Wrong;
-        };
-        let number = s.number;
+        let number = fields::read_pointer(ib, r - w, w);
         if by.n <= number {
             return Stop::Wrong;
         }
@@ -471,6 +470,9 @@ pub(crate) fn walk_inner(
             return Stop::Wrong;
         }
         seen[number] = 1;
+        let Parsed::Of(s) = next_inner(buf, left == by.count, ib, p, by) else {
+            return Stop::Wrong;
+        };
         p = index_step::past(ib, s, p);
         left -= 1;
     }
@@ -518,7 +520,9 @@ pub(crate) fn mark_entries(
         let Stop::At { p: q, left: l } = walk_inner(seen, &mut buf, ib, key, leg, by) else {
             return Walked { ok: false, spot };
         };
-        keep(before, &buf, q.len, reach);
+        let aim = aimed(key, ib, q, by, reach);
+        let meets = if reach == 0 { false } else { aim == 0 };
+        keep(before, &buf, q.len, meets);
         let Parsed::Of(s) = next_entry(&mut buf, &mut high, l == by.count, ib, q, by) else {
             return Walked { ok: false, spot };
         };
@@ -532,15 +536,16 @@ pub(crate) fn mark_entries(
         seen[number] = 1;
         p = index_step::past(ib, s, q);
         left = l - 1;
-        let here = Spot {
-            ordinal: by.count - l,
-            number,
-            before: q.len,
-            own: p.len,
-        };
-        spot = met(spot, here, reach);
-        keep(own, &buf, p.len, reach);
-        reach = reach_past(key, &buf, p.len, reach);
+        if meets {
+            spot = Spot {
+                ordinal: by.count - l,
+                number,
+                before: q.len,
+                own: p.len,
+            };
+        }
+        keep(own, &buf, p.len, meets);
+        reach = aim;
     }
     Walked {
         ok: ends(ib, p, by),
@@ -548,8 +553,8 @@ pub(crate) fn mark_entries(
     }
 }
 
-// The walk over the entries.
-pub(crate) fn walk_entries(
+// The walk over the free numbers, and then over the entries. The struct with the marks goes through both at once: so nothing of them is copied.
+pub(crate) fn walk(
     marks: Marks,
     ib: &[u8],
     by: Limits,
@@ -558,15 +563,23 @@ pub(crate) fn walk_entries(
     own: &mut [u8],
 ) -> Marks
     requires { ⌜ Walkable (now ib) by (now key) × (0 < by .count) × (length (now before) ≡ 263) × (length (now own) ≡ 263) ⌝ }
-    ensures sound { λ r. ⌜ r .ok ≡ fineFrom by (now (ib .entry)) (marks .seen) (by .count) ⌝ }
+    requires free { ⌜ (by .count ≤ by .n) × (24 + by .width * (by .n - by .count) ≤ length (now ib)) ⌝ }
+    ensures sound { λ r. ⌜ r .ok ≡ walkedFine by (now (ib .entry)) (marks .seen) ⌝ }
     ensures found { λ r. ⌜ (0 < length (now (key .entry)) → r .ok ≡ true → FoundBy (by .width) (by .count) (now (ib .entry)) (now (key .entry)) (spotIn r) (now (before .exit)) (now (own .exit))) ⌝ }
-    ensures counts { λ r. ⌜ (r .free ≡ marks .free) × (r .used ≡ by .count) ⌝ }
+    ensures counts { λ r. ⌜ (r .free ≡ by .n - by .count) × (r .used ≡ by .count) ⌝ }
 {
+    let free = by.n - by.count;
     let mut m = marks;
+    m.free = free;
+    m.used = by.count;
+    let ok = mark_free(&mut m.seen, ib, by.width, free, by.n);
+    m.ok = ok;
+    if !ok {
+        return m;
+    }
     let walked = mark_entries(&mut m.seen, ib, by, key, before, own);
     let spot = walked.spot;
     m.ok = walked.ok;
-    m.used = by.count;
     m.ordinal = spot.ordinal;
     m.number = spot.number;
     m.before = spot.before;
@@ -680,10 +693,6 @@ pub(crate) fn judge(
     let Places::At { free, edge } = placed(ib, w, n) else {
         return Verdict::Unsound;
     };
-    let f = walk_free(fresh(), ib, w, free, n);
-    if !f.ok {
-        return Verdict::Unsound;
-    }
     let count = n - free;
     let by = Limits {
         width: w,
@@ -692,7 +701,7 @@ pub(crate) fn judge(
         count: count,
         key: key,
     };
-    let e = walk_entries(f, ib, by, wanted, before, own);
+    let e = walk(fresh(), ib, by, wanted, before, own);
     if !e.ok {
         return Verdict::Unsound;
     }

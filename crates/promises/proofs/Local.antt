@@ -20,14 +20,14 @@ use Rattle.interval.specs.Role.{soundUsed}
 use Rattle.index.specs.Bounds.{bound}
 use Rattle.index.specs.Meaning.{Entry, Meaning, entry, numbers, below}
 use Rattle.index.specs.Rules.{boundBefore}
-use Rattle.index.specs.Search.{leadsTo}
+use Rattle.index.specs.Search.{leadsTo, entryFor}
 use Rattle.index.proofs.Keeping.{Keeps, rules-apart}
 use Rattle.index.proofs.Leading.{lead-base, lead-only}
 use Rattle.index.proofs.Naming.{both-below}
 use Rattle.sections.specs.Reading.{readIndex}
 use Rattle.area.specs.Content.{Content, indexIn, dataIn, recordsOf}
 use Rattle.area.specs.Layout.{Lent, IndexInterval, UsedInterval}
-use Rattle.area.specs.Leads.{indexSound, entriesFor, entryFor, numberFor, intervalFor, soundFor}
+use Rattle.area.specs.Leads.{indexSound, entriesFor, numberFor, intervalFor, soundFor}
 use Rattle.area.proofs.Intervals.{laid-used, used-laid}
 use Rattle.area.proofs.Laying.{index-sound, index-read, index-laid}
 use Rattle.area.proofs.Parts.{length-data, octets-data}

@@ -14,8 +14,9 @@ use Rattle.measures.specs.declared.Judged.{Judged}
 use Rattle.measures.specs.declared.Judged.the-variants as judged
 use Rattle.interval.specs.Reading.{recordsIn}
 use Rattle.index.specs.Meaning.{Entry}
+use Rattle.index.specs.Search.{entryFor}
 use Rattle.area.specs.Content.{recordsOf, baseOf}
-use Rattle.area.specs.Leads.{indexSound, entriesFor, entryFor, intervalFor, soundFor}
+use Rattle.area.specs.Leads.{indexSound, entriesFor, intervalFor, soundFor}
 use Rattle.change.specs.Plan.{planOf}
 use Rattle.requests.specs.Answers.{numberOf}
 use Rattle.requests.specs.Records.{withKey, lyingAt}

@@ -22,9 +22,9 @@ use Rattle.index.specs.Bounds.{bound}
 use Rattle.index.specs.Meaning.{Entry, numbers}
 use Rattle.index.specs.Rules.{boundBefore}
 use Rattle.sections.specs.Reading.{readIndex}
-use Rattle.index.specs.Search.{leadsTo}
+use Rattle.index.specs.Search.{leadsTo, entryFor}
 use Rattle.area.specs.Content.{Filled, indexIn, dataIn, recordsOf, entriesOf}
-use Rattle.area.specs.Leads.{entryFor, soundFor}
+use Rattle.area.specs.Leads.{soundFor}
 use Rattle.area.proofs.Filled.{recordsOf-append}
 use Rattle.area.proofs.Intervals.{used-apart}
 use Rattle.area.proofs.Sounding.{sound-apart, sound-reads}

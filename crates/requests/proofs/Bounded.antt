@@ -24,11 +24,11 @@ use Rattle.interval.proofs.Lengths.{within-high}
 use Rattle.interval.proofs.Readable.{records-few}
 use Rattle.index.specs.Bounds.{bound}
 use Rattle.index.specs.Meaning.{Entry, entry, numbers, below}
-use Rattle.index.specs.Search.{leadsTo}
+use Rattle.index.specs.Search.{leadsTo, entryFor}
 use Rattle.index.proofs.Naming.{both-below, free-and-used}
 use Rattle.sections.proofs.Sounding.{sound-below}
 use Rattle.area.specs.Content.{Content, Filled, dataIn, indexIn, recordsOf, entriesOf, meaningOf, fill}
-use Rattle.area.specs.Leads.{indexSound, entriesFor, entryFor, intervalFor, soundFor}
+use Rattle.area.specs.Leads.{indexSound, entriesFor, intervalFor, soundFor}
 use Rattle.area.specs.Reading.{Reading, damaged, whole, readArea}
 use Rattle.area.proofs.Intervals.{used-apart}
 use Rattle.area.proofs.Places.{length-data}

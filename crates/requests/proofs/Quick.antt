@@ -27,11 +27,11 @@ use Rattle.interval.proofs.Form.{read-octets}
 use Rattle.index.specs.Bounds.{bound}
 use Rattle.index.specs.Meaning.{Entry, entry, Meaning}
 use Rattle.index.specs.Rules.{boundBefore, closed}
-use Rattle.index.specs.Search.{leadsTo}
+use Rattle.index.specs.Search.{leadsTo, entryFor}
 use Rattle.sections.specs.Reading.{readIndex}
 use Rattle.area.specs.Content.{Content, Filled, indexIn, dataIn, recordsOf, fill, entriesOf}
 use Rattle.area.specs.Reading.{readArea, whole}
-use Rattle.area.specs.Leads.{indexSound, entriesFor, entryFor, numberFor, intervalFor, soundFor}
+use Rattle.area.specs.Leads.{indexSound, entriesFor, numberFor, intervalFor, soundFor}
 use Rattle.area.proofs.Filled.{recordsOf-append, entriesOf-append, length-entries}
 use Rattle.area.proofs.Intervals.{used-apart}
 use Rattle.area.proofs.Parts.{octets-data}

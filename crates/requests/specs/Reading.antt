@@ -13,8 +13,9 @@ use Rattle.measures.specs.declared.Judged.{Judged}
 use Rattle.measures.specs.declared.Judged.the-variants as judged
 use Rattle.interval.specs.Reading.{recordsIn}
 use Rattle.index.specs.Meaning.{Entry}
+use Rattle.index.specs.Search.{entryFor}
 use Rattle.area.specs.Content.{Content, recordsOf, baseOf}
-use Rattle.area.specs.Leads.{indexSound, entriesFor, entryFor, intervalFor, soundFor}
+use Rattle.area.specs.Leads.{indexSound, entriesFor, intervalFor, soundFor}
 use Rattle.requests.specs.Records.{withKey, lyingAt}
 use Rattle.requests.specs.Opening.{Opening, shut, holding, openingOf}
 use Rattle.requests.specs.declared.Answer.{Answer}

@@ -1,8 +1,8 @@
--- No loop. sound-by does the work: where frame, base and displacements are in order, soundness is what the two walks test.
+-- No loop. sound-by does the work: where frame, base and displacements are in order, soundness is what the walk tests.
 -- A mark is a count, 0 or 1: of n numbers below n, each unmarked when met, none is missing (named-by-marks, by the pigeonhole).
 -- The chain of entries passes the tests of the walk exactly where each rule holds of all the entries (Links); there the fields lead from section to section
 -- (followed, of crate sections), and the two displacements tell whether there is a single section (spread-apart, spread-joined).
--- Each refusal contradicts one part of soundness (no-frame to no-chain); where none does, all-fine: so many free numbers as the displacement tells, and the rest of
+-- Each refusal contradicts one part of soundness (no-frame to no-walk); where none does, all-fine: so many free numbers as the displacement tells, and the rest of
 -- the n numbers have an entry. The width is the one that the definition says, and it is 1 to 4.
 use Prim.Native.Nat.{_≤_}
 use mathlib.Core.Path.{_≡_, sym, _∙_, ap}
@@ -20,7 +20,7 @@ use Rattle.index_read.specs.AidWalk.{placesOf}
 use Rattle.index_read.specs.AidSeek.{spotIn}
 use Rattle.index_read.specs.declared.Marks.{Marks}
 use Rattle.index_read.specs.declared.Places.the-variants.{At}
-use Rattle.index_read.proofs.Judging.{no-frame, no-base, no-places, free-inside, free-few, used-some, edge-inside, edge-small, no-free, no-chain, all-fine}
+use Rattle.index_read.proofs.Judging.{no-frame, no-base, no-places, free-inside, free-few, used-some, edge-inside, edge-far, edge-small, no-walk, all-fine}
 use Rattle.index_read.proofs.judge.Statement.{statement}
 use Rattle.index_read.proofs.judge.Tie as tie
 
@@ -37,14 +37,14 @@ width-from-known k = width-from-placed (k .before .before .before)
 abbrev start-from-known : tie.After-known-told → tie.Start
 start-from-known k = start-from-width (width-from-known k)
 
-abbrev known-from-free : tie.After-walk-free → tie.After-known-told
-known-from-free k = k .before .before
+abbrev known-from-fresh : tie.After-fresh → tie.After-known-told
+known-from-fresh k = k .before
 
-abbrev free-from-entries : tie.After-walk-entries → tie.After-walk-free
-free-from-entries k = k .before .before .before .before .before
+abbrev fresh-from-walk : tie.After-walk → tie.After-fresh
+fresh-from-walk k = k .before .before .before
 
-abbrev entries-from-judged : tie.After-struct-known2 → tie.After-walk-entries
-entries-from-judged k = k .before .before .before .before .before
+abbrev walk-from-judged : tie.After-struct-known → tie.After-walk
+walk-from-judged k = k .before .before .before .before .before
 
 some : (c : tie.After-width-for) → 1 ≤ c .width-for .result
 some c = rw (c .width-for .ensures) (width-some (start-from-width c .args .n))
@@ -107,55 +107,39 @@ none c = ap (λ (m : Marks). m .seen) (c .fresh .ensures)
 fresh-requires : tie.Need-fresh-requires
 fresh-requires c κs = search needs
 
-walk-free-requires : tie.Need-walk-free-requires
-walk-free-requires c κs =
-    let q = c .before in
-    let v = width-from-known q in
-    let a = start-from-known q .args in
-    let p = start-from-known q .pre .0 in
-    let h = q .before .free .given .0 in
-    (some v, most v, free-inside (v .width-for .result) (a .key) (a .n) (now (a .ib)) (v .width-for .ensures) (frames q) (bases q) (p .4) (h .0) (h .1 .0) (places q) (p .0), p .4)
-
-returns-4 : tie.Need-returns-4
-returns-4 c =
-    let w = c .before .before in
-    let q = known-from-free w in
-    let v = width-from-known q in
-    let a = start-from-known q .args in
-    let h = q .before .free .given .0 in
-    no-free (v .width-for .result) (a .key) (a .n) (now (a .ib)) (v .width-for .ensures) (frames q) (bases q) (start-from-known q .pre .0 .4) (h .0) (h .1 .0) (places q)
-    (w .before .fresh .result .seen) (none (w .before)) (sym (not-true _ (c .if3 .taken)) ∙ w .walk-free .ensures .0)
-
 sub-count : tie.Need-sub-count
 sub-count c =
-    let q = known-from-free (c .before .before) in
-    let v = width-from-known q in
-    let a = start-from-known q .args in
-    let h = q .before .free .given .0 in
-    free-few (v .width-for .result) (a .key) (a .n) (now (a .ib)) (v .width-for .ensures) (frames q) (bases q) (start-from-known q .pre .0 .4) (h .0) (h .1 .0) (places q)
+    let v = width-from-known c in
+    let a = start-from-known c .args in
+    let h = c .before .free .given .0 in
+    free-few (v .width-for .result) (a .key) (a .n) (now (a .ib)) (v .width-for .ensures) (frames c) (bases c) (start-from-known c .pre .0 .4) (h .0) (h .1 .0) (places c)
 
-walk-entries-requires : tie.Need-walk-entries-requires
-walk-entries-requires c κs =
-    let q = known-from-free (c .before .before .before .before) in
+walk-requires : tie.Need-walk-requires
+walk-requires c κs =
+    let q = known-from-fresh (c .before .before) in
     let v = width-from-known q in
     let a = start-from-known q .args in
     let p = start-from-known q .pre .0 in
     let b = start-from-known q .pre .1 in
     let h = q .before .free .given .0 in (
-      record {
-        some = some v;
-        few = most v;
-        large = p .0;
-        inside = edge-inside (v .width-for .result) (a .key) (a .n) (now (a .ib)) (v .width-for .ensures) (frames q) (bases q) (p .4) (h .0) (h .1 .0) (places q) (p .0);
-        edge = edge-small (v .width-for .result) (a .key) (a .n) (now (a .ib)) (v .width-for .ensures) (frames q) (bases q) (p .4) (h .0) (h .1 .0) (places q) (p .1);
-        least = p .2;
-        most = p .3;
-        marks = p .4;
-        wanted = b .0;
-      },
-      used-some (v .width-for .result) (a .key) (a .n) (now (a .ib)) (v .width-for .ensures) (frames q) (bases q) (p .4) (h .0) (h .1 .0) (places q),
-      b .1,
-      b .2,
+      (
+        record {
+          some = some v;
+          few = most v;
+          large = p .0;
+          inside = edge-inside (v .width-for .result) (a .key) (a .n) (now (a .ib)) (v .width-for .ensures) (frames q) (bases q) (p .4) (h .0) (h .1 .0) (places q) (p .0);
+          far = edge-far (v .width-for .result) (a .key) (a .n) (now (a .ib)) (v .width-for .ensures) (frames q) (bases q) (p .4) (h .0) (h .1 .0) (places q);
+          edge = edge-small (v .width-for .result) (a .key) (a .n) (now (a .ib)) (v .width-for .ensures) (frames q) (bases q) (p .4) (h .0) (h .1 .0) (places q) (p .1);
+          least = p .2;
+          most = p .3;
+          marks = p .4;
+          wanted = b .0;
+        },
+        used-some (v .width-for .result) (a .key) (a .n) (now (a .ib)) (v .width-for .ensures) (frames q) (bases q) (p .4) (h .0) (h .1 .0) (places q),
+        b .1,
+        b .2,
+      ),
+      free-inside (v .width-for .result) (a .key) (a .n) (now (a .ib)) (v .width-for .ensures) (frames q) (bases q) (p .4) (h .0) (h .1 .0) (places q) (p .0),
     )
 
 same-length : tie.Need-same-length
@@ -164,18 +148,16 @@ same-length c = search needs
 same-length-2 : tie.Need-same-length-2
 same-length-2 c = search needs
 
-returns-5 : tie.Need-returns-5
-returns-5 c =
-    let x = entries-from-judged (c .before) in
-    let w = free-from-entries x in
-    let q = known-from-free w in
+returns-4 : tie.Need-returns-4
+returns-4 c =
+    let x = walk-from-judged (c .before) in
+    let y = fresh-from-walk x in
+    let q = known-from-fresh y in
     let v = width-from-known q in
     let a = start-from-known q .args in
     let h = q .before .free .given .0 in
-    let ok : w .walk-free .result .ok ≡ true = not-false _ (x .before .before .before .if3 .left) in
-    no-chain (v .width-for .result) (a .key) (a .n) (now (a .ib)) (v .width-for .ensures) (frames q) (bases q) (start-from-known q .pre .0 .4) (h .0) (h .1 .0) (places q)
-    (w .before .fresh .result .seen) (none (w .before)) (sym ok ∙ w .walk-free .ensures .0) (w .walk-free .result .seen) (w .walk-free .ensures .1 .0 ok)
-    (sym (not-true _ (c .if4 .taken)) ∙ x .walk-entries .ensures .0)
+    no-walk (v .width-for .result) (a .key) (a .n) (now (a .ib)) (v .width-for .ensures) (frames q) (bases q) (start-from-known q .pre .0 .4) (h .0) (h .1 .0) (places q) (y .fresh .result .seen)
+    (none y) (sym (not-true _ (c .if3 .taken)) ∙ x .walk .ensures .0)
 
 same-length-3 : tie.Need-same-length-3
 same-length-3 c = search needs
@@ -183,21 +165,18 @@ same-length-3 c = search needs
 same-length-4 : tie.Need-same-length-4
 same-length-4 c = search needs
 
-returns-6 : tie.Need-returns-6
-returns-6 c =
-    let x = entries-from-judged (c .before) in
-    let w = free-from-entries x in
-    let q = known-from-free w in
+returns-5 : tie.Need-returns-5
+returns-5 c =
+    let x = walk-from-judged (c .before) in
+    let y = fresh-from-walk x in
+    let q = known-from-fresh y in
     let v = width-from-known q in
     let a = start-from-known q .args in
     let h = q .before .free .given .0 in
-    let ok : w .walk-free .result .ok ≡ true = not-false _ (x .before .before .before .if3 .left) in
-    let fine : x .walk-entries .result .ok ≡ true = not-false _ (c .if4 .left) in
-    all-fine (v .width-for .result) (a .key) (a .n) (now (a .ib)) (v .width-for .ensures) (frames q) (bases q) (start-from-known q .pre .0 .4) (h .0) (h .1 .0) (places q)
-    (w .before .fresh .result .seen) (none (w .before)) (sym ok ∙ w .walk-free .ensures .0) (w .walk-free .result .seen) (w .walk-free .ensures .1 .0 ok)
-    (sym fine ∙ x .walk-entries .ensures .0) (now (a .wanted)) (x .walk-entries .last .1 .1 .1 .1 .0) (x .walk-entries .last .1 .1 .1 .1 .1 .0) (spotIn (x .walk-entries .result))
-    (λ sought. x .walk-entries .ensures .1 .0 sought fine) (x .walk-entries .result .free) (x .walk-entries .result .used)
-    (x .walk-entries .ensures .1 .1 .0 ∙ w .walk-free .ensures .1 .1 .0) (x .walk-entries .ensures .1 .1 .1)
+    let fine : x .walk .result .ok ≡ true = not-false _ (c .if3 .left) in
+    all-fine (v .width-for .result) (a .key) (a .n) (now (a .ib)) (v .width-for .ensures) (frames q) (bases q) (start-from-known q .pre .0 .4) (h .0) (h .1 .0) (places q) (y .fresh .result .seen)
+    (none y) (sym fine ∙ x .walk .ensures .0) (now (a .wanted)) (x .walk .last .1 .1 .1 .1 .0) (x .walk .last .1 .1 .1 .1 .1 .0) (spotIn (x .walk .result))
+    (λ sought. x .walk .ensures .1 .0 sought fine) (x .walk .result .free) (x .walk .result .used) (x .walk .ensures .1 .1 .0) (x .walk .ensures .1 .1 .1)
 
 pub judge-spec : {M : Type 1} → statement M
 judge-spec =
@@ -212,14 +191,12 @@ judge-spec =
     enum-known-free
     enum-told
     returns-3
-    fresh-requires
-    walk-free-requires
-    returns-4
     sub-count
-    walk-entries-requires
+    fresh-requires
+    walk-requires
     same-length
     same-length-2
-    returns-5
+    returns-4
     same-length-3
     same-length-4
-    returns-6)
+    returns-5)

@@ -21,7 +21,7 @@ sub-if1 c = search needs
 next-top-requires : tie.Need-next-top-requires
 next-top-requires c κs =
     let s = start-from-top c in
-    (s .pre .0, (eq-eqb _ _ (c .before .before .if1 .taken), s .pre .1))
+    (s .pre .0 .0, (eq-eqb _ _ (c .before .before .if1 .taken), s .pre .1))
 
 same-length : tie.Need-same-length
 same-length c = search needs

@@ -42,7 +42,13 @@ short : (c : tie.After-known-told) → c .before .s .given .0 .0 .front + c .bef
 short c =
     let q = start-from-told c in
     let a = q .args in
-    sep-short (now (a .ib)) (a .p) (a .by) (a .first) (now (a .buf)) (now (a .buf)) (c .before .s .given .0 .0) (parsed c) (q .pre .0) (q .pre .0 .whole)
+    sep-short (now (a .ib)) (a .p) (a .by) (a .first) (now (a .buf)) (now (a .buf)) (c .before .s .given .0 .0) (parsed c) (q .pre .0 .0) (q .pre .0 .0 .whole)
+
+front : (c : tie.After-known-told) → c .before .s .given .0 .0 .front ≤ start-from-told c .args .p .len
+front c =
+    let q = start-from-told c in
+    let a = q .args in
+    front-inner (now (a .ib)) (a .p) (a .by) (a .first) (now (a .buf)) (now (a .buf)) (c .before .s .given .0 .0) (parsed c) (q .pre .0 .0) (q .pre .0 .0 .whole) (inner c)
 
 -- and what is known once it was copied
 turned : (c : tie.After-extend) (high : List ℕ) → start-from-told (told-from-extend c) .args .by .key + 8 ≤ length high
@@ -54,8 +60,8 @@ turned c high tall =
     let q = start-from-told k in
     let a = q .args in
     let r = c .before .before .before .ascends in
-    turned-inner (now (a .ib)) (a .p) (a .by) (a .first) (now (a .buf)) high (k .before .s .given .0 .0) (parsed k) (q .pre .0) tall (r .result) (c .extend .last .0) high
-    (inner k) (r .ensures) (c .extend .ensures) refl
+    turned-inner (now (a .ib)) (a .p) (a .by) (a .first) (now (a .buf)) high (k .before .s .given .0 .0) (parsed k) (q .pre .0 .0) tall (r .result) (c .extend .last .0) high
+    (inner k) (r .ensures .1 (front k)) (c .extend .ensures) refl
 
 piece-at-requires : tie.Need-piece-at-requires
 piece-at-requires c κs = search needs
@@ -78,12 +84,12 @@ ascends-requires c κs =
     let k = c .before in
     let q = start-from-told k in
     let a = q .args in
-    let b = q .pre .0 in
+    let b = q .pre .0 .0 in
     let s = k .before .s .given .0 .0 in (
-      front-inner (now (a .ib)) (a .p) (a .by) (a .first) (now (a .buf)) (now (a .buf)) s (parsed k) b (b .whole) (inner k),
       omega (arith, b .short, b .whole),
       omega (arith, chars-reach (now (a .ib)) (a .p) (a .by) (a .first) (now (a .buf)) (now (a .buf)) s (parsed k) b (b .whole), reach-least (s .len)),
       b .held,
+      q .pre .0 .1,
     )
 
 same-length : tie.Need-same-length
@@ -94,8 +100,8 @@ returns-2 c =
     let k = c .before .before .before in
     let q = start-from-told k in
     let a = q .args in (
-      λ (high : List ℕ) tall. low-inner (now (a .ib)) (a .p) (a .by) (a .first) (now (a .buf)) high (k .before .s .given .0 .0) (parsed k) (q .pre .0) tall (inner k)
-          (λ K k1 k2. sym (not-true _ (c .if1 .taken)) ∙ c .before .ascends .ensures K k1 k2),
+      λ (high : List ℕ) tall. low-inner (now (a .ib)) (a .p) (a .by) (a .first) (now (a .buf)) high (k .before .s .given .0 .0) (parsed k) (q .pre .0 .0) tall (inner k)
+          (λ K k1 k2. sym (not-true _ (c .if1 .taken)) ∙ c .before .ascends .ensures .1 (front k) K k1 k2),
       λ (high : List ℕ) tall. tt,
     )
 
@@ -104,7 +110,7 @@ extend-requires c κs =
     let k = c .before .before .before .before in
     let q = start-from-told k in
     let a = q .args in
-    let b = q .pre .0 in
+    let b = q .pre .0 .0 in
     let s = k .before .s .given .0 .0 in
     (omega (arith, short k, b .whole, reach-most (s .len)), chars-reach (now (a .ib)) (a .p) (a .by) (a .first) (now (a .buf)) (now (a .buf)) s (parsed k) b (b .whole))
 
@@ -115,7 +121,7 @@ last-of-requires : tie.Need-last-of-requires
 last-of-requires c κs =
     let e = c .before .before .before .before in
     let k = told-from-extend e in
-    omega (arith, short k, start-from-told k .pre .0 .whole, e .extend .kept .0)
+    omega (arith, short k, start-from-told k .pre .0 .0 .whole, e .extend .kept .0)
 
 same-length-2 : tie.Need-same-length-2
 same-length-2 c = search needs
@@ -126,7 +132,7 @@ returns-3 c =
     let k = told-from-extend e in
     let q = start-from-told k in
     let a = q .args in (
-      λ (high : List ℕ) tall. entry-high (now (a .ib)) (a .p) (a .by) (a .first) (now (a .buf)) high (k .before .s .given .0 .0) (parsed k) (q .pre .0) tall
+      λ (high : List ℕ) tall. entry-high (now (a .ib)) (a .p) (a .by) (a .first) (now (a .buf)) high (k .before .s .given .0 .0) (parsed k) (q .pre .0 .0) tall
           (e .before .before .before .ascends .result) (e .extend .last .0) high (turned e high tall) (sym (c .before .last-of .ensures) ∙ c .if2 .taken),
       λ (high : List ℕ) tall. tt,
     )
@@ -140,7 +146,7 @@ returns-4 c =
     let k = told-from-extend e in
     let q = start-from-told k in
     let a = q .args in (
-      λ (high : List ℕ) tall. entry-on (now (a .ib)) (a .p) (a .by) (a .first) (now (a .buf)) high (k .before .s .given .0 .0) (parsed k) (q .pre .0) tall
+      λ (high : List ℕ) tall. entry-on (now (a .ib)) (a .p) (a .by) (a .first) (now (a .buf)) high (k .before .s .given .0 .0) (parsed k) (q .pre .0 .0) tall
           (e .before .before .before .ascends .result) (e .extend .last .0) high (turned e high tall) (not-false _ (e .before .before .if1 .left)) (λ z. c .if2 .left (c .before .last-of .ensures ∙ z)),
       λ (high : List ℕ) tall. turned e high tall .renewed,
     )
