@@ -427,7 +427,7 @@ pub(crate) fn mark_free(seen: &mut [u8; LIMIT], ib: &[u8], w: usize, count: usiz
 }
 
 // Walks the entries of a section leftwards up to its highest, or to the one that the key leads to, and marks their numbers. Of `left` entries the last must close
-// a section, so that one must be met. These are nearly all entries, and their loop has nothing else in it: what it needs stays in registers.
+// a section, so that one must be met. These are nearly all entries, and their loop has nothing else in it.
 pub(crate) fn walk_inner(
     seen: &mut [u8; LIMIT],
     buf: &mut [u8],
