@@ -12,9 +12,9 @@ use Rattle.walk.proofs.walk_end.Reads as walk-end
 pub unique-walk-next : (κs : _) (args : _) (r s : Place) (e f : _) → walk-next.Learnt κs args r e → walk-next.Learnt κs args s f → r ≡ s
 unique-walk-next κs args r s e f p q = agree p q
 
--- the part that is given back
-pub unique-walk-record : (κs : _) (args : _) (r s : _) (e f : _) → walk-record.Learnt κs args r e → walk-record.Learnt κs args s f → r .now ≡ s .now
-unique-walk-record κs args r s e f p q = agree p q
+-- the part that is given back, and where it lies
+pub unique-walk-record : (κs : _) (args : _) (r s : _) (e f : _) → walk-record.Learnt κs args r e → walk-record.Learnt κs args s f → (r .now ≡ s .now) × (r .ptr ≡ s .ptr)
+unique-walk-record κs args r s e f p q = (agree (p .bytes) (q .bytes), agree (p .lies) (q .lies))
 
 pub unique-walk-end : (κs : _) (args : _) (r s : Begun) (e f : _) → walk-end.Learnt κs args r e → walk-end.Learnt κs args s f → r ≡ s
 unique-walk-end κs args r s e f p q = agree (p .1) (q .1)

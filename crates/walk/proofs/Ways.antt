@@ -9,6 +9,7 @@ use lib.Dec.{ltb}
 use native.Mathlib.Omega.{arith}
 use native.Mathlib.Nat.{le-div-iff-mul-le, mul-le-mul-left, mul-le-mul-right, div-mul-le-self}
 use borrow.Author.Tests.{ltb-false, eq-eqb, ne-eqb, lt-ltb, le-ltb, lt-leb, le-leb}
+use denote.Ref.{RefT, now}
 use Rattle.fields.specs.Choice.{pick, either}
 use Rattle.fields.specs.Bytes.{Octets, part, number}
 use Rattle.fields.proofs.Numbers.{number-below}
@@ -24,7 +25,7 @@ use Rattle.index_walk.specs.declared.Met.the-variants.{Entry, Nothing}
 use Rattle.index_walk.specs.AidPasses.{edge, edgeFirst, passOf}
 use Rattle.walk.specs.declared.Place.{Place}
 use Rattle.walk.specs.declared.Filled.{Filled}
-use Rattle.walk.specs.AidSteps.{endPlace, countIn, indexAt, dataAt, placedOf, beyondOf, edgePastOf, aheadOf, filled, filledFrom, lastFilledOf, behindAt, alongTo, alongOf, edgeIn, spotIn, leaveIn, leaveOf, nextOf, recordOf, behindOf, endIn}
+use Rattle.walk.specs.AidSteps.{endPlace, countIn, indexAt, dataAt, placedOf, beyondOf, edgePastOf, aheadOf, filled, filledFrom, lastFilledOf, behindAt, alongTo, alongOf, edgeIn, spotIn, leaveIn, leaveOf, nextOf, outside, Shown, behindOf, endIn}
 use Rattle.walk.specs.AidStands.{FirstFrom}
 
 -- ---- how many intervals
@@ -53,14 +54,22 @@ module _ (s : Spot) (base i : ℕ) (e : Edge) where
   placed-is h = rw (ne-eqb (s .len) 0 h)
 
 module _ (area : List ℕ) (p : Place) where
-  pub record-past : length area < p .start → [] ≡ recordOf area p
-  record-past h = rw (lt-ltb (length area) (p .start) h)
+  pub place-past : length area < p .start → outside area p ≡ true
+  place-past h = rw (lt-ltb (length area) (p .start) h)
 
-  pub record-cut : p .start ≤ length area → length area - p .start < p .length → [] ≡ recordOf area p
-  record-cut h k = rw (le-ltb (length area) (p .start) h, lt-ltb (length area - p .start) (p .length) k)
+  pub place-cut : p .start ≤ length area → length area - p .start < p .length → outside area p ≡ true
+  place-cut h k = rw (le-ltb (length area) (p .start) h, lt-ltb (length area - p .start) (p .length) k)
 
-  pub record-is : p .start ≤ length area → p .length ≤ length area - p .start → part area (p .start) (p .length) ≡ recordOf area p
-  record-is h k = rw (le-ltb (length area) (p .start) h, le-ltb (length area - p .start) (p .length) k)
+  pub place-in : p .start ≤ length area → p .length ≤ length area - p .start → outside area p ≡ false
+  place-in h k = rw (le-ltb (length area) (p .start) h, le-ltb (length area - p .start) (p .length) k)
+
+-- what is handed out: for a place outside the area the empty part at its front, for any other its own
+module _ (area : RefT (List ℕ)) (p : Place) (r : RefT (List ℕ)) where
+  pub shown-none : outside (now area) p ≡ true → now r ≡ [] → r .ptr ≡ (area .ptr .0, 0 + area .ptr .1) → Shown area p r
+  shown-none o b l = let z : 0 + area .ptr .1 ≡ area .ptr .1 + 0 = omega arith in record { bytes = b ∙ rw o; lies = l ∙ rw (o, z) }
+
+  pub shown-part : outside (now area) p ≡ false → now r ≡ part (now area) (p .start) (p .length) → r .ptr ≡ (area .ptr .0, p .start + area .ptr .1) → Shown area p r
+  shown-part o b l = let z : p .start + area .ptr .1 ≡ area .ptr .1 + p .start = omega arith in record { bytes = b ∙ rw o; lies = l ∙ rw (o, z) }
 
 -- ---- in a sound interval, the record of an ordinal
 

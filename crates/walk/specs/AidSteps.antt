@@ -1,9 +1,11 @@
 -- Aids: the steps of a walk for any bytes, any size and any place. What is believed of them is said in `walk-gives`, over `walkOf` of crate requests: document 02, L1.
 use Prim.Native.Nat.{ℕ, zero, suc, _+_, _-_, _*_, _/_}
+use mathlib.Core.Path.{_≡_}
 use mathlib.Core.Bool.{Bool, true, false}
 use mathlib.Core.List.{List, []}
 use lib.ListN.{length, take}
 use lib.Dec.{eqb, leb, ltb}
+use denote.Ref.{RefT, now}
 use Rattle.fields.specs.Choice.{pick, either}
 use Rattle.fields.specs.Bytes.{number, part}
 use Rattle.measures.specs.Judgement.{widthFor}
@@ -131,9 +133,22 @@ unfoldable pub nextOf : List ℕ → ℕ → Bool → Place → Place
 nextOf area size forward p =
     pick (eqb (p .length) 0) p (pick (ltb 0 (p .left)) (alongOf (length area) forward p) (leaveOf area size forward p))
 
+-- a place that does not lie in the area
+abbrev pub outside : List ℕ → Place → Bool
+outside area p = either (ltb (length area) (p .start)) (ltb (length area - p .start) (p .length))
+
 -- the record: a part of the area, or nothing
 abbrev pub recordOf : List ℕ → Place → List ℕ
-recordOf area p = pick (either (ltb (length area) (p .start)) (ltb (length area - p .start) (p .length))) [] (part area (p .start) (p .length))
+recordOf area p = pick (outside area p) [] (part area (p .start) (p .length))
+
+-- where that part begins in the area: the empty one at its first byte
+abbrev pub beginsIn : List ℕ → Place → ℕ
+beginsIn area p = pick (outside area p) 0 (p .start)
+
+-- The part that is handed out for a place: the record's bytes, not copied but lent where they lie, so many bytes behind the area's first.
+pub record Shown (area : RefT (List ℕ)) (p : Place) (r : RefT (List ℕ)) : Type 0 where
+  pub bytes : now r ≡ recordOf (now area) p
+  pub lies : r .ptr ≡ (area .ptr .0, area .ptr .1 + beginsIn (now area) p)
 
 -- k steps from a place
 unfoldable pub stepsFrom : ℕ → List ℕ → ℕ → Bool → Place → Place

@@ -12,7 +12,7 @@ ghost use Rattle.area.specs.Content.{recordsOf};
 ghost use Rattle.area_find.specs.AidSought.{Whole};
 ghost use Rattle.requests.specs.Walks.{walkFromOf, walkEndOf};
 ghost use Rattle.opening.specs.AidOpened.{openedOf};
-ghost use Rattle.walk.specs.AidSteps.{endPlace, countIn, placedOf, edgePastOf, aheadOf, lastFilledOf, behindOf, alongTo, alongOf, leaveOf, nextOf, recordOf, endIn};
+ghost use Rattle.walk.specs.AidSteps.{endPlace, countIn, placedOf, edgePastOf, aheadOf, lastFilledOf, behindOf, alongTo, alongOf, leaveOf, nextOf, Shown, endIn};
 ghost use Rattle.walk.specs.AidGives.{Begins};
 ghost use Rattle.walk.specs.AidStands.{before, StoodIn, Sits, fromFound, uptoFound, FirstFrom, beginsFrom, BeginsAt, endedBy};
 use area_find::Spot as Sought;
@@ -265,7 +265,7 @@ pub fn walk_next(area: &[u8], size: usize, forward: bool, p: Place) -> Place
 
 // The record at a place, as its part of the area; the empty part at the end, and at a place that does not lie in the area.
 pub fn walk_record<'a>(area: &'a [u8], p: Place) -> &'a [u8]
-    ensures { λ r. ⌜ now r ≡ recordOf (now (area .entry)) p ⌝ }
+    ensures { λ r. ⌜ Shown (area .entry) p r ⌝ }
 {
     if area.len() < p.start || area.len() - p.start < p.length {
         return &area[0..0];

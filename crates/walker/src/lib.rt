@@ -1,7 +1,7 @@
 // A walker over the register: it borrows the area and remembers its place in it: document 02, L1. Thin functions over the steps of crate walk. A walk begins there, with its
 // refusals, before there is a walker.
 ghost use mathlib.Core.Path.{_≡_};
-ghost use Rattle.walk.specs.AidSteps.{recordOf};
+ghost use Rattle.walk.specs.AidSteps.{Shown};
 ghost use Rattle.walker.specs.Walkers.{walkerAt, walkerNext};
 use walk::Place;
 
@@ -27,7 +27,7 @@ pub fn begun<'a>(area: &'a [u8], size: usize, forward: bool, place: Place) -> Wa
 
 // Its record, as its part of the area; the empty part at the end.
 pub fn seen<'a>(w: Walker<'a>) -> &'a [u8]
-    ensures { λ r. ⌜ now r ≡ recordOf (now (w .entry .area)) (w .entry .place) ⌝ }
+    ensures { λ r. ⌜ Shown (w .entry .area) (w .entry .place) r ⌝ }
 {
     walk::walk_record(w.area, w.place)
 }

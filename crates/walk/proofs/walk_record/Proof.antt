@@ -1,13 +1,13 @@
--- No loop. A place that does not lie in the area has the empty part (record-past, record-cut); any other has its own (record-is).
+-- No loop. A place that does not lie in the area has the empty part (place-past, place-cut, shown-none); any other has its own (place-in, shown-part).
 use Prim.Native.Nat.{_-_, _≤_}
-use mathlib.Core.Path.{_∙_}
+use mathlib.Core.Path.{refl}
 use mathlib.Core.Logic.{⊎-elim}
 use lib.ListN.{length}
 use native.Mathlib.Omega.{arith}
 use borrow.Author.Tests.{ltb-true, ltb-false}
 use borrow.Author.Needs.{needs}
 use Rattle.fields.proofs.Splices.{part-is}
-use Rattle.walk.proofs.Ways.{record-past, record-cut, record-is}
+use Rattle.walk.proofs.Ways.{place-past, place-cut, place-in, shown-none, shown-part}
 use Rattle.walk.proofs.walk_record.Statement.{statement}
 use Rattle.walk.proofs.walk_record.Tie as tie
 
@@ -34,7 +34,8 @@ part-result-end c = search needs
 returns : tie.Need-returns
 returns c =
     let a = c .before .before .before .args in
-    ⊎-elim (λ w. record-past (a .area .now) (a .p) (w .taken)) (λ w. record-cut (a .area .now) (a .p) (w .0 .left) (ltb-true _ _ (w .3 .taken))) (c .before .if1 .came)
+    shown-none (a .area) (a .p) _
+    (⊎-elim (λ w. place-past (a .area .now) (a .p) (w .taken)) (λ w. place-cut (a .area .now) (a .p) (w .0 .left) (ltb-true _ _ (w .3 .taken))) (c .before .if1 .came)) refl refl
 
 add-e : tie.Need-add-e
 add-e c = omega (arith, lies c, start-of c)
@@ -54,7 +55,7 @@ returns-2 : tie.Need-returns-2
 returns-2 c =
     let d = c .before in
     let a = start-of d .args in
-    part-is (a .area .now) (a .p .start) (a .p .length) ∙ record-is (a .area .now) (a .p) (lies d .0) (lies d .1)
+    shown-part (a .area) (a .p) _ (place-in (a .area .now) (a .p) (lies d .0) (lies d .1)) (part-is (a .area .now) (a .p .start) (a .p .length)) refl
 
 pub walk-record-spec : {M : Type 1} → statement M
 walk-record-spec =

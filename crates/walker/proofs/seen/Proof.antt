@@ -42,7 +42,7 @@ use denote.Triple.Table.{entered, cited}
 use denote.Triple.Walked.{says, Stays, stay-none, walkOf, goes-none, Walks, ends-at, walked, walk-meets}
 use denote.Exit.{yes}
 use denote.Triple.Clauses.{ensured, lasts}
-use Rattle.walk.specs.AidSteps.{recordOf}
+use Rattle.walk.specs.AidSteps.{Shown}
 use Rattle.walk.proofs.Place as P
 use Rattle.walk.proofs.Place.Laws as P′
 use Rattle.walk.proofs.walk_record as step
@@ -78,8 +78,9 @@ module _ {M : Type 1} (𝓤 : URA M) (H : Heap 𝓤) (A : Atoms 𝓤) (W : Given
   abbrev v : Val
   v = sliceVal (d .area .ptr) (length (d .area .now))
 
-  abbrev found : List ℕ
-  found = recordOf (now (d .area)) (d .place)
+  -- what is known of the result
+  abbrev Found : RefT (List ℕ) → Type 0
+  Found r = Shown (d .area) (d .place) r
 
   -- the result's type
   abbrev R : RattleType
@@ -125,10 +126,10 @@ module _ {M : Type 1} (𝓤 : URA M) (H : Heap 𝓤) (A : Atoms 𝓤) (W : Given
       move ! (2 ∷ 0 ∷ []) $ use2 W (raw (Reads 𝓤 H A mem run .pre to)) asked $ frame ! $ done !)
 
   -- of the callee's `ensured`, the clause alone: it has no `&mut`, so what is said of last values is dropped
-  said : (r : RefT (List ℕ)) → ent 𝓤 (ensured 𝓤 H A step.ended (step.clauses 𝓤 H A mem run) (κ, tt) (d .area, (d .place, tt)) tt r) (fact 𝓤 (now r ≡ found))
-  said r = exE 𝓤 _ (λ ws. snd∗ 𝓤 (sem 𝓤 H A (lasts step.ended (κ, tt) (d .area, (d .place, tt)) ws)) (fact 𝓤 (now r ≡ found)))
+  said : (r : RefT (List ℕ)) → ent 𝓤 (ensured 𝓤 H A step.ended (step.clauses 𝓤 H A mem run) (κ, tt) (d .area, (d .place, tt)) tt r) (fact 𝓤 (Found r))
+  said r = exE 𝓤 _ (λ ws. snd∗ 𝓤 (sem 𝓤 H A (lasts step.ended (κ, tt) (d .area, (d .place, tt)) ws)) (fact 𝓤 (Found r)))
 
-  exits : (r : RefT (List ℕ)) (u : Val) → now r ≡ found → ent 𝓤 (⋆ 𝓤 H A (‵ (R .own r (u ∷ [])) ∷ (‵ (flft κ q) ⊛ ‵ ftrue) ∷ ‵ Own ∷ [])) (Post u)
+  exits : (r : RefT (List ℕ)) (u : Val) → Found r → ent 𝓤 (⋆ 𝓤 H A (‵ (R .own r (u ∷ [])) ∷ (‵ (flft κ q) ⊛ ‵ ftrue) ∷ ‵ Own ∷ [])) (Post u)
   exits r u e =
       qed W (‵ (R .own r (u ∷ [])) ∷ (‵ (flft κ q) ⊛ ‵ ftrue) ∷ ‵ Own ∷ []) ∵
       suffices ! _ (ends-at 𝓤 H A seen.ended stayed (seen.clauses 𝓤 H A mem run) W (((κ, tt), (q, tt), tt, (d, tt), at), tt) u r (tt, tt) (tt, tt)) $ says ! e $
@@ -144,7 +145,7 @@ module _ {M : Type 1} (𝓤 : URA M) (H : Heap 𝓤) (A : Atoms 𝓤) (W : Given
         move ! (8 ∷ []) $ use1 W (raw (Reads 𝓤 H A mem run .pre to) ⊛ ‵ Own) apart $ split ! $
         calls-at ! fm (Reads 𝓤 H A mem run) known to (and-then ! (load ! (from ! (stop !)) (look ! 4 refl)) (and-then ! (load ! (from ! (stop !)) (look ! 2 refl)) (no-more !))) (λ u.
         use1 W (later (some (λ (r : RefT (List ℕ)). ((‵ (flft κ q) ⊛ ‵ ftrue) ⊛ ‵ (R .own r (u ∷ []))) ⊛ raw (ensured 𝓤 H A step.ended (step.clauses 𝓤 H A mem run) (κ, tt) (d .area, (d .place, tt)) tt r)))) (id⊢ 𝓤 _) $ await ! tt $ pick ! (λ r.
-        split ! $ move ! (1 ∷ []) $ use1 W (raw (fact 𝓤 (now r ≡ found))) (said r) $ heard ! (now r ≡ found) (λ e. split ! $ move ! (1 ∷ []) $
+        split ! $ move ! (1 ∷ []) $ use1 W (raw (fact 𝓤 (Found r))) (said r) $ heard ! (Found r) (λ e. split ! $ move ! (1 ∷ []) $
         -- [the result; the token; what the struct owns; _3; …; _2; …; _1; …; room for _0; …]
         peeks ! R (Is R) (shows 𝓤 H A R) r (u ∷ []) (λ told.
         land ! (from ! (stop !)) (init ! 9 refl (shr-slice-lawful 𝓤 H A W (named 0) κ u8 .typed r _ told .0)) $
