@@ -38,6 +38,7 @@ use Rattle.walk.proofs.walk_next.Reads as walk-next
 use Rattle.walk.proofs.walk_record.Reads as walk-record
 use Rattle.walk.proofs.walk_from.Reads as walk-from
 use Rattle.walk.proofs.walk_end.Reads as walk-end
+
 -- ---- any area, any place
 
 -- The record of a place, whatever area and place are given, is empty or lies in the area.

@@ -1,3 +1,4 @@
 pub mod Contracts
+pub mod Held
 pub mod Unique
 pub mod Promised

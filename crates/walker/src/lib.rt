@@ -1,7 +1,7 @@
 // A walker over the register: it borrows the area and remembers its place in it: document 02, L1. Thin functions over the steps of crate walk. A walk begins there, with its
 // refusals, before there is a walker.
 ghost use mathlib.Core.Path.{_≡_};
-ghost use Rattle.walk.specs.AidSteps.{Shown};
+ghost use Rattle.walk.specs.AidSteps.{nextOf, Shown};
 ghost use Rattle.walker.specs.Walkers.{walkerAt, walkerNext};
 use walk::Place;
 
@@ -43,4 +43,19 @@ pub fn next<'a>(w: Walker<'a>) -> Walker<'a>
         forward: w.forward,
         place: p,
     }
+}
+
+// What a walker at a place sees, for callers that hold none.
+pub fn seen_at<'a>(area: &'a [u8], size: usize, forward: bool, place: Place) -> &'a [u8]
+    ensures { λ r. ⌜ Shown (area .entry) place r ⌝ }
+{
+    seen(begun(area, size, forward, place))
+}
+
+// The place of the walker that comes after one at a place, for callers that hold none.
+pub fn next_place<'a>(area: &'a [u8], size: usize, forward: bool, place: Place) -> Place
+    ensures { λ r. ⌜ r ≡ nextOf (now (area .entry)) size forward place ⌝ }
+{
+    let w = next(begun(area, size, forward, place));
+    w.place
 }
