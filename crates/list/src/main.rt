@@ -2,6 +2,7 @@
 // in hexadecimal digits, and with the word --text the record as text; then how many there are.
 mod print;
 
+ghost use Rattle.list.specs.Listed.{Lists};
 use fields::Order;
 use measures::Numbers;
 use walk::Begun;
@@ -15,21 +16,20 @@ const MEASURES: Numbers = Numbers {
     most: 60,
 };
 
-// The records from a place on, and the closing line. No area has more records than bytes: so many steps are made at most.
-fn records(area: &[u8], begun: Place, with_text: bool) -> bool {
+// The lines for the records from a place on, and the closing line. The walk goes by a walker.
+fn records(area: &[u8], begun: Place, with_text: bool) -> bool
+    requires { ⌜ Lists (now area) begun ⌝ }
+{
     let mut p = begun;
     let mut n = 0;
-    while n < area.len() {
-        if p.length == 0 {
-            break;
-        }
+    while p.length != 0 {
         n += 1;
-        if !print::line(n, walk::walk_record(area, p), with_text) {
+        if !print::line(area, n, walker::seen_at(area, 512, true, p), with_text) {
             return false;
         }
-        p = walk::walk_next(area, 512, true, p);
+        p = walker::next_place(area, 512, true, p);
     }
-    print::closing(n)
+    print::closing(area, n)
 }
 
 // The list, or the line for an area that is refused.

@@ -1,4 +1,5 @@
 // The lines of the list. Each function gives whether all of it was written.
+ghost use Rattle.list.specs.Listed.{Line, Closing};
 use depot_io::number;
 use depot_io::words;
 
@@ -24,8 +25,11 @@ fn text(bytes: &[u8]) -> bool {
     words(b" ") && words(&line[..i])
 }
 
-// The line for one record: its place, its key, all of it; and as text, if that is asked for.
-pub(crate) fn line(place: usize, record: &[u8], with_text: bool) -> bool {
+// The line for one record: its place, its key, all of it; and as text, if that is asked for. The area is there for the contract: it is the record with that place that
+// is printed.
+pub(crate) fn line(area: &[u8], place: usize, record: &[u8], with_text: bool) -> bool
+    requires { ⌜ Line (now area) place (now «record») ⌝ }
+{
     if record.len() < 8 {
         return false;
     }
@@ -38,6 +42,9 @@ pub(crate) fn line(place: usize, record: &[u8], with_text: bool) -> bool {
         && words(b"\n")
 }
 
-pub(crate) fn closing(records: usize) -> bool {
+// How many records there are in the area.
+pub(crate) fn closing(area: &[u8], records: usize) -> bool
+    requires { ⌜ Closing (now area) records ⌝ }
+{
     words(b"records ") && number(records as u64) && words(b"\n")
 }

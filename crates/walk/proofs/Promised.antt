@@ -92,13 +92,13 @@ place-same p q e = cc
 
 module _ (area : List ℕ) (size : ℕ) (forward : Bool) (r : Begun) (p : Place) (at : r ≡ At p) where
   -- a walk that was refused stands at no place
-  never : (a : Answer) → r ≡ Refused a → ⊥
+  pub never : (a : Answer) → r ≡ Refused a → ⊥
   never a e = one (sym at ∙ e)
     where
       one : At p ≡ Refused a → ⊥
       one f = let z : _≡_ {A = ℕ} 0 1 = cc in omega arith
 
-  placed-gives : (items : List Item) → Begins area size forward (giving items) r → Gives area size forward items p
+  pub placed-gives : (items : List Item) → Begins area size forward (giving items) r → Gives area size forward items p
   placed-gives items b = rw (place-same p (b .0) (sym at ∙ b .1)) (b .2)
 
   picked-gives : (t : Bool) (items : List Item) → Begins area size forward (pick t (ifSome items) (refusedWith WrongLength)) r → Gives area size forward items p

@@ -9,7 +9,7 @@ use denote.Ref.{now}
 use denote.Triple.Clauses.{AtExit}
 use borrow.Fn.Claims.{AllOf}
 use borrow.Fn.World.{World, Pr, ArgsD, ResD}
-use borrow.Fn.Read.{Read, no-know, all-models, reads}
+use borrow.Fn.Read.{Read, no-know, r-last, all-models}
 use Rattle.walk.specs.AidSteps.{nextOf, Shown}
 use Rattle.walker.specs.Walkers.{walkerAt, walkerNext}
 use Rattle.walker.specs.declared.Walker.{Walker}
@@ -26,7 +26,7 @@ module _ (κs : Lfts 1) (a : ArgsD begun.signature κs) (r : ResD begun.signatur
   begun-ensures w = begun.clauses (w .𝓤) (w .H) (w .𝓖 .A) (w .𝓜 .mem) (w .𝓡 .run) κs a .ensures tt r e
 
   abbrev begun-read : Read nothing no-know begun-ensures
-  begun-read = all-models begun-ensures (λ w. search reads) (λ w. refl) (λ w. refl) (λ w. refl)
+  begun-read = all-models begun-ensures (λ w. r-last _) (λ w. refl) (λ w. refl) (λ w. refl)
 
   abbrev pub BegunLearnt : Type 0
   BegunLearnt = AllOf (begun-read .tells)
@@ -39,7 +39,7 @@ module _ (κs : Lfts 1) (a : ArgsD seen.signature κs) (r : ResD seen.signature 
   seen-ensures w = seen.clauses (w .𝓤) (w .H) (w .𝓖 .A) (w .𝓜 .mem) (w .𝓡 .run) κs a .ensures tt r e
 
   abbrev seen-read : Read nothing no-know seen-ensures
-  seen-read = all-models seen-ensures (λ w. search reads) (λ w. refl) (λ w. refl) (λ w. refl)
+  seen-read = all-models seen-ensures (λ w. r-last _) (λ w. refl) (λ w. refl) (λ w. refl)
 
   abbrev pub SeenLearnt : Type 0
   SeenLearnt = AllOf (seen-read .tells)
@@ -52,7 +52,7 @@ module _ (κs : Lfts 1) (a : ArgsD next.signature κs) (r : ResD next.signature 
   next-ensures w = next.clauses (w .𝓤) (w .H) (w .𝓖 .A) (w .𝓜 .mem) (w .𝓡 .run) κs a .ensures tt r e
 
   abbrev next-read : Read nothing no-know next-ensures
-  next-read = all-models next-ensures (λ w. search reads) (λ w. refl) (λ w. refl) (λ w. refl)
+  next-read = all-models next-ensures (λ w. r-last _) (λ w. refl) (λ w. refl) (λ w. refl)
 
   abbrev pub NextLearnt : Type 0
   NextLearnt = AllOf (next-read .tells)

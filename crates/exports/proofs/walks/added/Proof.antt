@@ -45,7 +45,7 @@ loop-again : tie.Need-loop-again Inv-loop μ-loop
 loop-again c =
     let l = c .before .before .before .before .before .before in
     let a = l .before .before .args in
-    let e = c .before .wrapping-add-usize .ensures ∙ ap (λ xs. (l .loop .sum + length xs) % 2 ^ 64) (c .before .before .walk-record .ensures) in
+    let e = c .before .wrapping-add-usize .ensures ∙ ap (λ xs. (l .loop .sum + length xs) % 2 ^ 64) (c .before .before .walk-record .ensures .bytes) in
     let inside : l .loop .n < length (a .area .now) = search needs in (
       adding-on (a .area .now) (a .size) (a .forward) (a .begun) (l .loop .sum) (l .loop .p) (l .loop .n) (l .loop .inv .0) inside (c .walk-next .result) (c .before .wrapping-add-usize .result) (c .walk-next .ensures) e,
       omega (arith, inside),

@@ -12,7 +12,7 @@ walk-record-requires : tie.Need-walk-record-requires
 walk-record-requires c κs = search needs
 
 returns : tie.Need-returns
-returns c = record { next = c .before .walk-next .ensures; long = ap length (c .walk-record .ensures) }
+returns c = record { next = c .before .walk-next .ensures; long = ap length (c .walk-record .ensures .bytes) }
 
 pub belquita-walk-next-spec : {M : Type 1} → statement M
 belquita-walk-next-spec = tie.close (tie.spec walk-next-requires walk-record-requires returns)

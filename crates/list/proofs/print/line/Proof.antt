@@ -19,7 +19,7 @@ words-requires : tie.Need-words-requires
 words-requires c κs = search needs
 
 slice-aggregate-hex : tie.Need-slice-aggregate-hex
-slice-aggregate-hex c = sym (length-take-le 8 (now (c .before .before .before .before .before .before .args .record)) (search needs))
+slice-aggregate-hex c = sym (length-take-le 8 (now (c .before .before .before .before .before .before .before .args .«record»)) (search needs))
 
 hex-requires : tie.Need-hex-requires
 hex-requires c κs = search needs
