@@ -1,5 +1,5 @@
 -- What a get by key looks at, and no more: document 02, L4. It judges the index record and the interval to which that leads the key; damage elsewhere does
--- not refuse it, so that it vouches for no other interval. By `KeyHome`, `DamagedHome` and `FineHome` the same is said without that search.
+-- not refuse it, so that it vouches for no other interval. `KeyHome`, `DamagedHome` and `FineHome` say so without a search.
 use Prim.Native.Nat.{ℕ}
 use mathlib.Core.Path.{_≡_}
 use mathlib.Core.Bool.{true, false}
@@ -60,7 +60,8 @@ pub record DamagedHome (m : Measures) (n : ℕ) (area wanted : List ℕ) (k : �
   pub unsound : (rs : List (List ℕ)) → HomeLaid m n area wanted k home rs → ⊥
 
 -- The key belongs to an interval, and that is laid out in its role as the records rs. Beside fine measures this is all
--- that a get by key asks of an area (document 02, L4): every other interval may hold anything. Said by the grammars alone.
+-- that a get by key asks of an area (document 02, L4): every other interval may hold anything. Said by the grammars
+-- alone.
 pub record FineHome (m : Measures) (n : ℕ) (area wanted : List ℕ) (rs : List (List ℕ)) : Type 0 where
   pub interval : ℕ
   pub home : KeyHome m n area wanted interval
