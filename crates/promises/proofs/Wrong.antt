@@ -298,13 +298,14 @@ FindsSought x = Finds (Keyed depot (keyOf depot sought) (certificates 2 0x31 60)
 sought-out : (x : Step) → FindsSought x → x .output ≡ sought
 sought-out x f = ap (λ (g : Given). g .output) (f .found sought (record { among = List·Memᴰ·tail (List·Memᴰ·head refl); has = refl }) (omega arith))
 
--- A register that tells number and length and leaves the output as it was breaks `get-there-finds`.
+-- A register that tells number and length and leaves the output as it was breaks `get-there-finds`: the certificate's first byte is not there.
 pub leaves-output : FindsSought (leavesOutput halfLost seeking) → ⊥
 leaves-output f =
-    let z : _≡_ {A = ℕ} 0 0x41 = ap (λ (b : List ℕ). getD b 0 0) (sought-out (leavesOutput halfLost seeking) f) in
+    let e = sym (damages .left-given) ∙ sought-out (leavesOutput halfLost seeking) f in
+    let z : _≡_ {A = ℕ} 0 0x41 = ap (λ (b : List ℕ). getD b 0 0) e in
     omega arith
 
--- And so does one that hands out the record before, equally long, with the same number and length.
+-- And so does one that hands out the record before, which is equally long: its eighth byte is another.
 pub record-before : FindsSought (recordBefore halfLost seeking) → ⊥
 record-before f =
     let e = sym (damages .before-given) ∙ sought-out (recordBefore halfLost seeking) f in
