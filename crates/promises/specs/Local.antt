@@ -1,5 +1,5 @@
 -- What a get by key looks at, and no more: document 02, L4. It judges the index record and the interval to which that leads the key; damage elsewhere does
--- not refuse it, so that it vouches for no other interval. `KeyHome`, `DamagedHome` and `FineHome` say so without a search.
+-- not refuse it, so that it vouches for no other interval. `KeyHome`, `DamagedHome` and `FineHome` name no search.
 use Prim.Native.Nat.{ℕ}
 use mathlib.Core.Path.{_≡_}
 use mathlib.Core.Bool.{true, false}

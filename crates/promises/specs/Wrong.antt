@@ -197,7 +197,8 @@ abbrev pub sameRecord : Register
 sameRecord =
     gettingBy
     (λ (area wanted out : List ℕ) (right : Given).
-    pick (eqb (numberOf (right .answer)) 0) (record { answer = Found (length first); output = first ++ drop (length first) out }) right)
+    pick (eqb (numberOf (right .answer)) 0)
+    (record { answer = Found (length first); output = first ++ drop (length first) out }) right)
 
 -- ---- gets that judge more than they read, or less: document 02, L4
 
@@ -246,7 +247,7 @@ looksAway =
 
 -- ---- gets that judge rightly and give wrongly, where damage lies elsewhere
 
--- Two intervals in use, all certificates of one length; of the second every byte is made 0, so that half of them is lost.
+-- Two intervals in use, all certificates of one length; every byte of the second is made 0, so that half are lost.
 abbrev pub paired : Content
 paired =
     record {
