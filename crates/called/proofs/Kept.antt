@@ -12,10 +12,11 @@ use Rattle.area.specs.Content.{Content, indexIn, recordsOf}
 use Rattle.area.specs.Layout.{Lent, IndexInterval}
 use Rattle.area.specs.Reading.{whole, readArea}
 use Rattle.requests.specs.Answers.{numberOf}
+use Rattle.requests.specs.Finding.{Keyed, Finds}
 use Rattle.requests.specs.Model.{Change, insert, update, erase, Legal}
 use Rattle.requests.specs.Allowed.{Request, check, get, getAt, changes, Allowed}
 use Rattle.requests.specs.declared.Answer.{Answer}
-use Rattle.requests.specs.declared.Answer.the-variants.{Intact, Damaged}
+use Rattle.requests.specs.declared.Answer.the-variants.{Intact, Damaged, Absent}
 use Rattle.promises.specs.Harmless.{Refusal}
 use Rattle.promises.specs.Alike.{handedBack}
 use Rattle.promises.specs.Wrong.{lentBy}
@@ -24,7 +25,7 @@ use Rattle.promises.specs.Trace.{Sound}
 use Rattle.promises.specs.Changes.{SpreadsFewest, OnlyNamedWritten, Framed, WrittenTrue, CutPrescribed}
 use Rattle.promises.specs.Tables.{First, WantOfInterval, WantOfRoom, tableFor}
 use Rattle.promises.specs.Values.{ValuesExact}
-use Rattle.promises.specs.Local.{SameFor, DamagedHome}
+use Rattle.promises.specs.Local.{SameFor, DamagedHome, FineHome}
 use Rattle.promises.proofs.Refused.{refused-harmless}
 use Rattle.promises.proofs.Exact.{refusals-exact}
 use Rattle.promises.proofs.Values.{values-exact}
@@ -32,7 +33,7 @@ use Rattle.promises.proofs.Wants.{want-of-interval, want-of-room}
 use Rattle.promises.proofs.Changes.{spreads-fewest, only-named-written, written-true, cut-prescribed, check-true}
 use Rattle.promises.proofs.Frames.{change-frame}
 use Rattle.promises.proofs.Unique.{one-result}
-use Rattle.promises.proofs.Local.{get-local, get-damage-placed}
+use Rattle.promises.proofs.Local.{get-local, get-damage-placed, get-there-finds}
 use Rattle.called.proofs.Called.{Called, allowed}
 
 module _ (size offset key most : ℕ) (area : List ℕ) where
@@ -81,6 +82,13 @@ module _ (size offset key most : ℕ) (area : List ℕ) where
       × ((k : ℕ) → (a ≡ Damaged (k + 1)) ↔ DamagedHome (measures size offset key most) (countOf size (length area)) area wanted k)
   get-damage-placed-called l wanted b lent a after out k =
       get-damage-placed size offset key most area l wanted b lent a after out (allowed size offset key most area (get wanted lent) a after out k)
+
+  pub get-there-finds-called : Lent (measures size offset key most) (countOf size (length area)) area → (wanted : List ℕ) → Octets wanted
+      → (rs : List (List ℕ)) → FineHome (measures size offset key most) (countOf size (length area)) area wanted rs
+      → (lent : List ℕ) (a : Answer) (after out : List ℕ) → Called size offset key most area (get wanted lent) a after out
+      → Finds (Keyed (measures size offset key most) wanted rs) Absent lent (record { answer = a; output = out })
+  get-there-finds-called l wanted b rs f lent a after out k =
+      get-there-finds size offset key most area l wanted b rs f lent a after out (allowed size offset key most area (get wanted lent) a after out k)
 
 -- ---- changes
 

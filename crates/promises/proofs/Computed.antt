@@ -49,7 +49,7 @@ use Rattle.requests.specs.declared.Answer.the-variants.{Done, NoInterval, NoRoo
 use Rattle.promises.specs.Home.{LengthFine}
 use Rattle.promises.specs.Changes.{unitAt}
 use Rattle.promises.specs.Instances.{alone, between, eight, ninth, ten, shorter, high, certificate, certificates}
-use Rattle.promises.specs.Wrong.{third, together, rightly, lastLost, fillsIndex, scratched, vouchesForAll, beyondBound, looksAway}
+use Rattle.promises.specs.Wrong.{third, together, rightly, lastLost, fillsIndex, scratched, vouchesForAll, beyondBound, looksAway, halfLost, sought, seeking, leavesOutput, recordBefore}
 use Rattle.requests.specs.Reading.{getThere, getIn, getOf}
 use Rattle.requests.specs.Opening.{openingOf}
 use Rattle.promises.specs.Instances as at
@@ -156,8 +156,9 @@ unfolding bytes splice number digits sum concat swap every orderOf common widthF
     planOf stored changeOf withKey makeChange replace
 left = record { together = refl; lost = refl; brimful = refl; halved = refl; unused-was = refl; unused-is = refl }
 
--- two damaged areas, and what a get of the first certificate meets in them: where the damage is, whether the index record and the key's interval are sound, and
--- what is right to answer; a certificate that lies in an interval to which its key does not lead is not found, and only a check tells of the damage
+-- Damaged areas, and what a get meets in them: where the damage is, whether the index record and the key's interval are sound, what that interval holds, and
+-- what is right to answer; a certificate that lies in an interval to which its key does not lead is not found, and only a check tells of the damage. What the
+-- wrong registers answer, and leave in the output.
 pub record Damages : Type 0 where
   pub scratched-octets : allOctets scratched ≡ true
   pub scratched-damaged : readArea depot (countOf 512 (length scratched)) scratched ≡ damaged 2
@@ -174,6 +175,20 @@ pub record Damages : Type 0 where
   pub got-scratched : getOf 512 0 8 60 scratched (keyOf depot first) (replicate 60 0) .answer ≡ Found 10
   pub got-beyond : getOf 512 0 8 60 beyondBound (keyOf depot first) (replicate 60 0) .answer ≡ Damaged 1
   pub got-stray : getOf 512 0 8 60 beyondBound (keyOf depot second) (replicate 60 0) .answer ≡ Absent
+  pub lost-octets : allOctets halfLost ≡ true
+  pub lost-key : allOctets (keyOf depot sought) ≡ true
+  pub lost-judges : judgedOf 512 0 8 60 (length halfLost) ≡ Fine depot (countOf 512 (length halfLost))
+  pub lost-damaged : readArea depot (countOf 512 (length halfLost)) halfLost ≡ damaged 2
+  pub lost-index : indexSound depot (countOf 512 (length halfLost)) halfLost ≡ true
+  pub lost-there : soundFor depot (entriesFor depot (countOf 512 (length halfLost)) halfLost) (keyOf depot sought)
+      (intervalFor depot (countOf 512 (length halfLost)) halfLost (keyOf depot sought))
+      ≡ true
+  pub lost-records : recordsIn (intervalFor depot (countOf 512 (length halfLost)) halfLost (keyOf depot sought)) ≡ certificates 2 0x31 60
+  pub got-lost : getOf 512 0 8 60 halfLost (keyOf depot sought) (replicate 60 0) ≡ record { answer = Found 60; output = sought }
+  pub left-told : leavesOutput halfLost seeking .answer ≡ Found 60
+  pub left-given : leavesOutput halfLost seeking .output ≡ replicate 60 0
+  pub before-told : recordBefore halfLost seeking .answer ≡ Found 60
+  pub before-given : recordBefore halfLost seeking .output ≡ certificate 0x31 60
 
 pub damages : Damages
 unfolding bytes splice number digits sum concat swap every orderOf common widthFor fine judgedOf anyBelow permittedSize described rdfCount push groups need
@@ -194,4 +209,16 @@ damages = record {
   got-scratched = refl;
   got-beyond = refl;
   got-stray = refl;
+  lost-octets = refl;
+  lost-key = refl;
+  lost-judges = refl;
+  lost-damaged = refl;
+  lost-index = refl;
+  lost-there = refl;
+  lost-records = refl;
+  got-lost = refl;
+  left-told = refl;
+  left-given = refl;
+  before-told = refl;
+  before-given = refl;
 }

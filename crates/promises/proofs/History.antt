@@ -31,6 +31,10 @@ use Rattle.promises.specs.Trace.{Step, Trace, areaAfter, taking, accepte
 use Rattle.promises.proofs.Refused.{change-harmless}
 use Rattle.promises.proofs.Fits.{accepted-fits-area}
 
+-- A result that a get's contract allows is what it gives.
+pub given-is : (g : Given) (a : Answer) (out : List ℕ) → Gives g a out → record { answer = a; output = out } ≡ g
+given-is g a out k = rw (k .answers, k .outputs)
+
 module _ (size offset key most : ℕ) where
   -- ---- one change
 
@@ -165,9 +169,6 @@ module _ (size offset key most : ℕ) where
           (λ (k : ℕ) (h : k < n). once-each xs n k (b .1) h, λ (k : ℕ) (h : n ≤ k). count-out k n xs (b .0) h)
 
       -- ---- gets at any step
-
-      given-is : (g : Given) (a : Answer) (out : List ℕ) → Gives g a out → record { answer = a; output = out } ≡ g
-      given-is g a out k = rw (k .answers, k .outputs)
 
       module _ (ss rest : List Step) (a : Answer) (after out lent : List ℕ) where
         -- At any step of a history a get by key finds exactly the record with that key among the opening records with the changes accepted so far: it is handed out at

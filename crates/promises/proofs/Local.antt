@@ -1,5 +1,5 @@
--- What a get by key depends on: the index record and the interval that the key leads to. Damage elsewhere does not matter to it; on a sound area its table
--- speaks of all records; and where it tells of damage, there is damage.
+-- What a get by key depends on: the index record and the interval that the key leads to. Damage elsewhere does not matter to it: where these two are fine it
+-- finds what that interval says, where it tells of damage there is damage, and on a sound area its table speaks of all records.
 use Prim.Native.Nat.{ℕ, _+_, _≤_, _<_}
 use mathlib.Core.Path.{_≡_, refl, _∙_, sym, ap}
 use mathlib.Core.Bool.{Bool, true, false}
@@ -16,6 +16,7 @@ use Rattle.measures.specs.Judgement.{judgedOf, measures, countOf, widthFor}
 use Rattle.measures.specs.declared.Measures.{Measures}
 use Rattle.measures.specs.declared.Judged.the-variants.{Fine}
 use Rattle.measures.proofs.Fine.{accepted, fits-small}
+use Rattle.interval.specs.Reading.{recordsIn}
 use Rattle.interval.specs.Role.{soundUsed}
 use Rattle.index.specs.Bounds.{bound}
 use Rattle.index.specs.Meaning.{Entry, Meaning, entry, numbers, below}
@@ -26,26 +27,29 @@ use Rattle.index.proofs.Leading.{lead-base, lead-only}
 use Rattle.index.proofs.Naming.{both-below}
 use Rattle.sections.specs.Reading.{readIndex}
 use Rattle.area.specs.Content.{Content, indexIn, dataIn, recordsOf}
-use Rattle.area.specs.Layout.{Lent, IndexInterval, UsedInterval}
+use Rattle.area.specs.Layout.{Lent, IndexInterval}
 use Rattle.area.specs.Leads.{indexSound, entriesFor, numberFor, intervalFor, soundFor}
-use Rattle.area.proofs.Intervals.{laid-used, used-laid}
+use Rattle.area.proofs.Intervals.{laid-used, laid-used-reads, used-laid}
 use Rattle.area.proofs.Laying.{index-sound, index-read, index-laid}
 use Rattle.area.proofs.Parts.{length-data, octets-data}
 use Rattle.area.proofs.Sounding.{sound-apart}
 use Rattle.requests.specs.Answers.{numberOf, valuesOf}
 use Rattle.requests.specs.Records.{withKey}
 use Rattle.requests.specs.Reading.{Given, refused, getOf}
-use Rattle.requests.specs.Finding.{Keyed}
+use Rattle.requests.specs.Finding.{Keyed, Finds}
 use Rattle.requests.specs.declared.Answer.{Answer}
 use Rattle.requests.specs.declared.Answer.the-variants.{Damaged}
+use Rattle.requests.specs.declared.Answer.the-variants as answer
 use Rattle.requests.specs.Allowed.{get, Allowed}
 use Rattle.requests.proofs.Gets.{judged-key, keyed-among, among-keyed, get-index-damaged, get-there-damaged}
+use Rattle.requests.proofs.Gets.{get-there-finds as there-finds}
 use Rattle.requests.proofs.Quick.{entry-there, before-there, there-sound, there-is-all, get-of-elsewhere}
 use Rattle.promises.specs.Tables.{First, Absent, KeyedTooLong, DamagedIndex, DamagedThere, recordsThere, AbsentThere, TooLongThere, getTable}
 use Rattle.promises.specs.Trace.{Sound}
-use Rattle.promises.specs.Local.{SameFor, RowsWhole, DamagedHome}
+use Rattle.promises.specs.Local.{SameFor, RowsWhole, KeyHome, HomeLaid, DamagedHome, FineHome}
 use Rattle.promises.proofs.Rows.{held}
 use Rattle.promises.proofs.ExactReads.{get-exact}
+use Rattle.promises.proofs.History.{given-is}
 
 -- ---- elsewhere
 
@@ -103,7 +107,7 @@ module _ (size offset key most : ℕ) (area : List ℕ) where
           );
         }
 
-  -- ---- where damage is told
+  -- ---- by the grammars
 
   -- the entries of an index record name intervals that there are
   entry-below : (pre : List Entry) (sep : List ℕ) (k : ℕ) (post : List Entry) → below n (numbers (pre ++ (entry sep k ∷ post))) ≡ true → k < n
@@ -133,19 +137,18 @@ module _ (size offset key most : ℕ) (area : List ℕ) where
         go none true i = absurd (none _ (index-laid m n area lent i))
         go none false i = i
 
-    module _ (wanted : List ℕ) (b : Octets wanted) (out : List ℕ) where
-      abbrev got : Given
-      got = getOf size offset key most area wanted out
+    module _ (wanted : List ℕ) (b : Octets wanted) where
+      -- ---- the key's home
 
-      -- the interval that a key leads to is that of the entry to which it belongs, and is sound where a layout explains it
+      -- the interval that a key leads to is that of the entry to which it belongs, and its role is between that entry's bounds
       home-there : (es pre : List Entry) (sep : List ℕ) (k : ℕ) (post : List Entry) → es ≡ pre ++ (entry sep k ∷ post) → length pre ≡ leadsTo wanted es
           → (ci : List ℕ) → soundFor m es wanted ci ≡ soundUsed m (boundBefore key [] pre) (bound key sep) ci
       unfolding soundFor
       home-there es pre sep k post e p ci = rw (before-there wanted es pre (entry sep k) post e p, entry-there wanted es pre (entry sep k) post e p)
 
-      home-of : indexSound m n area ≡ true → length wanted ≡ key → DamagedThere size offset key most area wanted
-          → DamagedHome m n area wanted (numberFor m n area wanted)
-      home-of i l d =
+      -- where the index record is sound, a key of the right length has a home
+      home-of : indexSound m n area ≡ true → length wanted ≡ key → KeyHome m n area wanted (numberFor m n area wanted)
+      home-of i l =
           let es : List Entry = entriesFor m n area in
           let x = index-laid m n area lent i in
           let r = rules-apart size key n [] [] _ (x .rules) in
@@ -161,15 +164,21 @@ module _ (size offset key most : ℕ) (area : List ℕ) where
             split = h .split ∙ ap (λ (j : ℕ). h .pre ++ (entry (h .entry .sep) j ∷ h .post)) q;
             after = h .beyond;
             within = h .within;
-            unsound = λ (rs : List (List ℕ)) (u : UsedInterval m (boundBefore key [] (h .pre)) (bound key (h .entry .sep)) rs (intervalFor m n area wanted)).
-                false-true
-                (sym d ∙ home-there es (h .pre) (h .entry .sep) (h .entry .num) (h .post) (h .split) (h .place) (intervalFor m n area wanted)
-                ∙ laid-used m (intervalFor m n area wanted) some small (boundBefore key [] (h .pre)) (bound key (h .entry .sep)) rs u);
           }
 
-      module _ (k : ℕ) (h : DamagedHome m n area wanted k) where
+      module _ (k : ℕ) (h : KeyHome m n area wanted k) where
+        abbrev low : List ℕ
+        low = boundBefore key [] (h .pre)
+
+        abbrev high : List ℕ
+        high = bound key (h .sep)
+
         rules : Keeps size key n [] [] (h .meaning)
         rules = rules-apart size key n [] [] (h .meaning) (h .index .rules)
+
+        -- the index record is sound, and read as its meaning,
+        home-index : indexSound m n area ≡ true
+        home-index = index-sound m area some small n (lent .fits .few) (h .meaning) (h .index)
 
         entries-are : entriesFor m n area ≡ h .meaning .entries
         entries-are = ap (λ (x : Meaning). x .entries) (index-read m area some small n (lent .fits .few) (h .meaning) (h .index))
@@ -180,6 +189,7 @@ module _ (size offset key most : ℕ) (area : List ℕ) where
             (lead-only key wanted (h .long) b [] (h .meaning .entries) (length (h .pre)) (rules .rising)
             (record { pre = h .pre; entry = entry (h .sep) k; post = h .post; split = h .split; place = refl; beyond = h .after; within = h .within }))
 
+        -- it leads the key to its home,
         number-is : numberFor m n area wanted ≡ k
         number-is =
             ap (λ (es : List Entry). entryFor wanted es .num) entries-are
@@ -188,26 +198,68 @@ module _ (size offset key most : ℕ) (area : List ℕ) where
         below-n : k < n
         below-n = entry-below (h .pre) (h .sep) k (h .post) (rw (h .split) at (both-below n (h .meaning) (rules .naming) .1))
 
-        used-unsound : soundUsed m (boundBefore key [] (h .pre)) (bound key (h .sep)) (dataIn m area k) ≡ false
-        used-unsound = go (soundUsed m (boundBefore key [] (h .pre)) (bound key (h .sep)) (dataIn m area k)) refl
-          where
-            go : (t : Bool) → soundUsed m (boundBefore key [] (h .pre)) (bound key (h .sep)) (dataIn m area k) ≡ t
-                → soundUsed m (boundBefore key [] (h .pre)) (bound key (h .sep)) (dataIn m area k) ≡ false
-            go true e =
-                absurd
-                (h .unsound _
-                (used-laid m (dataIn m area k) (octets-data m area k (lent .octets)) (length-data m n area (lent .fits .bytes) k below-n) (boundBefore key [] (h .pre)) (bound key (h .sep))
-                e))
-            go false e = e
+        -- which is judged between its bounds,
+        home-judged : soundFor m (entriesFor m n area) wanted (intervalFor m n area wanted) ≡ soundUsed m low high (dataIn m area k)
+        home-judged = rw (number-is, entries-are) (home-there (h .meaning .entries) (h .pre) (h .sep) k (h .post) (h .split) place (dataIn m area k))
 
-        there-of : DamagedThere size offset key most area wanted
-        there-of =
-            rw (number-is, entries-are) (home-there (h .meaning .entries) (h .pre) (h .sep) k (h .post) (h .split) place (dataIn m area k) ∙ used-unsound)
+        -- is sound there exactly where it is laid out, and read as what was laid out
+        home-laid : soundUsed m low high (dataIn m area k) ≡ true → HomeLaid m n area wanted k h (recordsIn (dataIn m area k))
+        home-laid e = used-laid m (dataIn m area k) (octets-data m area k (lent .octets)) (length-data m n area (lent .fits .bytes) k below-n) low high e
 
-        home-told : got ≡ refused (Damaged (k + 1)) out
-        home-told =
-            get-there-damaged size offset key most area m n fine wanted out (index-sound m area some small n (lent .fits .few) (h .meaning) (h .index)) (h .long) there-of
-            ∙ ap (λ (j : ℕ). refused (Damaged (j + 1)) out) number-is
+        home-sound : (rs : List (List ℕ)) → HomeLaid m n area wanted k h rs → soundFor m (entriesFor m n area) wanted (intervalFor m n area wanted) ≡ true
+        home-sound rs u = home-judged ∙ laid-used m (dataIn m area k) some small low high rs u
+
+        home-reads : (rs : List (List ℕ)) → HomeLaid m n area wanted k h rs → recordsThere size offset key most area wanted ≡ rs
+        home-reads rs u = ap (λ (j : ℕ). recordsIn (dataIn m area j)) number-is ∙ laid-used-reads m (dataIn m area k) some small low high rs u
+
+      -- ---- where the home is fine
+
+      -- A home that the tests find sound is fine, as the records that are read there: so `FineHome` asks for no more than they do.
+      pub fine-home : indexSound m n area ≡ true → length wanted ≡ key → soundFor m (entriesFor m n area) wanted (intervalFor m n area wanted) ≡ true
+          → FineHome m n area wanted (recordsThere size offset key most area wanted)
+      fine-home i l s =
+          let k : ℕ = numberFor m n area wanted in
+          let h = home-of i l in
+          record { interval = k; home = h; laid = home-laid k h (sym (home-judged k h) ∙ s) }
+
+      -- A get by key finds exactly what the key's own interval says, whatever damage lies elsewhere: where one of its records has the key, that is handed out
+      -- at the output's front and the output stays behind it, or its length is told where the output is too short; where none has it, that is told.
+      pub get-there-finds : (rs : List (List ℕ)) → FineHome m n area wanted rs → (lent : List ℕ) (a : Answer) (after out : List ℕ)
+          → Allowed size offset key most area (get wanted lent) a after out → Finds (Keyed m wanted rs) answer.Absent lent (record { answer = a; output = out })
+      get-there-finds rs f lent a after out w =
+          let h = f .home in
+          rw (given-is (getOf size offset key most area wanted lent) a out (w .1), ← home-reads (f .interval) h rs (f .laid))
+          (there-finds size offset key most area m n fine wanted lent (home-index (f .interval) h) (h .long) (home-sound (f .interval) h rs (f .laid)))
+
+      -- ---- where it is damaged
+
+      -- a home that the tests find unsound is damaged, and the other way round
+      damaged-home : indexSound m n area ≡ true → length wanted ≡ key → DamagedThere size offset key most area wanted
+          → DamagedHome m n area wanted (numberFor m n area wanted)
+      damaged-home i l d =
+          let k : ℕ = numberFor m n area wanted in
+          let h = home-of i l in
+          record { home = h; unsound = λ (rs : List (List ℕ)) (u : HomeLaid m n area wanted k h rs). false-true (sym d ∙ home-sound k h rs u) }
+
+      damaged-there : (k : ℕ) → DamagedHome m n area wanted k → DamagedThere size offset key most area wanted
+      damaged-there k d = home-judged k (d .home) ∙ go (soundUsed m (low k (d .home)) (high k (d .home)) (dataIn m area k)) refl
+        where
+          go : (t : Bool) → soundUsed m (low k (d .home)) (high k (d .home)) (dataIn m area k) ≡ t
+              → soundUsed m (low k (d .home)) (high k (d .home)) (dataIn m area k) ≡ false
+          go true e = absurd (d .unsound _ (home-laid k (d .home) e))
+          go false e = e
+
+    -- ---- where damage is told
+
+    module _ (wanted : List ℕ) (b : Octets wanted) (out : List ℕ) where
+      abbrev got : Given
+      got = getOf size offset key most area wanted out
+
+      home-told : (k : ℕ) → DamagedHome m n area wanted k → got ≡ refused (Damaged (k + 1)) out
+      home-told k d =
+          let h = d .home in
+          get-there-damaged size offset key most area m n fine wanted out (home-index wanted b k h) (h .long) (damaged-there wanted b k d)
+          ∙ ap (λ (j : ℕ). refused (Damaged (j + 1)) out) (number-is wanted b k h)
 
       -- 2 is told of the index record, or of the key's interval where the index record is sound and the key's length right
       told-two : (k : ℕ) → First (getTable size offset key most area wanted out) k → k ≡ 2
@@ -259,7 +311,7 @@ module _ (size offset key most : ℕ) (area : List ℕ) where
               go : DamagedIndex size offset key most area ⊎ ((indexSound m n area ≡ true) × (length wanted ≡ key) × DamagedThere size offset key most area wanted)
                   → (ix : Meaning) → IndexInterval m n ix (indexIn m area) → ⊥
               go (inl d) = index-unlaid .0 d
-              go (inr x) = absurd (omega (arith, same-place 0 (numberFor m n area wanted + 1) e (by-home (numberFor m n area wanted) (home-of (x .0) (x .1) (x .2)))))
+              go (inr x) = absurd (omega (arith, same-place 0 (numberFor m n area wanted + 1) e (by-home (numberFor m n area wanted) (damaged-home wanted b (x .0) (x .1) (x .2)))))
 
           index-back : ((ix : Meaning) → IndexInterval m n ix (indexIn m area) → ⊥) → a ≡ Damaged 0
           index-back none = by-index (index-unlaid .1 none)
@@ -271,7 +323,7 @@ module _ (size offset key most : ℕ) (area : List ℕ) where
                   → DamagedHome m n area wanted k
               go (inl d) = absurd (omega (arith, same-place (k + 1) 0 e (by-index d)))
               go (inr x) =
-                  let h = home-of (x .0) (x .1) (x .2) in
+                  let h = damaged-home wanted b (x .0) (x .1) (x .2) in
                   let q : numberFor m n area wanted ≡ k = omega (arith, same-place (k + 1) (numberFor m n area wanted + 1) e (by-home (numberFor m n area wanted) h)) in
                   rw q at h
 

@@ -1,6 +1,6 @@
 -- The promises are not empty: each wrong register breaks one of them on an area written out, and so breaks its contracts.
 use Prim.Native.Nat.{ℕ, _+_, _≤_}
-use mathlib.Core.Path.{_≡_, refl, _∙_, sym, ap}
+use mathlib.Core.Path.{_≡_, refl, _∙_, sym, ap, subst}
 use mathlib.Core.List.{List, [], _∷_, _++_, map, List·Memᴰ, List·Memᴰ·head, List·Memᴰ·tail, List·Memᴰ·not-nil, List·Memᴰ·cases-cons, List·Memᴰ·eq-of-singleton}
 use mathlib.Core.Logic.{inl, inr, ⊎-elim, _↔_}
 use lib.ListN.{length, replicate, getD}
@@ -11,7 +11,7 @@ use Rattle.fields.specs.Lists.{sum, every}
 use Rattle.fields.proofs.Choices.{false-true}
 use Rattle.fields.proofs.Octets.{all-octets}
 use Rattle.measures.specs.Judgement.{countOf}
-use Rattle.measures.proofs.Fine.{accepted, fits-count}
+use Rattle.measures.proofs.Fine.{accepted, accepted-fits, fits-count}
 use Rattle.room.specs.Room.{rdfCount, push, groups, need, fits}
 use Rattle.interval.specs.Records.{keyOf}
 use Rattle.interval.specs.Layout.{form}
@@ -20,6 +20,7 @@ use Rattle.index.specs.Meaning.{count}
 use Rattle.division.specs.Fewest.{Fewest}
 use Rattle.division.proofs.Intervals.{fewest-one, fewest-unique}
 use Rattle.area.specs.Content.{Filled, Content, recordsOf}
+use Rattle.area.specs.Layout.{Lent}
 use Rattle.area.specs.Reading.{damaged, whole, readArea}
 use Rattle.area.specs.Example.{depot, first, second, held, bytes}
 use Rattle.area.proofs.Example.{some-sound, some-fits, some-lent}
@@ -33,12 +34,13 @@ use Rattle.requests.specs.Allowed.{Request, check, get, getAt, changes, Allowed
 use Rattle.promises.specs.Trace.{Step, Trace, acceptedIn, Sound, Stands}
 use Rattle.promises.specs.Changes.{toldWritten, unitAt, Framed, WrittenTrue}
 use Rattle.promises.specs.Home.{Home}
+use Rattle.promises.specs.Local.{FineHome}
 use Rattle.promises.specs.Tables.{First, Holding, Crowded, changed, tableFor, WantOfInterval, WantOfRoom}
 use Rattle.promises.proofs.History.{history, get-finds, total-bytes}
 use Rattle.promises.proofs.Changes.{check-true, spreads-fewest, written-true}
 use Rattle.promises.proofs.Computed.{nine, halves, answers, left, damages}
 use Rattle.promises.proofs.Exact.{refusals-exact}
-use Rattle.promises.proofs.Local.{rows-whole}
+use Rattle.promises.proofs.Local.{rows-whole, fine-home, get-there-finds}
 use Rattle.interval.specs.Search.{holds}
 use Rattle.division.specs.Division.{counts}
 use Rattle.change.specs.Parts.{divided}
@@ -49,7 +51,7 @@ use Rattle.promises.proofs.Wants.{want-of-interval, want-of-room}
 use Rattle.interval.proofs.Form.{interval-reads-back}
 use Rattle.promises.specs.Wrong.{run, Breaks, handedBy, rightly, refusesAll, callsDamaged, alwaysFull, fullTooSoon, crampedAtHome}
 use Rattle.promises.specs.Wrong.{crampedAtBrim, inventsCounts, inventsWritten, misnamesWritten, forgetsIndex, sameRecord, third, together, untouchedDone, keepsRevoked, constantBytes}
-use Rattle.promises.specs.Wrong.{losesLast, ReadsBack, scratched, vouchesForAll, beyondBound, looksAway}
+use Rattle.promises.specs.Wrong.{losesLast, ReadsBack, scratched, vouchesForAll, beyondBound, looksAway, halfLost, sought, seeking, leavesOutput, recordBefore}
 use Rattle.promises.proofs.Instances.{six-just-not, home-not-seven, seven-just-not, roomy-six, home-seven, brimful-seven, even-sound, roomy-sound}
 
 -- ---- the area
@@ -273,6 +275,43 @@ looks-away (inr (a, inr (b, inl x))) = omega (arith, x .1, damages .beyond-told)
 looks-away (inr (a, inr (b, inr (d, inl x)))) = omega (arith, x .1, damages .beyond-told)
 looks-away (inr (a, inr (b, inr (d, inr (e, x))))) = e (damages .beyond-there)
 
+-- ---- gets where damage lies elsewhere
+
+-- The area of which half is lost is one that is lent,
+lost-lent : Lent depot (countOf 512 (length halfLost)) halfLost
+lost-lent =
+    record {
+      octets = all-octets halfLost (damages .lost-octets);
+      fits = accepted-fits 512 0 8 60 (length halfLost) (countOf 512 (length halfLost)) depot (damages .lost-judges) .1;
+    }
+
+-- and the home of a key that is not lost is fine there: so `get-there-finds` speaks of an area in which certificates are lost.
+pub lost-fine : FineHome depot (countOf 512 (length halfLost)) halfLost (keyOf depot sought) (certificates 2 0x31 60)
+lost-fine =
+    subst (λ (rs : List (List ℕ)). FineHome depot (countOf 512 (length halfLost)) halfLost (keyOf depot sought) rs) (damages .lost-records)
+    (fine-home 512 0 8 60 halfLost lost-lent (keyOf depot sought) (all-octets (keyOf depot sought) (damages .lost-key)) (damages .lost-index) refl (damages .lost-there))
+
+-- what a register must come to there where it keeps its contracts: the certificate itself
+abbrev pub FindsSought : Step → Type 0
+FindsSought x = Finds (Keyed depot (keyOf depot sought) (certificates 2 0x31 60)) Absent (replicate 60 0) (record { answer = x .answer; output = x .output })
+
+sought-out : (x : Step) → FindsSought x → x .output ≡ sought
+sought-out x f = ap (λ (g : Given). g .output) (f .found sought (record { among = List·Memᴰ·tail (List·Memᴰ·head refl); has = refl }) (omega arith))
+
+-- A register that tells number and length and leaves the output as it was breaks `get-there-finds`: the certificate's first byte is not there.
+pub leaves-output : FindsSought (leavesOutput halfLost seeking) → ⊥
+leaves-output f =
+    let e = sym (damages .left-given) ∙ sought-out (leavesOutput halfLost seeking) f in
+    let z : _≡_ {A = ℕ} 0 0x41 = ap (λ (b : List ℕ). getD b 0 0) e in
+    omega arith
+
+-- And so does one that hands out the record before, which is equally long: its eighth byte is another.
+pub record-before : FindsSought (recordBefore halfLost seeking) → ⊥
+record-before f =
+    let e = sym (damages .before-given) ∙ sought-out (recordBefore halfLost seeking) f in
+    let z : _≡_ {A = ℕ} 0x31 0x32 = ap (λ (b : List ℕ). getD b 7 0) e in
+    omega arith
+
 -- ---- histories
 
 -- what an area holds of which something stands
@@ -444,6 +483,16 @@ judgings-broken = (
       (looksAway beyondBound (get (keyOf depot first) (replicate 60 0)) .answer) beyondBound
       (looksAway beyondBound (get (keyOf depot first) (replicate 60 0)) .output) (t .0)),
 )
+
+-- Gets where damage lies elsewhere.
+pub givings-broken : Breaks 8 60 halfLost leavesOutput (seeking ∷ [])
+    × Breaks 8 60 halfLost recordBefore (seeking ∷ [])
+givings-broken = (λ t. leaves-output (finds (leavesOutput halfLost seeking) (t .0)), λ t. record-before (finds (recordBefore halfLost seeking) (t .0)))
+  where
+    finds : (x : Step) → Allowed 512 0 8 60 halfLost seeking (x .answer) (x .area) (x .output) → FindsSought x
+    finds x k =
+        get-there-finds 512 0 8 60 halfLost lost-lent (keyOf depot sought) (all-octets (keyOf depot sought) (damages .lost-key)) (certificates 2 0x31 60) lost-fine (replicate 60 0)
+        (x .answer) (x .area) (x .output) k
 
 -- Changes.
 pub changes-broken : Breaks 8 60 bytes untouchedDone (changes (insert third) ∷ [])

@@ -1,5 +1,5 @@
 -- What a get by key looks at, and no more: document 02, L4. It judges the index record and the interval to which that leads the key; damage elsewhere does
--- not refuse it, so that it vouches for no other interval.
+-- not refuse it, so that it vouches for no other interval. `KeyHome`, `DamagedHome` and `FineHome` name no search.
 use Prim.Native.Nat.{ℕ}
 use mathlib.Core.Path.{_≡_}
 use mathlib.Core.Bool.{true, false}
@@ -33,9 +33,10 @@ pub record RowsWhole (size offset key most : ℕ) (area wanted : List ℕ) : Typ
   pub absent : AbsentThere size offset key most area wanted ↔ Absent size offset key most area wanted
   pub too-long : (out : List ℕ) → TooLongThere size offset key most area wanted out ↔ KeyedTooLong size offset key most area wanted out
 
--- The index record is sound, and the key, which has the length of a key, belongs to interval k: it is above the bound before that entry and at most the entry's
--- own. But k is not laid out in its role: in no way as records between these two bounds. Said by the grammars alone.
-pub record DamagedHome (m : Measures) (n : ℕ) (area wanted : List ℕ) (k : ℕ) : Type 0 where
+-- The key has the length of a key and belongs to interval k: the index record is laid out with some meaning, one of its
+-- entries is that of k, and the key is above the bound before that entry and at most the entry's own. Said by the
+-- grammar of the index record alone: nothing is searched, and no data interval is looked at.
+pub record KeyHome (m : Measures) (n : ℕ) (area wanted : List ℕ) (k : ℕ) : Type 0 where
   pub long : length wanted ≡ m .key
   pub meaning : Meaning
   pub index : IndexInterval m n meaning (indexIn m area)
@@ -45,4 +46,23 @@ pub record DamagedHome (m : Measures) (n : ℕ) (area wanted : List ℕ) (k : �
   pub split : meaning .entries ≡ pre ++ (entry sep k ∷ post)
   pub after : less (boundBefore (m .key) [] pre) wanted ≡ true
   pub within : less (bound (m .key) sep) wanted ≡ false
-  pub unsound : (rs : List (List ℕ)) → UsedInterval m (boundBefore (m .key) [] pre) (bound (m .key) sep) rs (dataIn m area k) → ⊥
+
+-- Interval k, to which the key belongs, is laid out in its role: as these records, between the entry's two bounds.
+abbrev pub HomeLaid : (m : Measures) (n : ℕ) (area wanted : List ℕ) (k : ℕ) → KeyHome m n area wanted k
+    → List (List ℕ) → Type 0
+HomeLaid m n area wanted k h rs =
+    UsedInterval m (boundBefore (m .key) [] (h .pre)) (bound (m .key) (h .sep)) rs (dataIn m area k)
+
+-- The key belongs to interval k, but k is not laid out in its role: in no way as records between the two bounds.
+-- Said by the grammars alone.
+pub record DamagedHome (m : Measures) (n : ℕ) (area wanted : List ℕ) (k : ℕ) : Type 0 where
+  pub home : KeyHome m n area wanted k
+  pub unsound : (rs : List (List ℕ)) → HomeLaid m n area wanted k home rs → ⊥
+
+-- The key belongs to an interval, and that is laid out in its role as the records rs. Beside fine measures this is all
+-- that a get by key asks of an area (document 02, L4): every other interval may hold anything. Said by the grammars
+-- alone.
+pub record FineHome (m : Measures) (n : ℕ) (area wanted : List ℕ) (rs : List (List ℕ)) : Type 0 where
+  pub interval : ℕ
+  pub home : KeyHome m n area wanted interval
+  pub laid : HomeLaid m n area wanted interval home rs

@@ -13,6 +13,7 @@ use Rattle.room.specs.Room.{need}
 use Rattle.interval.specs.Records.{keyOf, lengthsFine}
 use Rattle.interval.specs.Layout.{form}
 use Rattle.interval.specs.Reading.{recordsIn}
+use Rattle.interval.specs.Search.{lower}
 use Rattle.index.specs.Search.{leadsTo}
 use Rattle.sections.specs.Form.{indexSize}
 use Rattle.area.specs.Content.{Filled, Content, entriesOf, meaningOf, widthIn}
@@ -34,7 +35,7 @@ use Rattle.requests.specs.declared.Answer.the-variants.{NoRecord}
 use Rattle.requests.specs.Allowed.{Request, check, get, getAt, changes}
 use Rattle.promises.specs.Trace.{Step, Trace}
 use Rattle.promises.specs.Changes.{toldWritten}
-use Rattle.promises.specs.Instances.{alone, laid}
+use Rattle.promises.specs.Instances.{alone, laid, certificate, certificates}
 
 -- ---- registers
 
@@ -74,6 +75,19 @@ changingBy f key most area check = rightly key most area check
 changingBy f key most area (get wanted out) = rightly key most area (get wanted out)
 changingBy f key most area (getAt address out) = rightly key most area (getAt address out)
 changingBy f key most area (changes ch) = changedTo ch (f area ch (changeOf 512 0 key most area ch))
+
+-- a fault in a get by key: what becomes of what is rightly given, for an area, a key and an output
+abbrev pub GetFault : Type 0
+GetFault = List ℕ → List ℕ → List ℕ → Given → Given
+
+-- the register that has it, and does all else rightly
+abbrev pub gettingBy : GetFault → Register
+gettingBy f area check = rightly 8 60 area check
+gettingBy f area (get wanted out) =
+    let given : Given = f area wanted out (getOf 512 0 8 60 area wanted out) in
+    record { request = get wanted out; answer = given .answer; area = area; output = given .output }
+gettingBy f area (getAt address out) = rightly 8 60 area (getAt address out)
+gettingBy f area (changes ch) = rightly 8 60 area (changes ch)
 
 -- how many intervals an answer says were written: none where it is a refusal, one where the change stays in its interval, more where it divides
 abbrev pub writtenBy : Answer → ℕ
@@ -180,18 +194,11 @@ forgetsIndex =
 
 -- hands out the same certificate to whoever asks for one that is there
 abbrev pub sameRecord : Register
-sameRecord area check = rightly 8 60 area check
-sameRecord area (get wanted out) =
-    let right : Given = getOf 512 0 8 60 area wanted out in
-    let there : Bool = eqb (numberOf (right .answer)) 0 in
-    record {
-      request = get wanted out;
-      answer = pick there (Found (length first)) (right .answer);
-      area = area;
-      output = pick there (first ++ drop (length first) out) (right .output);
-    }
-sameRecord area (getAt address out) = rightly 8 60 area (getAt address out)
-sameRecord area (changes ch) = rightly 8 60 area (changes ch)
+sameRecord =
+    gettingBy
+    (λ (area wanted out : List ℕ) (right : Given).
+    pick (eqb (numberOf (right .answer)) 0)
+    (record { answer = Found (length first); output = first ++ drop (length first) out }) right)
 
 -- ---- gets that judge more than they read, or less: document 02, L4
 
@@ -210,12 +217,7 @@ vouched (holding m c) out right = right
 
 -- vouches for the whole area in every get
 abbrev pub vouchesForAll : Register
-vouchesForAll area check = rightly 8 60 area check
-vouchesForAll area (get wanted out) =
-    let given : Given = vouched (openingOf 512 0 8 60 area) out (getOf 512 0 8 60 area wanted out) in
-    record { request = get wanted out; answer = given .answer; area = area; output = given .output }
-vouchesForAll area (getAt address out) = rightly 8 60 area (getAt address out)
-vouchesForAll area (changes ch) = rightly 8 60 area (changes ch)
+vouchesForAll = gettingBy (λ (area wanted out : List ℕ) (right : Given). vouched (openingOf 512 0 8 60 area) out right)
 
 -- Two intervals in use: the first entry's separator is the first certificate's key, but in its interval lies also the second certificate, whose key is above
 -- that bound. The third lies in the other interval.
@@ -231,17 +233,54 @@ strayed =
 abbrev pub beyondBound : List ℕ
 beyondBound = laid strayed ((first ∷ second ∷ []) ∷ (third ∷ []) ∷ [])
 
+-- the records of the interval that a key leads to
+abbrev recordsFor : List ℕ → List ℕ → List (List ℕ)
+recordsFor area wanted = recordsIn (intervalFor depot (countOf 512 (length area)) area wanted)
+
 -- Where the interval that the key leads to is damaged, it hands out what it finds there all the same.
 abbrev pub looksAway : Register
-looksAway area check = rightly 8 60 area check
-looksAway area (get wanted out) =
-    let right : Given = getOf 512 0 8 60 area wanted out in
-    let there : Bool = both (eqb (numberOf (right .answer)) 2) (ltb 0 (getD (valuesOf (right .answer)) 0 0)) in
-    let rs : List (List ℕ) = recordsIn (intervalFor depot (countOf 512 (length area)) area wanted) in
-    let given : Given = pick there (handOut Absent (withKey depot wanted rs) out) right in
-    record { request = get wanted out; answer = given .answer; area = area; output = given .output }
-looksAway area (getAt address out) = rightly 8 60 area (getAt address out)
-looksAway area (changes ch) = rightly 8 60 area (changes ch)
+looksAway =
+    gettingBy
+    (λ (area wanted out : List ℕ) (right : Given).
+    pick (both (eqb (numberOf (right .answer)) 2) (ltb 0 (getD (valuesOf (right .answer)) 0 0)))
+    (handOut Absent (withKey depot wanted (recordsFor area wanted)) out) right)
+
+-- ---- gets that judge rightly and give wrongly, where damage lies elsewhere
+
+-- Two intervals in use, all certificates of one length; every byte of the second is made 0, so that half are lost.
+abbrev pub paired : Content
+paired =
+    record {
+      kept = replicate 12 0;
+      spare = 0;
+      free = [];
+      filled =
+          record { sep = keyOf depot (certificate 0x32 60); num = 0; records = certificates 2 0x31 60 }
+          ∷ record { sep = []; num = 1; records = certificates 2 0x33 60 }
+          ∷ [];
+    }
+
+abbrev pub halfLost : List ℕ
+halfLost = splice (laid paired (certificates 2 0x31 60 ∷ certificates 2 0x33 60 ∷ [])) 1024 (replicate 512 0)
+
+-- one that is not lost, the second of its interval, and the get of it into as many bytes of 0
+abbrev pub sought : List ℕ
+sought = certificate 0x32 60
+
+abbrev pub seeking : Request
+seeking = get (keyOf depot sought) (replicate 60 0)
+
+-- tells number and length rightly, and leaves the output as it was
+abbrev pub leavesOutput : Register
+leavesOutput = gettingBy (λ (area wanted out : List ℕ) (right : Given). record { answer = right .answer; output = out })
+
+-- hands out the record before the one with the key, where there is one
+abbrev pub recordBefore : Register
+recordBefore =
+    gettingBy
+    (λ (area wanted out : List ℕ) (right : Given).
+    let rs : List (List ℕ) = recordsFor area wanted in
+    pick (eqb (numberOf (right .answer)) 0) (handOut Absent (drop (lower depot wanted rs - 1) rs) out) right)
 
 -- ---- changes
 

@@ -1,3 +1,4 @@
 pub mod Joining
 pub mod Apart
+pub mod Found
 pub mod Unique
