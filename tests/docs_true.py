@@ -41,7 +41,7 @@ def functions():
     for path in glob.glob("crates/*/src/*.rt"):
         crate, file = path.split("/")[1], os.path.basename(path)[:-3]
         source = text(path)
-        for found in re.finditer(r"^(pub(?:\(crate\))? )?(?:extern \"C\" )?fn (\w+)\(", source, re.M):
+        for found in re.finditer(r"^(pub(?:\(crate\))? )?(?:extern \"C\" )?fn (\w+)(?:<[^>]*>)?\(", source, re.M):
             end = source.find("\n}\n", found.start())
             whole = source[found.start():end]
             start = whole.find("\n{\n") if "\n{\n" in whole else whole.find("{\n")
