@@ -4,7 +4,6 @@ use Prim.Native.Nat.{ℕ, _+_, _-_, _*_, _≤_, _<_}
 use mathlib.Core.Path.{_≡_, refl, _∙_, ap}
 use mathlib.Core.Bool.{Bool, true, false}
 use mathlib.Core.List.{List, _++_}
-use mathlib.Core.Logic.{inl}
 use lib.ListN.{length, take, drop}
 use lib.Seq.{length-take-le}
 use native.Mathlib.Omega.{arith}
@@ -31,14 +30,8 @@ use Rattle.change_plan.proofs.Seeing.{many-seen}
 use Rattle.change_plan.proofs.Keys.{key-long}
 use Rattle.change_plan.proofs.Cutting.{cuts-in}
 use Rattle.change_plan.proofs.Planning.{size-asks, size-told}
-use Rattle.change_write.specs.AidStored.{Storable, AllFit, Takes, takenLeft, Parted, indexLeft, partsLeft}
+use Rattle.change_write.specs.AidStored.{AllFit, Takes, takenLeft, Parted, indexLeft, partsLeft}
 use Rattle.change_write.proofs.Keeping.{store-long, store-front, store-apart, records-kept, seen-kept, stretch-end, form-long, fit-later, fit-last}
-
--- A stretch from the front on is so many first elements.
-stretch-front : {A : Type 0} (k : ℕ) (xs : List A) → stretch 0 k xs ≡ take k xs
-stretch-front k xs =
-    let z : k - 0 ≡ k = omega arith in
-    rw z
 
 -- ---- with the later parts stored
 
@@ -113,6 +106,14 @@ module _ (m : Measures) (n : ℕ) (area new lens : List ℕ) (s : Spread) (p : P
   second-key : length (leftKeyAt m records (s .parts .second)) ≡ m .key
   second-key = key-of (s .parts .second) (omega (arith, p .takes .cut .some, p .takes .cut .order)) (p .takes .cut .inside)
 
+  -- the first part fits its interval
+  pub first-fits : (s .parts .first ≤ length lens) × (need (take (s .parts .first) lens) ≤ m .size)
+  first-fits = (omega (arith, p .takes .cut .order, p .takes .cut .inside), go (threeOf (s .parts)) (p .takes .fit))
+    where
+      go : (three : Bool) → AllFit (m .size) (partsAt three (s .parts .first) (s .parts .second) lens) → need (take (s .parts .first) lens) ≤ m .size
+      go true f = f .0
+      go false f = f .0
+
   module _ (x : List ℕ) (taken : x ≡ takenLeft (m .size) area s records) where
     kept : Kept m (s .site .number) area x
     kept = rw taken (taken-kept m area new lens s (p .takes))
@@ -159,32 +160,16 @@ module _ (m : Measures) (n : ℕ) (area new lens : List ℕ) (s : Spread) (p : P
           ap (λ (b : List ℕ). dataIn m b (s .site .number)) at-front
           ∙ part-right x 0 ib ((s .site .number + 1) * m .size) (m .size) (omega arith) (omega (arith, long, mul-le-mul-right (m .size) j)) ∙ kept .own
 
-      -- the edit is still seen, and the first part can be stored over it
+      -- the edit is still seen
       pub first-seen : Seen m (ib ++ drop (m .size) x) (s .site) new lens
       first-seen = seen-kept m area middle (s .site) new same lens (p .takes .seen) middle-long
-
-      pub first-storable : Storable (m .size) (length (ib ++ drop (m .size) x)) (s .site .number) lens record { place = s .site .number + 1; first = 0; last = s .parts .first }
-      first-storable =
-          record {
-            order = omega arith;
-            inside = omega (arith, p .takes .cut .order, p .takes .cut .inside);
-            fits = rw (stretch-front (s .parts .first) lens) (go (threeOf (s .parts)) (p .takes .fit));
-            small = p .takes .small;
-            there = rw middle-long (p .takes .seen .there);
-            apart = inl (refl, refl);
-          }
-        where
-          go : (three : Bool) → AllFit (m .size) (partsAt three (s .parts .first) (s .parts .second) lens) → need (take (s .parts .first) lens) ≤ m .size
-          go true f = f .0
-          go false f = f .0
 
       -- and that is all
       pub all-stored : ib ≡ indexBytes (widthFor n) (m .size) (indexLeft m n area s records) → (y : List ℕ)
           → y ≡ splice (ib ++ drop (m .size) x) ((s .site .number + 1) * m .size)
-          (form (m .size) (stretch 0 (s .parts .first) (editedRecords m (ib ++ drop (m .size) x) (s .site) new)))
+          (form (m .size) (take (s .parts .first) (editedRecords m (ib ++ drop (m .size) x) (s .site) new)))
           → y ≡ partsLeft m n area s records
       all-stored made y e =
-          e ∙ ap (λ (rs : List (List ℕ)). splice middle ((s .site .number + 1) * m .size) (form (m .size) (stretch 0 (s .parts .first) rs))) (records-kept m area middle (s .site) new same)
-          ∙ ap (λ (rs : List (List ℕ)). splice middle ((s .site .number + 1) * m .size) (form (m .size) rs)) (stretch-front (s .parts .first) records)
+          e ∙ ap (λ (rs : List (List ℕ)). splice middle ((s .site .number + 1) * m .size) (form (m .size) (take (s .parts .first) rs))) (records-kept m area middle (s .site) new same)
           ∙ ap (λ (b : List ℕ). splice b ((s .site .number + 1) * m .size) (form (m .size) (take (s .parts .first) records)))
           (at-front ∙ ap (splice x 0) made ∙ ap (λ (b : List ℕ). splice b 0 (indexBytes (widthFor n) (m .size) (indexLeft m n area s records))) taken)

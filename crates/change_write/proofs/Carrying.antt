@@ -3,15 +3,15 @@ use Prim.Native.Nat.{ℕ, zero, suc, _+_, _-_, _*_, _≤_, _<_}
 use mathlib.Core.Path.{_≡_, refl, _∙_, sym, ap}
 use mathlib.Core.Bool.{Bool, true, false}
 use mathlib.Core.List.{List, [], _∷_, _++_}
-use mathlib.Core.Logic.{inl}
 use lib.ListN.{length, getD, take, drop, length-drop}
-use lib.Seq.{length-take-le, take-all}
+use lib.Seq.{length-take-le, take-length, take-all}
 use native.Mathlib.Omega.{arith}
 use borrow.Author.Tests.{eqb-true, eqb-false, eq-eqb}
 use Rattle.fields.specs.Bytes.{splice}
 use Rattle.measures.specs.Judgement.{widthFor}
 use Rattle.measures.specs.declared.Measures.{Measures}
 use Rattle.measures.proofs.Fine.{fits-small}
+use Rattle.room.specs.Room.{need}
 use Rattle.interval.specs.Layout.{form}
 use Rattle.sections.specs.Form.{indexSize, indexBytes}
 use Rattle.index.specs.Divided.{cuts}
@@ -44,14 +44,10 @@ use Rattle.change_plan.specs.declared.Spread.{Spread}
 use Rattle.change_plan.proofs.Dividing.{divided-many, cuts-are, index-new, width-is, size-is}
 use Rattle.change_plan.proofs.Planning.{taken-one, taken-two}
 use Rattle.change_plan.proofs.Telling.{twoAt, threeAt, many-told, told-seen, parts-stay, parts-two, parts-three, two-inside, three-inside, stays-fits, two-fits, three-fits}
-use Rattle.change_write.specs.AidStored.{Storable, AllFit, Takes, takenLeft, indexLeft, Parted, partsLeft}
+use Rattle.change_write.specs.AidStored.{AllFit, Takes, takenLeft, indexLeft, Parted, partsLeft}
 use Rattle.change_write.specs.AidCarried.{Carries, Applied, Apart, numbersFor, writtenFor}
 use Rattle.change_write.specs.declared.Made.the-variants.{Done}
 use Rattle.change_write.proofs.Naming.{free-other, free-below, free-apart}
-
--- A stretch to the end is what follows its first element.
-pub to-end : {A : Type 0} (first k : ℕ) (xs : List A) → length xs ≡ k → stretch first k xs ≡ drop first xs
-to-end first k xs h = take-all (k - first) (drop first xs) (omega (arith, length-drop first xs, h))
 
 -- What is ready was planned, as stores.
 pub record IsReady (q : Plan) (x s : Spread) : Type 0 where
@@ -141,16 +137,8 @@ module _ (m : Measures) (n : ℕ) (area new lens : List ℕ) (s : Spread) (t : T
       go (Two k) q = absurd (omega (arith, h, ap (λ (x : Parts). x .many) (two-are k q)))
       go Three q = absurd (omega (arith, h, ap (λ (x : Parts). x .many) (three-are q)))
 
-  pub one-storable : s .parts .many ≡ 1 → Storable (m .size) (length area) (site .number) lens (record { place = site .number + 1; first = 0; last = length lens })
-  one-storable h =
-      record {
-        order = omega arith;
-        inside = omega arith;
-        fits = rw (to-end 0 (length lens) lens refl) (stays-fits m n area site new lens t (stays h));
-        small = fits-small (t .edits .entered .fits);
-        there = data-ends m n area (t .edits .entered .fits) (site .number) (t .edits .entered .within);
-        apart = inl (refl, refl);
-      }
+  pub one-fits : s .parts .many ≡ 1 → (length lens ≤ length lens) × (need (take (length lens) lens) ≤ m .size)
+  one-fits h = (omega arith, rw take-length (stays-fits m n area site new lens t (stays h)))
 
   pub one-apart : s .parts .many ≡ 1 → Apart s
   one-apart h =
@@ -168,14 +156,14 @@ module _ (m : Measures) (n : ℕ) (area new lens : List ℕ) (s : Spread) (t : T
   same : (d : Content) → readArea m n area ≡ whole d → d ≡ c
   same d v = same-content m n area d c v w
 
-  pub one-applied : s .parts .many ≡ 1 → (after : List ℕ) → after ≡ splice area ((site .number + 1) * m .size) (form (m .size) (stretch 0 (length lens) rs))
+  pub one-applied : s .parts .many ≡ 1 → (after : List ℕ) → after ≡ splice area ((site .number + 1) * m .size) (form (m .size) (take (length lens) rs))
       → (written : Written) → written ≡ writtenFor s → Applied m n area e written after
   unfolding stored
   one-applied h after a written b d v =
       let q : divided m (c .filled) e ≡ rs ∷ [] = parts-stay m n area site new lens t (stays h) in
       let x : planOf m c e ≡ stores (storesOf m c e (rs ∷ [])) =
       ready .stores-are ∙ ap stores (planned m c e (ready .ss) (ready .stores-are) .1) ∙ ap (λ (ps : List (List (List ℕ))). stores (storesOf m c e ps)) q in
-      let l : stretch 0 (length lens) rs ≡ rs = to-end 0 (length lens) rs (sym (many-told m n area site new lens t)) in
+      let l : take (length lens) rs ≡ rs = take-all (length lens) rs (omega (arith, many-told m n area site new lens t)) in
       rw (same d v, x) (record { answers = ap Done (b ∙ ap (λ (ks : List ℕ). carrying (inOrder ks)) (numbers-one s _ h (t .edits .entered .is))); leaves = rw (← t .edits .entered .is) (a ∙ rw l) })
 
   -- ---- several parts

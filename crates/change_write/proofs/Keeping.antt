@@ -4,7 +4,6 @@ use Prim.Native.Nat.{ℕ, _+_, _-_, _*_, _≤_, _<_}
 use mathlib.Core.Path.{_≡_, refl, _∙_, ap}
 use mathlib.Core.Bool.{Bool, true, false}
 use mathlib.Core.List.{List}
-use mathlib.Core.Logic.{inr}
 use lib.ListN.{length, take, drop, length-drop}
 use lib.Seq.{take-all}
 use lib.Dec.{ltb}
@@ -126,7 +125,7 @@ module _ (m : Measures) (area new lens : List ℕ) (s : Spread) (t : Takes m are
           fits = fits;
           small = t .small;
           there = t .a-there;
-          apart = inr (λ (h : s .a + 1 ≡ s .site .number + 1). t .a-other (omega (arith, h)));
+          apart = λ (h : s .a + 1 ≡ s .site .number + 1). t .a-other (omega (arith, h));
         }
 
     module _ (x : List ℕ) (stored : x ≡ splice area ((s .a + 1) * m .size) (form (m .size) (stretch (s .parts .first) last rs))) where
@@ -158,7 +157,7 @@ module _ (m : Measures) (area new lens : List ℕ) (s : Spread) (t : Takes m are
               fits = fit-last (threeOf (s .parts)) z (t .fit);
               small = t .small;
               there = rw long (t .b-there z);
-              apart = inr (λ (h : s .b + 1 ≡ s .site .number + 1). t .b-other z (omega (arith, h)));
+              apart = λ (h : s .b + 1 ≡ s .site .number + 1). t .b-other z (omega (arith, h));
             }
 
         -- and that is all

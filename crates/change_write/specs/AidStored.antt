@@ -1,4 +1,4 @@
--- Aids: what laying and storing records within an area ask of their callers.
+-- Aids: what laying and storing records within an area, or within one interval of it, ask of their callers.
 use Prim.Native.Nat.{ℕ, _+_, _-_, _*_, _≤_, _<_}
 use mathlib.Core.Path.{_≡_}
 use mathlib.Core.Bool.{true}
@@ -7,12 +7,12 @@ use mathlib.Core.Logic.{_⊎_}
 use lib.ListN.{length, take, drop}
 use Rattle.fields.specs.Choice.{pick}
 use Rattle.fields.specs.Bytes.{part, splice}
-use Rattle.fields.specs.Lists.{swap}
+use Rattle.fields.specs.Lists.{sum, swap}
 use Rattle.measures.specs.Judgement.{widthFor}
 use Rattle.measures.specs.declared.Measures.{Measures}
 use Rattle.room.specs.Room.{need}
 use Rattle.interval.specs.Layout.{form}
-use Rattle.interval.specs.Reading.{Readable}
+use Rattle.interval.specs.Reading.{cut, Readable}
 use Rattle.index.specs.Meaning.{Meaning}
 use Rattle.sections.specs.Form.{indexSize, indexBytes}
 use Rattle.index.specs.Divided.{cuts}
@@ -40,18 +40,36 @@ pub record Layable (long at base : ℕ) (site : Site) (new : ℕ) (s : Span) : T
   pub new-small : new ≤ 32768
   pub small : long < 4294967296
 
--- the area with these bytes of the edited records laid there
+-- the buffer with these bytes of the edited records laid there
 abbrev pub laidAt : List ℕ → ℕ → ℕ → Site → List ℕ → Span → List ℕ
-laidAt area at base site new s = splice area at (part (swap (site .start) (site .span) new (drop base area)) (s .from) (s .to - s .from))
+laidAt b at base site new s =
+    splice b at (part (swap (site .start) (site .span) new (drop base b)) (s .from) (s .to - s .from))
 
--- Some of the records of these lengths can be stored: they fit an interval of the area, which is another than number `own`, or they are the first and it is that.
+-- An interval can be written anew with records of these lengths: they fit it, and the bytes that they take, with the
+-- edit made, can be laid from its first byte on.
+pub record Rewritable (long : ℕ) (site : Site) (new : ℕ) (lens : List ℕ) : Type 0 where
+  pub lays : Layable long 0 0 site new record { from = 0; to = sum lens }
+  pub fits : need lens ≤ long
+  pub small : long ≤ 32768
+  pub few : length lens ≤ 32768
+
+-- the writer's form of what these lengths cut out of the interval's bytes with the edit made
+abbrev pub rewritten : List ℕ → Site → List ℕ → List ℕ → List ℕ
+rewritten ci site new lens = form (length ci) (cut (take (sum lens) (swap (site .start) (site .span) new ci)) lens)
+
+-- the area with the first of the edited records stored in their own interval
+abbrev pub ownStored : Measures → List ℕ → Site → List ℕ → ℕ → List ℕ
+ownStored m area site new last =
+    splice area ((site .number + 1) * m .size) (form (m .size) (take last (editedRecords m area site new)))
+
+-- Some of the records of these lengths can be stored: they fit an interval of the area, which is not number `own`.
 pub record Storable (size long own : ℕ) (lens : List ℕ) (s : Stretch) : Type 0 where
   pub order : s .first ≤ s .last
   pub inside : s .last ≤ length lens
   pub fits : need (stretch (s .first) (s .last) lens) ≤ size
   pub small : size ≤ 32768
   pub there : s .place * size + size ≤ long
-  pub apart : ((s .place ≡ own + 1) × (s .first ≡ 0)) ⊎ (s .place ≡ own + 1 → ⊥)
+  pub apart : s .place ≡ own + 1 → ⊥
 
 -- the area with these of the edited records stored there
 abbrev pub storedAt : Measures → List ℕ → Site → List ℕ → Stretch → List ℕ

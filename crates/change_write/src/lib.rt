@@ -3,7 +3,8 @@
 ghost use Prim.Native.Nat.{_+_, _≤_, _<_};
 ghost use mathlib.Core.Path.{_≡_};
 ghost use mathlib.Core.List.{[]};
-ghost use lib.ListN.{length};
+ghost use lib.ListN.{length, take};
+ghost use Rattle.room.specs.Room.{need};
 ghost use Rattle.interval.specs.Reading.{recordsIn};
 ghost use Rattle.interval_edit.specs.AidChanged.{freshIn};
 ghost use Rattle.area.specs.Content.{dataIn};
@@ -11,7 +12,8 @@ ghost use Rattle.change.specs.Written.{among, carrying};
 ghost use Rattle.change_plan.specs.AidEdited.{editAt, Edits, editedRecords, Told, Seen};
 ghost use Rattle.change_plan.specs.AidPlanned.{PlannedAs};
 ghost use Rattle.change_plan.specs.declared.Planned.the-variants.{Ready};
-ghost use Rattle.change_write.specs.AidStored.{Layable, laidAt, Storable, storedAt, Countable, Takes, takenLeft, Parted, partsLeft};
+ghost use Rattle.change_write.specs.AidStored.{Layable, laidAt, Rewritable, rewritten, Storable, storedAt};
+ghost use Rattle.change_write.specs.AidStored.{ownStored, Countable, Takes, takenLeft, Parted, partsLeft};
 ghost use Rattle.change_write.specs.AidCarried.{Apart, writtenFor, Applied, MadeEdit};
 use change::Written;
 use change_plan::Planned;
@@ -39,11 +41,12 @@ pub(crate) struct Stretch {
     pub(crate) last: usize,
 }
 
-// Lays bytes of the edited records from place `at` on. What lies behind the new record goes first, so that nothing is overwritten that is still
-// to be read where the place is the interval's own.
-pub(crate) fn lay(area: &mut [u8], at: usize, base: usize, site: Site, new: &[u8], span: Span)
-    requires { ⌜ Layable (length (now area)) at base site (length (now new)) span ⌝ }
-    ensures { λ _. ⌜ now (area .exit) ≡ laidAt (now (area .entry)) at base site (now (new .entry)) span ⌝ }
+// Lays bytes of the edited records from place `at` on, in the buffer that they are read in: the area, or their own
+// interval. What lies behind the new record goes first, so that nothing is overwritten that is still to be read where
+// the place is the interval's own.
+pub(crate) fn lay(b: &mut [u8], at: usize, base: usize, site: Site, new: &[u8], span: Span)
+    requires { ⌜ Layable (length (now b)) at base site (length (now new)) span ⌝ }
+    ensures { λ _. ⌜ now (b .exit) ≡ laidAt (now (b .entry)) at base site (now (new .entry)) span ⌝ }
 {
     let from = span.from;
     let to = span.to;
@@ -51,19 +54,50 @@ pub(crate) fn lay(area: &mut [u8], at: usize, base: usize, site: Site, new: &[u8
     let end = start + new.len();
     let behind = base + start + site.span;
     if to <= start {
-        fields::carry(area, at, base + from, to - from);
+        fields::carry(b, at, base + from, to - from);
         return;
     }
     if end <= from {
-        fields::carry(area, at, behind + (from - end), to - from);
+        fields::carry(b, at, behind + (from - end), to - from);
         return;
     }
-    fields::carry(area, at + (end - from), behind, to - end);
-    fields::copy(area, at + (start - from), new);
-    fields::carry(area, at, base + from, start - from);
+    fields::carry(b, at + (end - from), behind, to - end);
+    fields::copy(b, at + (start - from), new);
+    fields::carry(b, at, base + from, start - from);
 }
 
-// Stores some of the edited records in an interval: in one that is not theirs, or the first of them in their own.
+// Writes an interval anew: the first of its records with the edit made, as many as there are lengths, in the writer's
+// form.
+pub(crate) fn rewrite(ci: &mut [u8], site: Site, new: &[u8], lens: &[u16])
+    requires { ⌜ Rewritable (length (now ci)) site (length (now new)) (now lens) ⌝ }
+    ensures { λ _. ⌜ now (ci .exit) ≡ rewritten (now (ci .entry)) site (now (new .entry)) (now (lens .entry)) ⌝ }
+{
+    let len = room::bytes_to(lens, lens.len());
+    let span = Span { from: 0, to: len };
+    lay(ci, 0, 0, site, new, span);
+    interval_write::close(ci, len, lens);
+}
+
+// Stores the first of the edited records in their own interval, which is handed as a part of the area.
+pub(crate) fn store_own(
+    area: &mut [u8],
+    m: Measures,
+    site: Site,
+    new: &[u8],
+    lens: &[u16],
+    last: usize,
+)
+    requires seen { ⌜ Seen m (now area) site (now new) (now lens) ⌝ }
+    requires fits { ⌜ (last ≤ length (now lens)) × (need (take last (now lens)) ≤ m .size) ⌝ }
+    ensures { λ _. ⌜ now (area .exit) ≡ ownStored m (now (area .entry)) site (now (new .entry)) last ⌝ }
+{
+    let at = (site.number + 1) * m.size;
+    let e = at + m.size;
+    rewrite(&mut area[at..e], site, new, &lens[..last]);
+}
+
+// Stores some of the edited records in an interval that is not theirs. They are laid over the whole area, since they
+// are read in another interval of it.
 pub(crate) fn store(area: &mut [u8], m: Measures, site: Site, new: &[u8], lens: &[u16], s: Stretch)
     requires { ⌜ Seen m (now area) site (now new) (now lens) × Storable (m .size) (length (now area)) (site .number) (now lens) s ⌝ }
     ensures { λ _. ⌜ now (area .exit) ≡ storedAt m (now (area .entry)) site (now (new .entry)) s ⌝ }
@@ -141,12 +175,7 @@ pub(crate) fn apply_divided(
     let cuts = change_plan::cuts_out(area, m, site, new, lens, parts, &mut keys[..two]);
     store_taken(area, m, new, lens, spread);
     index_write::divide(&mut area[..size], n, site.entry, &keys[..two], cuts);
-    let first = Stretch {
-        place: site.number + 1,
-        first: 0,
-        last: parts.first,
-    };
-    store(area, m, site, new, lens, first);
+    store_own(area, m, site, new, lens, parts.first);
 }
 
 // Two intervals and the index record were written.
@@ -222,13 +251,7 @@ pub fn apply(
 {
     let parts = spread.parts;
     if parts.many == 1 {
-        let site = spread.site;
-        let all = Stretch {
-            place: site.number + 1,
-            first: 0,
-            last: lens.len(),
-        };
-        store(area, m, site, new, lens, all);
+        store_own(area, m, spread.site, new, lens, lens.len());
         return written_by(spread);
     }
     apply_divided(area, m, n, new, lens, spread);

@@ -8,7 +8,7 @@ use lib.Seq.{length-take-le, take-at}
 use native.Mathlib.Omega.{arith}
 use denote.Ref.{now}
 use Rattle.area.proofs.Places.{index-ends}
-use Rattle.change_write.proofs.Applying.{index-long, divide-asks, index-made, first-seen, first-storable, all-stored}
+use Rattle.change_write.proofs.Applying.{index-long, divide-asks, index-made, first-seen, first-fits, all-stored}
 use borrow.Author.Needs.{needs}
 use Rattle.change_write.proofs.apply_divided.Statement.{statement}
 use Rattle.change_write.proofs.apply_divided.Tie as tie
@@ -26,8 +26,8 @@ cut-of k = k .before .before .before
 abbrev left-of : tie.After-divide-arg → tie.After-store-taken
 left-of k = k .before .before .before
 
-abbrev divided-of : tie.After-store-arg → tie.After-divide
-divided-of k = k .before .before .before .before
+abbrev divided-of : tie.After-store-own-arg → tie.After-divide
+divided-of k = k .before .before .before
 
 -- the keys, at the front of their buffer
 abbrev told : tie.After-cuts-out → List ℕ
@@ -105,18 +105,14 @@ divide-requires c κs =
     divide-asks (a .m) (a .n) (now (a .area)) (now (a .new)) (now (a .lens)) (a .spread) (s .pre) (later t) (t .store-taken .ensures) (k .cuts-out .result)
     (take (two s) (told k ++ behind s)) (k .cuts-out .ensures .0) (front k ∙ k .cuts-out .ensures .1)
 
-add-t25 : tie.Need-add-t25
-add-t25 c =
-    let s = begun (cut-of (left-of (c .before .before .before .before .before))) in omega (arith, s .pre .entered .within, s .pre .entered .fits .few)
-
-store-requires : tie.Need-store-requires
-store-requires c κs =
+store-own-requires : tie.Need-store-own-requires
+store-own-requires c κs =
     let d = divided-of c in
     let t = left-of (d .before .before) in
     let s = begun (cut-of t) in
     let a = s .args in (
       first-seen (a .m) (a .n) (now (a .area)) (now (a .new)) (now (a .lens)) (a .spread) (s .pre) (later t) (t .store-taken .ensures) (d .divide .last .0) (record-long d),
-      first-storable (a .m) (a .n) (now (a .area)) (now (a .new)) (now (a .lens)) (a .spread) (s .pre) (later t) (t .store-taken .ensures) (d .divide .last .0) (record-long d),
+      first-fits (a .m) (a .n) (now (a .area)) (now (a .new)) (now (a .lens)) (a .spread) (s .pre),
     )
 
 same-length : tie.Need-same-length
@@ -132,7 +128,7 @@ returns c =
     let a = s .args in
     all-stored (a .m) (a .n) (now (a .area)) (now (a .new)) (now (a .lens)) (a .spread) (s .pre) (later t) (t .store-taken .ensures) (d .divide .last .0) (record-long d)
     (index-made (a .m) (a .n) (now (a .area)) (now (a .new)) (now (a .lens)) (a .spread) (s .pre) (later t) (t .store-taken .ensures) (k .cuts-out .result)
-    (take (two s) (told k ++ behind s)) (k .cuts-out .ensures .0) (front k ∙ k .cuts-out .ensures .1) (d .divide .last .0) (d .divide .ensures)) (v .store .last .0) (v .store .ensures)
+    (take (two s) (told k ++ behind s)) (k .cuts-out .ensures .0) (front k ∙ k .cuts-out .ensures .1) (d .divide .last .0) (d .divide .ensures)) (v .store-own .last .0) (v .store-own .ensures)
 
 pub apply-divided-spec : {M : Type 1} → statement M
 apply-divided-spec =
@@ -148,7 +144,6 @@ apply-divided-spec =
     array-share-prefix-keys
     slice-aggregate-divide-2
     divide-requires
-    add-t25
-    store-requires
+    store-own-requires
     same-length
     returns)

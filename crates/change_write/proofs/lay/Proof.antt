@@ -34,7 +34,7 @@ holds : (k : tie.Else2) → (start-of k .args .span .from ≤ start-of k .args .
 holds k =
     let s = start-of k in
     let a = s .args in
-    around (now (a .area)) (now (a .new)) (a .at) (a .base) (a .site) (a .span) (s .pre) (omega (arith, k .before .if1 .left)) (omega (arith, k .if2 .left))
+    around (now (a .b)) (now (a .new)) (a .at) (a .base) (a .site) (a .span) (s .pre) (omega (arith, k .before .if1 .left)) (omega (arith, k .if2 .left))
 
 add-end : tie.Need-add-end
 add-end c = search needs
@@ -62,7 +62,7 @@ returns c =
     let k = c .before .before in
     let s = first-start k in
     let a = s .args in
-    laid-before (now (a .area)) (now (a .new)) (a .at) (a .base) (a .site) (a .span) (s .pre) (k .carry .last .0) (omega arith) (k .carry .ensures)
+    laid-before (now (a .b)) (now (a .new)) (a .at) (a .base) (a .site) (a .span) (s .pre) (k .carry .last .0) (omega arith) (k .carry .ensures)
 
 add-carry-2 : tie.Need-add-carry-2
 add-carry-2 c = search needs
@@ -81,7 +81,7 @@ returns-2 c =
     let k = c .before .before in
     let s = second-start k in
     let a = s .args in
-    laid-behind (now (a .area)) (now (a .new)) (a .at) (a .base) (a .site) (a .span) (s .pre) (k .carry2 .last .0) (omega arith) (k .carry2 .ensures)
+    laid-behind (now (a .b)) (now (a .new)) (a .at) (a .base) (a .site) (a .span) (s .pre) (k .carry2 .last .0) (omega arith) (k .carry2 .ensures)
 
 sub-carry-3 : tie.Need-sub-carry-3
 sub-carry-3 c = search needs
@@ -135,7 +135,7 @@ returns-3 c =
     let s = start-of k in
     let a = s .args in
     let h = holds k in
-    laid-around (now (a .area)) (now (a .new)) (a .at) (a .base) (a .site) (a .span) (s .pre) (h .0) (h .1)
+    laid-around (now (a .b)) (now (a .new)) (a .at) (a .base) (a .site) (a .span) (s .pre) (h .0) (h .1)
     (p .before .before .before .carry3 .last .0) (q .before .before .before .before .copy .last .0) (q .carry4 .last .0)
     (p .before .before .before .carry3 .ensures) (q .before .before .before .before .copy .ensures) (q .carry4 .ensures)
 
