@@ -1,9 +1,10 @@
-"""The program through C: crate `exports` as a shared object, each request asked as model.asked does it, so that the two can be held side by side."""
-import ctypes
+"""The program through C: crate `exports`, each request asked as model.asked does it, so that the two can be held side by side."""
 import faulthandler
 import os
+import struct
 import subprocess
 
+import calls
 import model
 
 ROOT = os.path.dirname(os.path.dirname(os.path.abspath(__file__)))
@@ -14,14 +15,15 @@ VALUES = {"C": 2, "G": 1, "R": 1, "I": 5, "U": 5, "E": 5}   # how many C is give
 
 
 def built(path=None):
-    """The path of the shared object; without one it is made of the sources, unless the one made before is newer than all of them."""
+    """The path of the library that calls.py opens; without one it is made of the sources, unless the one made before is newer than all of them."""
     if path:
         return os.path.abspath(path)
-    path = os.path.join(ROOT, "target", "exports.so")
+    path = os.path.join(ROOT, "target", "exports.called")
     if not os.path.exists(path) or os.path.getmtime(path) < newest_source():
-        subprocess.run(["rt", "staticlib", "exports"], cwd=ROOT, check=True, stdout=subprocess.DEVNULL)
-        archive = os.path.join(ROOT, "target", "staticlib", "libexports.a")
-        subprocess.run(["cc", "-shared", "-o", path, "-Wl,--whole-archive", archive, "-Wl,--no-whole-archive"], check=True)
+        ran = subprocess.run(["rt", "staticlib", "exports"], cwd=ROOT, capture_output=True, text=True)
+        if ran.returncode:
+            raise SystemExit("rt staticlib exports: " + ran.stderr[-500:])
+        calls.made(os.path.join(ROOT, "target", "staticlib", "libexports.a"), path)
     return path
 
 
@@ -33,19 +35,34 @@ def newest_source():
 class Lent:
     """Bytes as they are lent to C: pointer and length, with other bytes on both sides that must stay."""
 
-    def __init__(self, content):
+    def __init__(self, library, content):
         self.length = len(content)
-        self.buffer = bytearray(GUARD + content + GUARD)
-        self.start = ctypes.addressof(ctypes.c_ubyte.from_buffer(self.buffer)) + len(GUARD)
+        self.memory = library.lend(self.length + 2 * len(GUARD))
+        self.memory.view[:] = GUARD + content + GUARD
 
     def words(self):
-        return [ctypes.c_void_p(self.start), ctypes.c_size_t(self.length)]
+        return [self.memory.address + len(GUARD), self.length]
 
     def content(self):
-        return bytes(self.buffer[len(GUARD):len(GUARD) + self.length])
+        return bytes(self.memory.view[len(GUARD):len(GUARD) + self.length])
 
     def beside(self):
-        return bytes(self.buffer[:len(GUARD)] + self.buffer[len(GUARD) + self.length:])
+        return bytes(self.memory.view[:len(GUARD)]) + bytes(self.memory.view[len(GUARD) + self.length:])
+
+
+class Numbers:
+    """Numbers that C stores to, each by an address of its own."""
+
+    def __init__(self, library, numbers):
+        self.count = len(numbers)
+        self.memory = library.lend(8 * self.count)
+        self.memory.view[:] = struct.pack("<%dQ" % self.count, *numbers)
+
+    def words(self):
+        return [self.memory.address + 8 * i for i in range(self.count)]
+
+    def now(self):
+        return struct.unpack("<%dQ" % self.count, self.memory.view)
 
 
 class Told(model.NamedTuple):
@@ -62,24 +79,21 @@ class Program:
     FUNCTIONS = {"C": "check", "G": "get", "R": "get_at", "I": "insert", "U": "update", "E": "erase"}
 
     def __init__(self, path):
-        library = self.library = ctypes.CDLL(path)
-        self.functions = {letter: getattr(library, "belquita_" + name) for letter, name in self.FUNCTIONS.items()}
-        for function in self.functions.values():
-            function.restype = ctypes.c_size_t
+        self.library = calls.opened(path)
 
     def asked(self, letter, area, m, content=b"", address=0, out=b""):
-        lent, given, output = Lent(area), Lent(content), Lent(out)
-        values = [ctypes.c_size_t(UNSTORED) for _ in range(VALUES[letter])]
-        words = lent.words() + [ctypes.c_size_t(each) for each in m]
+        lent, given, output = (Lent(self.library, each) for each in (area, content, out))
+        values = Numbers(self.library, [UNSTORED] * VALUES[letter])
+        words = lent.words() + list(m)
         if letter == "R":
-            words.append(ctypes.c_uint64(address))
+            words.append(address)
         elif letter != "C":
             words += given.words()
         if letter in "GR":
             words += output.words()
-        number = self.functions[letter](*words, *(ctypes.byref(value) for value in values))
+        number = self.library.call("belquita_" + self.FUNCTIONS[letter], words + values.words())
         beside = lent.beside() + output.beside() + given.beside()
-        return Told(number, tuple(value.value for value in values), lent.content(), output.content(), given.content(), beside)
+        return Told(number, values.now(), lent.content(), output.content(), given.content(), beside)
 
 
 def expected(letter, area, m, content=b"", address=0, out=b""):

@@ -2,7 +2,6 @@
 
 `Walking` does the comparing: it counts into a program.Comparing, and what differs goes to its list.
 """
-import ctypes
 import random
 import struct
 
@@ -19,19 +18,16 @@ class Walker:
     """The four functions of `exports` that walk."""
 
     def __init__(self, library):
-        self.functions = {name: getattr(library, "belquita_" + name) for name in ("walk", "walk_from", "walk_end", "walk_next")}
-        for function in self.functions.values():
-            function.restype = ctypes.c_size_t
+        self.library = library
 
     def begun(self, lent, m, forward, given=None):
         """The place that a walk begins with, or the answer that refuses it."""
-        words = lent.words() + [ctypes.c_size_t(each) for each in m] + [ctypes.c_bool(forward)]
-        content = program.Lent(b"" if given is None else given)
-        numbers = [ctypes.c_size_t(program.UNSTORED) for _ in Place._fields]
-        told = self.functions["walk_end" if given is None else "walk_from"](
-            *words, *([] if given is None else content.words()), *(ctypes.byref(number) for number in numbers))
+        content = program.Lent(self.library, b"" if given is None else given)
+        numbers = program.Numbers(self.library, [program.UNSTORED] * len(Place._fields))
+        words = lent.words() + list(m) + [int(forward)] + ([] if given is None else content.words()) + numbers.words()
+        told = self.library.call("belquita_walk_end" if given is None else "belquita_walk_from", words)
         assert content.content() == (given or b"") and content.beside() == 2 * program.GUARD
-        place = Place(*(number.value for number in numbers))
+        place = Place(*numbers.now())
         if told == 0:
             return place
         assert place[1:] == (0,) * 6
@@ -39,13 +35,13 @@ class Walker:
 
     def next(self, lent, size, forward, place):
         """The next place, and the length of the record there."""
-        numbers = [ctypes.c_size_t(each) for each in place]
-        long = self.functions["walk_next"](*lent.words(), ctypes.c_size_t(size), ctypes.c_bool(forward), *(ctypes.byref(number) for number in numbers))
-        return Place(*(number.value for number in numbers)), long
+        numbers = program.Numbers(self.library, place)
+        long = self.library.call("belquita_walk_next", lent.words() + [size, int(forward)] + numbers.words())
+        return Place(*numbers.now()), long
 
     def added(self, lent, m, forward):
         """The lengths of all records of a walk from an end, added up; 0 where it is refused."""
-        return self.functions["walk"](*lent.words(), *(ctypes.c_size_t(each) for each in m), ctypes.c_bool(forward))
+        return self.library.call("belquita_walk", lent.words() + list(m) + [int(forward)])
 
 
 class Walking:
@@ -62,7 +58,7 @@ class Walking:
 
     def walk(self, area, m, forward, given=None, most=None):
         """A walk, or its first so many records, step by step; then, if it was whole, the end, twice. Gives what the model says."""
-        should, lent = model.walk(area, m, forward, given), program.Lent(area)
+        should, lent = model.walk(area, m, forward, given), program.Lent(self.walker.library, area)
         found = self.walker.begun(lent, m, forward, given)
         number = should.number if isinstance(should, model.Answer) else 0
         self.comparing.numbers[number] = self.comparing.numbers.get(number, 0) + 1
@@ -94,7 +90,7 @@ class Walking:
 
     def steps(self, area, size, forward, place, count):
         """Steps from any place on any bytes."""
-        lent, should, found, at = program.Lent(area), [], [], place
+        lent, should, found, at = program.Lent(self.walker.library, area), [], [], place
         for _ in range(count):
             at = steps.next_place(area, size, forward, at)
             should.append((at, len(steps.record_at(area, at))))
@@ -105,7 +101,7 @@ class Walking:
 
     def line(self, letter, area, m, content, out):
         """What trial prints for a walk or for steps, by what C tells; the record of a step's first place is not asked for."""
-        lent = program.Lent(area)
+        lent = program.Lent(self.walker.library, area)
         if letter in "NP":
             place = Place(*struct.unpack(">7Q", content))
             places = [(place, len(steps.record_at(area, place)))]
