@@ -33,8 +33,8 @@ pub struct Spot {
     pub own: usize,
 }
 
-// Which interval numbers were met, how many of them as free and by entries, whether all that was met kept the rules, and where the key leads that was sought. The
-// struct goes through the walk, whose loops have its marks lent.
+// Which interval numbers were met, whether all that was met kept the rules, and where the key leads that was sought. `free` and `used`, how many numbers are free and how
+// many entries there are, come from the header before the walk. The struct goes through the walk, whose loops have its marks lent.
 pub(crate) struct Marks {
     pub seen: [u8; LIMIT],
     pub used: usize,
