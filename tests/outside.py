@@ -1,10 +1,10 @@
 #!/usr/bin/env python3
-"""tests/outside.py [SHARED_OBJECT]: the program, through C, against the model, on areas that the crates' own programs do not reach.
+"""tests/outside.py [LIBRARY]: the program, through C, against the model, on areas that the crates' own programs do not reach.
 
 The script of the program `trial`; all 28 interval sizes; 200 intervals of 2,048, 256 of 32,768 and 1,000 of 4,096; 4,096 of 10,240 and of 32,768; on each a
 sequence of requests, damaged copies, gets by key with damage in the key's interval and elsewhere, hostile measures; at each size one field after another with
 other values; each link of the sections' chain with every value that a record has; keys at both ends of each entry's range; areas filled until 6 or 7. Answers,
-values, outputs and every byte of what is lent are compared. They are the same cases each time: the chance in them has fixed seeds. Without a shared object it is
+values, outputs and every byte of what is lent are compared. They are the same cases each time: the chance in them has fixed seeds. Without a library it is
 made first. The last line is `N compared, M different`; the status is 0 only where M is 0.
 """
 import os
