@@ -12,7 +12,7 @@ use borrow.Author.Tests.{eqb-true, eqb-false, ltb-true}
 use Rattle.fields.specs.Bytes.{Octets}
 use Rattle.fields.specs.Lists.{every}
 use Rattle.fields.proofs.Choices.{both-split, false-true}
-use Rattle.measures.specs.Judgement.{judgedOf, measures, countOf, widthFor}
+use Rattle.measures.specs.Judgement.{judgedOf, countOf, widthFor}
 use Rattle.measures.specs.declared.Measures.{Measures}
 use Rattle.measures.specs.declared.Judged.the-variants.{Fine}
 use Rattle.measures.proofs.Fine.{accepted, fits-small}
@@ -51,54 +51,51 @@ use Rattle.promises.proofs.ExactReads.{get-exact}
 
 -- Whatever two areas hold elsewhere, sound or not: where they are equally long, have the same index record, and the same bytes in the interval that it leads
 -- the key to, a get by that key answers the same of both and leaves the same output.
-pub get-local : (size offset key most : ℕ) (area area' wanted : List ℕ) → SameFor size offset key most area area' wanted
-    → (lent : List ℕ) (a b : Answer) (after after' out out' : List ℕ) → Allowed size offset key most area (get wanted lent) a after out
-    → Allowed size offset key most area' (get wanted lent) b after' out' → (a ≡ b) × (out ≡ out')
-get-local size offset key most area area' wanted s lent a b after after' out out' k l =
-    let e : getOf size offset key most area' wanted lent ≡ getOf size offset key most area wanted lent =
-    get-of-elsewhere size offset key most area area' wanted lent (s .long) (s .index) (s .there) in
+pub get-local : (m : Measures) (area area' wanted : List ℕ) → SameFor m area area' wanted
+    → (lent : List ℕ) (a b : Answer) (after after' out out' : List ℕ) → Allowed m area (get wanted lent) a after out
+    → Allowed m area' (get wanted lent) b after' out' → (a ≡ b) × (out ≡ out')
+get-local m area area' wanted s lent a b after after' out out' k l =
+    let e : getOf m area' wanted lent ≡ getOf m area wanted lent =
+    get-of-elsewhere m area area' wanted lent (s .long) (s .index) (s .there) in
     (k .1 .answers ∙ ap (λ (g : Given). g .answer) (sym e) ∙ sym (l .1 .answers), k .1 .outputs ∙ ap (λ (g : Given). g .output) (sym e) ∙ sym (l .1 .outputs))
 
-module _ (size offset key most : ℕ) (area : List ℕ) where
-  abbrev m : Measures
-  m = measures size offset key most
-
+module _ (m : Measures) (area : List ℕ) where
   abbrev n : ℕ
-  n = countOf size (length area)
+  n = countOf (m .size) (length area)
 
   -- ---- on a sound area
 
-  module _ (c : Content) (s : Sound size offset key most m n area c) (wanted : List ℕ) (l : length wanted ≡ key) where
+  module _ (c : Content) (s : Sound m n area c) (wanted : List ℕ) (l : length wanted ≡ m .key) where
     abbrev all : List (List ℕ)
     all = recordsOf (c .filled)
 
     -- a record has the key in the key's interval exactly where it has it in the whole list
-    same-with : withKey m wanted (recordsOf (c .filled)) ≡ withKey m wanted (recordsThere size offset key most area wanted)
-    same-with = there-is-all m n area c (s .reads) wanted (judged-key size offset key most area m n c (s .judges) (s .reads)) (s .octets) l
+    same-with : withKey m wanted (recordsOf (c .filled)) ≡ withKey m wanted (recordsThere m area wanted)
+    same-with = there-is-all m n area c (s .reads) wanted (judged-key m area n (s .judges)) (s .octets) l
 
-    keyed-all : (r : List ℕ) → Keyed m wanted (recordsThere size offset key most area wanted) r → Keyed m wanted (recordsOf (c .filled)) r
+    keyed-all : (r : List ℕ) → Keyed m wanted (recordsThere m area wanted) r → Keyed m wanted (recordsOf (c .filled)) r
     keyed-all r k =
-        among-keyed m wanted (recordsOf (c .filled)) r (rw same-with (keyed-among m wanted (recordsThere size offset key most area wanted) r k))
+        among-keyed m wanted (recordsOf (c .filled)) r (rw same-with (keyed-among m wanted (recordsThere m area wanted) r k))
 
-    keyed-there : (r : List ℕ) → Keyed m wanted (recordsOf (c .filled)) r → Keyed m wanted (recordsThere size offset key most area wanted) r
+    keyed-there : (r : List ℕ) → Keyed m wanted (recordsOf (c .filled)) r → Keyed m wanted (recordsThere m area wanted) r
     keyed-there r k =
-        among-keyed m wanted (recordsThere size offset key most area wanted) r (rw (← same-with) (keyed-among m wanted (recordsOf (c .filled)) r k))
+        among-keyed m wanted (recordsThere m area wanted) r (rw (← same-with) (keyed-among m wanted (recordsOf (c .filled)) r k))
 
     -- On a sound area the rows of a get by key speak of all records.
-    pub rows-whole : RowsWhole size offset key most area wanted
+    pub rows-whole : RowsWhole m area wanted
     rows-whole =
         record {
-          index = λ (d : DamagedIndex size offset key most area). false-true (sym d ∙ sound-apart m n area c (s .reads) .index);
-          there = λ (d : DamagedThere size offset key most area wanted). false-true (sym d ∙ there-sound m n area c (s .reads) wanted);
+          index = λ (d : DamagedIndex m area). false-true (sym d ∙ sound-apart m n area c (s .reads) .index);
+          there = λ (d : DamagedThere m area wanted). false-true (sym d ∙ there-sound m n area c (s .reads) wanted);
           absent = (
-            λ (x : AbsentThere size offset key most area wanted). (c, s .reads, λ (r : List ℕ) (k : Keyed m wanted all r). x r (keyed-there r k)),
-            λ (h : Absent size offset key most area wanted) (r : List ℕ) (k : Keyed m wanted (recordsThere size offset key most area wanted) r).
-                held size offset key most area (λ (d : Content). (x : List ℕ) → Keyed m wanted (recordsOf (d .filled)) x → ⊥) c (s .reads) h r (keyed-all r k),
+            λ (x : AbsentThere m area wanted). (c, s .reads, λ (r : List ℕ) (k : Keyed m wanted all r). x r (keyed-there r k)),
+            λ (h : Absent m area wanted) (r : List ℕ) (k : Keyed m wanted (recordsThere m area wanted) r).
+                held m area (λ (d : Content). (x : List ℕ) → Keyed m wanted (recordsOf (d .filled)) x → ⊥) c (s .reads) h r (keyed-all r k),
           );
           too-long = λ (out : List ℕ). (
-            λ (x : TooLongThere size offset key most area wanted out). (c, s .reads, (x .0, keyed-all (x .0) (x .1), x .2)),
-            λ (h : KeyedTooLong size offset key most area wanted out).
-                let x = held size offset key most area (λ (d : Content). (r : List ℕ) × Keyed m wanted (recordsOf (d .filled)) r × (length out < length r)) c (s .reads) h in
+            λ (x : TooLongThere m area wanted out). (c, s .reads, (x .0, keyed-all (x .0) (x .1), x .2)),
+            λ (h : KeyedTooLong m area wanted out).
+                let x = held m area (λ (d : Content). (r : List ℕ) × Keyed m wanted (recordsOf (d .filled)) r × (length out < length r)) c (s .reads) h in
                 (x .0, keyed-there (x .0) (x .1), x .2),
           );
         }
@@ -115,41 +112,40 @@ module _ (size offset key most : ℕ) (area : List ℕ) where
     some : 1 ≤ m .least
     some = omega (arith, lent .fits .key-some, lent .fits .key-inside)
 
-    small : size ≤ 32768
+    small : m .size ≤ 32768
     small = fits-small (lent .fits)
 
-    fine : judgedOf size offset key most (length area) ≡ Fine m n
-    fine = accepted size offset key most (length area) n (lent .fits)
+    fine : judgedOf m (length area) ≡ Fine m n
+    fine = accepted m (length area) n (lent .fits)
 
     -- the index record is unsound exactly where no layout explains it
-    index-unlaid : DamagedIndex size offset key most area ↔ ((ix : Meaning) → IndexInterval m n ix (indexIn m area) → ⊥)
+    index-unlaid : DamagedIndex m area ↔ ((ix : Meaning) → IndexInterval m n ix (indexIn m area) → ⊥)
     index-unlaid = (
-      λ (d : DamagedIndex size offset key most area) (ix : Meaning) (i : IndexInterval m n ix (indexIn m area)).
+      λ (d : DamagedIndex m area) (ix : Meaning) (i : IndexInterval m n ix (indexIn m area)).
           false-true (sym d ∙ index-sound m area some small n (lent .fits .few) ix i),
       λ (none : (ix : Meaning) → IndexInterval m n ix (indexIn m area) → ⊥). go none (indexSound m n area) refl,
     )
       where
-        go : ((ix : Meaning) → IndexInterval m n ix (indexIn m area) → ⊥) → (t : Bool) → indexSound m n area ≡ t → DamagedIndex size offset key most area
+        go : ((ix : Meaning) → IndexInterval m n ix (indexIn m area) → ⊥) → (t : Bool) → indexSound m n area ≡ t → DamagedIndex m area
         go none true i = absurd (none _ (index-laid m n area lent i))
         go none false i = i
 
     module _ (wanted : List ℕ) (b : Octets wanted) (out : List ℕ) where
       abbrev got : Given
-      got = getOf size offset key most area wanted out
+      got = getOf m area wanted out
 
       -- the interval that a key leads to is that of the entry to which it belongs, and is sound where a layout explains it
       home-there : (es pre : List Entry) (sep : List ℕ) (k : ℕ) (post : List Entry) → es ≡ pre ++ (entry sep k ∷ post) → length pre ≡ leadsTo wanted es
-          → (ci : List ℕ) → soundFor m es wanted ci ≡ soundUsed m (boundBefore key [] pre) (bound key sep) ci
+          → (ci : List ℕ) → soundFor m es wanted ci ≡ soundUsed m (boundBefore (m .key) [] pre) (bound (m .key) sep) ci
       unfolding soundFor
       home-there es pre sep k post e p ci = rw (before-there wanted es pre (entry sep k) post e p, entry-there wanted es pre (entry sep k) post e p)
 
-      home-of : indexSound m n area ≡ true → length wanted ≡ key → DamagedThere size offset key most area wanted
-          → DamagedHome m n area wanted (numberFor m n area wanted)
+      home-of : indexSound m n area ≡ true → length wanted ≡ m .key → DamagedThere m area wanted → DamagedHome m n area wanted (numberFor m n area wanted)
       home-of i l d =
           let es : List Entry = entriesFor m n area in
           let x = index-laid m n area lent i in
-          let r = rules-apart size key n [] [] _ (x .rules) in
-          let h = lead-base key wanted l b es (lent .fits .key-some) (r .rising) (r .closing) in
+          let r = rules-apart (m .size) (m .key) n [] [] _ (x .rules) in
+          let h = lead-base (m .key) wanted l b es (lent .fits .key-some) (r .rising) (r .closing) in
           let q : h .entry .num ≡ numberFor m n area wanted = sym (ap (λ (e : Entry). e .num) (entry-there wanted es (h .pre) (h .entry) (h .post) (h .split) (h .place))) in
           record {
             long = l;
@@ -161,15 +157,15 @@ module _ (size offset key most : ℕ) (area : List ℕ) where
             split = h .split ∙ ap (λ (j : ℕ). h .pre ++ (entry (h .entry .sep) j ∷ h .post)) q;
             after = h .beyond;
             within = h .within;
-            unsound = λ (rs : List (List ℕ)) (u : UsedInterval m (boundBefore key [] (h .pre)) (bound key (h .entry .sep)) rs (intervalFor m n area wanted)).
+            unsound = λ (rs : List (List ℕ)) (u : UsedInterval m (boundBefore (m .key) [] (h .pre)) (bound (m .key) (h .entry .sep)) rs (intervalFor m n area wanted)).
                 false-true
                 (sym d ∙ home-there es (h .pre) (h .entry .sep) (h .entry .num) (h .post) (h .split) (h .place) (intervalFor m n area wanted)
-                ∙ laid-used m (intervalFor m n area wanted) some small (boundBefore key [] (h .pre)) (bound key (h .entry .sep)) rs u);
+                ∙ laid-used m (intervalFor m n area wanted) some small (boundBefore (m .key) [] (h .pre)) (bound (m .key) (h .entry .sep)) rs u);
           }
 
       module _ (k : ℕ) (h : DamagedHome m n area wanted k) where
-        rules : Keeps size key n [] [] (h .meaning)
-        rules = rules-apart size key n [] [] (h .meaning) (h .index .rules)
+        rules : Keeps (m .size) (m .key) n [] [] (h .meaning)
+        rules = rules-apart (m .size) (m .key) n [] [] (h .meaning) (h .index .rules)
 
         entries-are : entriesFor m n area ≡ h .meaning .entries
         entries-are = ap (λ (x : Meaning). x .entries) (index-read m area some small n (lent .fits .few) (h .meaning) (h .index))
@@ -177,7 +173,7 @@ module _ (size offset key most : ℕ) (area : List ℕ) where
         place : length (h .pre) ≡ leadsTo wanted (h .meaning .entries)
         place =
             sym
-            (lead-only key wanted (h .long) b [] (h .meaning .entries) (length (h .pre)) (rules .rising)
+            (lead-only (m .key) wanted (h .long) b [] (h .meaning .entries) (length (h .pre)) (rules .rising)
             (record { pre = h .pre; entry = entry (h .sep) k; post = h .post; split = h .split; place = refl; beyond = h .after; within = h .within }))
 
         number-is : numberFor m n area wanted ≡ k
@@ -188,66 +184,65 @@ module _ (size offset key most : ℕ) (area : List ℕ) where
         below-n : k < n
         below-n = entry-below (h .pre) (h .sep) k (h .post) (rw (h .split) at (both-below n (h .meaning) (rules .naming) .1))
 
-        used-unsound : soundUsed m (boundBefore key [] (h .pre)) (bound key (h .sep)) (dataIn m area k) ≡ false
-        used-unsound = go (soundUsed m (boundBefore key [] (h .pre)) (bound key (h .sep)) (dataIn m area k)) refl
+        used-unsound : soundUsed m (boundBefore (m .key) [] (h .pre)) (bound (m .key) (h .sep)) (dataIn m area k) ≡ false
+        used-unsound = go (soundUsed m (boundBefore (m .key) [] (h .pre)) (bound (m .key) (h .sep)) (dataIn m area k)) refl
           where
-            go : (t : Bool) → soundUsed m (boundBefore key [] (h .pre)) (bound key (h .sep)) (dataIn m area k) ≡ t
-                → soundUsed m (boundBefore key [] (h .pre)) (bound key (h .sep)) (dataIn m area k) ≡ false
+            go : (t : Bool) → soundUsed m (boundBefore (m .key) [] (h .pre)) (bound (m .key) (h .sep)) (dataIn m area k) ≡ t
+                → soundUsed m (boundBefore (m .key) [] (h .pre)) (bound (m .key) (h .sep)) (dataIn m area k) ≡ false
             go true e =
                 absurd
                 (h .unsound _
-                (used-laid m (dataIn m area k) (octets-data m area k (lent .octets)) (length-data m n area (lent .fits .bytes) k below-n) (boundBefore key [] (h .pre)) (bound key (h .sep))
+                (used-laid m (dataIn m area k) (octets-data m area k (lent .octets)) (length-data m n area (lent .fits .bytes) k below-n) (boundBefore (m .key) [] (h .pre)) (bound (m .key) (h .sep))
                 e))
             go false e = e
 
-        there-of : DamagedThere size offset key most area wanted
+        there-of : DamagedThere m area wanted
         there-of =
             rw (number-is, entries-are) (home-there (h .meaning .entries) (h .pre) (h .sep) k (h .post) (h .split) place (dataIn m area k) ∙ used-unsound)
 
         home-told : got ≡ refused (Damaged (k + 1)) out
         home-told =
-            get-there-damaged size offset key most area m n fine wanted out (index-sound m area some small n (lent .fits .few) (h .meaning) (h .index)) (h .long) there-of
+            get-there-damaged m area n fine wanted out (index-sound m area some small n (lent .fits .few) (h .meaning) (h .index)) (h .long) there-of
             ∙ ap (λ (j : ℕ). refused (Damaged (j + 1)) out) number-is
 
       -- 2 is told of the index record, or of the key's interval where the index record is sound and the key's length right
-      told-two : (k : ℕ) → First (getTable size offset key most area wanted out) k → k ≡ 2
-          → DamagedIndex size offset key most area ⊎ ((indexSound m n area ≡ true) × (length wanted ≡ key) × DamagedThere size offset key most area wanted)
+      told-two : (k : ℕ) → First (getTable m area wanted out) k → k ≡ 2
+          → DamagedIndex m area ⊎ ((indexSound m n area ≡ true) × (length wanted ≡ m .key) × DamagedThere m area wanted)
       told-two k (inl x) z = absurd (omega (arith, x .1))
       told-two k (inr (o, inl x)) z = inl (x .0)
       told-two k (inr (o, inr (i, inl x))) z = absurd (omega (arith, x .1))
-      told-two k (inr (o, inr (i, inr (g, inl x)))) z = inr (sound (indexSound m n area) refl, right (eqb (length wanted) key) refl, x .0)
+      told-two k (inr (o, inr (i, inr (g, inl x)))) z = inr (sound (indexSound m n area) refl, right (eqb (length wanted) (m .key)) refl, x .0)
         where
           sound : (t : Bool) → indexSound m n area ≡ t → indexSound m n area ≡ true
           sound true e = e
           sound false e = absurd (i e)
 
-          right : (t : Bool) → eqb (length wanted) key ≡ t → length wanted ≡ key
-          right true e = eqb-true (length wanted) key e
-          right false e = absurd (g (eqb-false (length wanted) key e))
+          right : (t : Bool) → eqb (length wanted) (m .key) ≡ t → length wanted ≡ m .key
+          right true e = eqb-true (length wanted) (m .key) e
+          right false e = absurd (g (eqb-false (length wanted) (m .key) e))
       told-two k (inr (o, inr (i, inr (g, inr (d, inl x))))) z = absurd (omega (arith, x .1))
       told-two k (inr (o, inr (i, inr (g, inr (d, inr (e, inl x)))))) z = absurd (omega (arith, x .1))
       told-two k (inr (o, inr (i, inr (g, inr (d, inr (e, inr x)))))) z = absurd (omega (arith, x))
 
       -- Damage is told to a get by key where it is: place 0 exactly if no index layout fits; else the place of the interval to which the key belongs, exactly if no
       -- layout explains it in its role. Damage of any other interval is not told to it.
-      pub get-damage-placed : (a : Answer) (after put : List ℕ) → Allowed size offset key most area (get wanted out) a after put
+      pub get-damage-placed : (a : Answer) (after put : List ℕ) → Allowed m area (get wanted out) a after put
           → ((a ≡ Damaged 0) ↔ ((ix : Meaning) → IndexInterval m n ix (indexIn m area) → ⊥)) × ((k : ℕ) → (a ≡ Damaged (k + 1)) ↔ DamagedHome m n area wanted k)
       get-damage-placed a after put w = ((index-told, index-back), λ (k : ℕ). (home-here k, home-back k))
         where
           is : a ≡ got .answer
           is = w .1 .answers
 
-          exact : First (getTable size offset key most area wanted out) (numberOf a)
-          exact = get-exact size offset key most area wanted out a put (w .1)
+          exact : First (getTable m area wanted out) (numberOf a)
+          exact = get-exact m area wanted out a put (w .1)
 
-          by-index : DamagedIndex size offset key most area → a ≡ Damaged 0
-          by-index d = is ∙ ap (λ (g : Given). g .answer) (get-index-damaged size offset key most area m n fine wanted out d)
+          by-index : DamagedIndex m area → a ≡ Damaged 0
+          by-index d = is ∙ ap (λ (g : Given). g .answer) (get-index-damaged m area n fine wanted out d)
 
           by-home : (k : ℕ) → DamagedHome m n area wanted k → a ≡ Damaged (k + 1)
           by-home k h = is ∙ ap (λ (g : Given). g .answer) (home-told k h)
 
-          two-told : (p : ℕ) → a ≡ Damaged p
-              → DamagedIndex size offset key most area ⊎ ((indexSound m n area ≡ true) × (length wanted ≡ key) × DamagedThere size offset key most area wanted)
+          two-told : (p : ℕ) → a ≡ Damaged p → DamagedIndex m area ⊎ ((indexSound m n area ≡ true) × (length wanted ≡ m .key) × DamagedThere m area wanted)
           two-told p e = told-two (numberOf a) exact (ap numberOf e)
 
           same-place : (p q : ℕ) → a ≡ Damaged p → a ≡ Damaged q → p ≡ q
@@ -256,7 +251,7 @@ module _ (size offset key most : ℕ) (area : List ℕ) where
           index-told : a ≡ Damaged 0 → (ix : Meaning) → IndexInterval m n ix (indexIn m area) → ⊥
           index-told e = go (two-told 0 e)
             where
-              go : DamagedIndex size offset key most area ⊎ ((indexSound m n area ≡ true) × (length wanted ≡ key) × DamagedThere size offset key most area wanted)
+              go : DamagedIndex m area ⊎ ((indexSound m n area ≡ true) × (length wanted ≡ m .key) × DamagedThere m area wanted)
                   → (ix : Meaning) → IndexInterval m n ix (indexIn m area) → ⊥
               go (inl d) = index-unlaid .0 d
               go (inr x) = absurd (omega (arith, same-place 0 (numberFor m n area wanted + 1) e (by-home (numberFor m n area wanted) (home-of (x .0) (x .1) (x .2)))))
@@ -267,7 +262,7 @@ module _ (size offset key most : ℕ) (area : List ℕ) where
           home-here : (k : ℕ) → a ≡ Damaged (k + 1) → DamagedHome m n area wanted k
           home-here k e = go (two-told (k + 1) e)
             where
-              go : DamagedIndex size offset key most area ⊎ ((indexSound m n area ≡ true) × (length wanted ≡ key) × DamagedThere size offset key most area wanted)
+              go : DamagedIndex m area ⊎ ((indexSound m n area ≡ true) × (length wanted ≡ m .key) × DamagedThere m area wanted)
                   → DamagedHome m n area wanted k
               go (inl d) = absurd (omega (arith, same-place (k + 1) 0 e (by-index d)))
               go (inr x) =
