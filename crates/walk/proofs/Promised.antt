@@ -104,7 +104,7 @@ walk-gives m n area c w least forward given r b places records first run =
     at k = run .reads k ∙ ap (recordOf area) (run-steps area (m .size) forward places records run k)
 
 -- THE REFUSALS. From the bytes of a key 1, 2, 3, 5, from an end 1 and 2: with the number of the first condition that holds, and none where a walk begins.
-pub walk-refusals : (size offset key most : ℕ) (area : List ℕ) (forward : Bool)
-    → ((given : List ℕ) (r : Begun) → Begins area size forward (walkFromOf size offset key most area forward given) r → First (fromTable size offset key most area forward given) (numberIn r))
-    × ((r : Begun) → Begins area size forward (walkEndOf size offset key most area forward) r → First (endTable size offset key most area) (numberIn r))
-walk-refusals size offset key most area forward = (λ (given : List ℕ) (r : Begun). from-refusals size offset key most area forward given r, end-refusals size offset key most area forward)
+pub walk-refusals : (m : Measures) (area : List ℕ) (forward : Bool)
+    → ((given : List ℕ) (r : Begun) → Begins area (m .size) forward (walkFromOf m area forward given) r → First (fromTable m area forward given) (numberIn r))
+    × ((r : Begun) → Begins area (m .size) forward (walkEndOf m area forward) r → First (endTable m area) (numberIn r))
+walk-refusals m area forward = (λ (given : List ℕ) (r : Begun). from-refusals m area forward given r, end-refusals m area forward)
