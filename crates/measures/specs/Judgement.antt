@@ -30,7 +30,8 @@ asked k = measures (k .size) (k .offset) (k .key) (k .most)
 abbrev pub countOf : ℕ → ℕ → ℕ
 countOf size length = length / size - 1
 
--- size permitted; key length 1 to 255; offset + key ≤ least ≤ most ≤ size - 7; the buffer has exactly (n + 1) × size bytes, n from 1 to the limit
+-- size permitted; key length 1 to 255; offset + key ≤ least ≤ most ≤ size - 7; the buffer has exactly (n + 1) × size
+-- bytes, n from 1 to the limit
 unfoldable pub fine : Measures → ℕ → Bool
 fine m length =
     let n : ℕ = countOf (m .size) length in
@@ -39,7 +40,7 @@ fine m length =
     (both (both (leb (m .offset + m .key) (m .least)) (both (leb (m .least) (m .most)) (leb (m .most + 7) (m .size))))
     (both (eqb ((n + 1) * m .size) length) (both (leb 1 n) (leb n limit)))))
 
--- The same as a statement of the measures m, the number n of data intervals and the buffer's length, for those who cite it.
+-- The same as a statement of the measures, the number n of data intervals and the buffer's length, for those who cite it.
 pub record Fits (m : Measures) (n length : ℕ) : Type 0 where
   pub permitted : permittedSize (m .size) ≡ true
   pub key-some : 1 ≤ m .key

@@ -17,6 +17,9 @@ Refusal a = numberOf a ≡ 0 → ⊥
 pub record RefusedHarmless (m : Measures) (area : List ℕ) : Type 0 where
   pub insert : (r : List ℕ) (a : Answer) (after : List ℕ) → Makes (insertOf m area r) a after → Refusal a → after ≡ area
   pub update : (r : List ℕ) (a : Answer) (after : List ℕ) → Makes (updateOf m area r) a after → Refusal a → after ≡ area
-  pub erase : (wanted : List ℕ) (a : Answer) (after : List ℕ) → Makes (eraseOf m area wanted) a after → Refusal a → after ≡ area
-  pub get : (wanted out : List ℕ) (a : Answer) (after : List ℕ) → Gives (getOf m area wanted out) a after → Refusal a → after ≡ out
-  pub get-at : (address : ℕ) (out : List ℕ) (a : Answer) (after : List ℕ) → Gives (getAtOf m area address out) a after → Refusal a → after ≡ out
+  pub erase : (wanted : List ℕ) (a : Answer) (after : List ℕ)
+      → Makes (eraseOf m area wanted) a after → Refusal a → after ≡ area
+  pub get : (wanted out : List ℕ) (a : Answer) (after : List ℕ)
+      → Gives (getOf m area wanted out) a after → Refusal a → after ≡ out
+  pub get-at : (address : ℕ) (out : List ℕ) (a : Answer) (after : List ℕ)
+      → Gives (getAtOf m area address out) a after → Refusal a → after ≡ out

@@ -14,7 +14,8 @@ use Rattle.index.specs.Rules.{boundBefore}
 use Rattle.area.specs.Content.{indexIn, dataIn}
 use Rattle.area.specs.Layout.{IndexInterval, UsedInterval}
 use Rattle.area.specs.Leads.{indexSound, numberFor}
-use Rattle.promises.specs.Tables.{many, Absent, KeyedTooLong, DamagedIndex, DamagedThere, AbsentThere, TooLongThere}
+use Rattle.promises.specs.Tables.{many, Absent, KeyedTooLong, DamagedIndex, DamagedThere, AbsentThere}
+use Rattle.promises.specs.Tables.{TooLongThere}
 
 -- Two areas that a get by this key meets alike: equally long, with the same index record, and with the same bytes in the interval that it leads the key to.
 -- That interval counts only where the index record is sound and the key has the length of a key; else no data interval is looked at.

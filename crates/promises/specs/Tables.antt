@@ -70,10 +70,12 @@ module _ (m : Measures) (area : List ℕ) where
 
   -- 8: the record is longer than the output; by key it is said here of all records, as it is on a sound area (`rows-whole`)
   abbrev pub KeyedTooLong : List ℕ → List ℕ → Type 0
-  KeyedTooLong wanted out = Holding (λ (c : Content). (r : List ℕ) × Keyed m wanted (recordsOf (c .filled)) r × (length out < length r))
+  KeyedTooLong wanted out =
+      Holding (λ (c : Content). (r : List ℕ) × Keyed m wanted (recordsOf (c .filled)) r × (length out < length r))
 
   abbrev pub LyingTooLong : ℕ → List ℕ → Type 0
-  LyingTooLong address out = Holding (λ (c : Content). (r : List ℕ) × Lies m (baseOf c) address (c .filled) r × (length out < length r))
+  LyingTooLong address out =
+      Holding (λ (c : Content). (r : List ℕ) × Lies m (baseOf c) address (c .filled) r × (length out < length r))
 
   -- ---- of a get by key
 

@@ -59,7 +59,8 @@ pub record Sound (m : Measures) (n : ℕ) (area : List ℕ) (c : Content) : Type
 
 -- After changes made of opening records: the area is sound and as long as it was; its records are the opening ones with just these changes made one after
 -- another by key; their keys strictly ascend; and each change was one that may be made.
-pub record Stands (m : Measures) (n : ℕ) (before after : List ℕ) (opening : List (List ℕ)) (chs : List Change) : Type 0 where
+pub record Stands (m : Measures) (n : ℕ) (before after : List ℕ) (opening : List (List ℕ)) (chs : List Change)
+    : Type 0 where
   pub content : Content
   pub sound : Sound m n after content
   pub long : length after ≡ length before

@@ -60,9 +60,11 @@ changedTo ch o = record { request = changes ch; answer = o .answer; area = o .ar
 abbrev pub rightly : Measures → Register
 rightly m area check = record { request = check; answer = checkOf m area; area = area; output = [] }
 rightly m area (get wanted out) =
-    record { request = get wanted out; answer = getOf m area wanted out .answer; area = area; output = getOf m area wanted out .output }
+    let given : Given = getOf m area wanted out in
+    record { request = get wanted out; answer = given .answer; area = area; output = given .output }
 rightly m area (getAt address out) =
-    record { request = getAt address out; answer = getAtOf m area address out .answer; area = area; output = getAtOf m area address out .output }
+    let given : Given = getAtOf m area address out in
+    record { request = getAt address out; answer = given .answer; area = area; output = given .output }
 rightly m area (changes ch) = changedTo ch (changeOf m area ch)
 
 -- a fault in changing: what becomes of the right outcome
@@ -286,4 +288,5 @@ losesLast =
 
 -- a writer of intervals whose bytes are read as the records that it was given, wherever these fit
 abbrev pub ReadsBack : (List (List ℕ) → List ℕ) → Type 0
-ReadsBack writer = (rs : List (List ℕ)) → lengthsFine depot rs ≡ true → need (map length rs) ≤ 512 → recordsIn (writer rs) ≡ rs
+ReadsBack writer =
+    (rs : List (List ℕ)) → lengthsFine depot rs ≡ true → need (map length rs) ≤ 512 → recordsIn (writer rs) ≡ rs
