@@ -4,12 +4,13 @@ use mathlib.Core.Path.{_≡_, _∙_, sym, ap, subst}
 use lib.ListN.{length}
 use denote.Ref.{now}
 use Rattle.fields.proofs.Choices.{agree}
+use Rattle.measures.specs.Judgement.{measures}
 use Rattle.walk.specs.AidSteps.{recordOf}
 use Rattle.walk.specs.declared.Place.{Place}
 use Rattle.walk.specs.declared.Begun.{Begun}
 use Rattle.walk.specs.declared.Begun.the-variants.{At, Refused}
 use Rattle.walk.proofs.Walking.{from-same}
-use Rattle.exports.specs.Walks.{asking, place, Tells, allOf}
+use Rattle.exports.specs.Walks.{place, Tells, allOf}
 use Rattle.exports.proofs.walks.belquita_walk_from.Reads as walk-from
 use Rattle.exports.proofs.walks.belquita_walk_end.Reads as walk-end
 use Rattle.exports.proofs.walks.belquita_walk_next.Reads as walk-next
@@ -29,8 +30,8 @@ pub unique-belquita-walk-from : (κs : _) (args : _) (r s : ℕ) (e f : _) → w
     (r ≡ s) × (place (now (x .0)) (now (x .1 .0)) (now (x .1 .1 .0)) (now (x .1 .1 .1 .0)) (now (x .1 .1 .1 .1 .0)) (now (x .1 .1 .1 .1 .1 .0)) (now (x .1 .1 .1 .1 .1 .1 .0)) ≡ place (now (y .0)) (now (y .1 .0)) (now (y .1 .1 .0)) (now (y .1 .1 .1 .0)) (now (y .1 .1 .1 .1 .0)) (now (y .1 .1 .1 .1 .1 .0)) (now (y .1 .1 .1 .1 .1 .1 .0)))
 unique-belquita-walk-from κs args r s e f p q =
     let a = args .1 in
-    let k = asking (a .0) (a .1 .0) (a .1 .1 .0) (a .1 .1 .1 .0) in
-    let same = from-same k (args .0 .now) (a .1 .1 .1 .1 .0) (a .1 .1 .1 .1 .1 .0 .now) (p .begun) (q .begun) (p .begins) (p .there) (q .begins) (q .there) in
+    let m = measures (a .0) (a .1 .0) (a .1 .1 .0) (a .1 .1 .1 .0) in
+    let same = from-same m (args .0 .now) (a .1 .1 .1 .1 .0) (a .1 .1 .1 .1 .1 .0 .now) (p .begun) (q .begun) (p .begins) (p .there) (q .begins) (q .there) in
     told-once (p .begun) (q .begun) r s _ _ same (p .tells) (q .tells)
 
 pub unique-belquita-walk-end : (κs : _) (args : _) (r s : ℕ) (e f : _) → walk-end.Learnt κs args r e → walk-end.Learnt κs args s f

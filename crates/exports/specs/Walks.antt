@@ -4,7 +4,7 @@ use mathlib.Core.Path.{_≡_}
 use mathlib.Core.Bool.{Bool}
 use mathlib.Core.List.{List}
 use lib.ListN.{length, getD}
-use Rattle.measures.specs.declared.Numbers.{Numbers}
+use Rattle.measures.specs.declared.Measures.{Measures}
 use Rattle.requests.specs.Answers.{numberOf, valuesOf}
 use Rattle.requests.specs.Walks.{walkFromOf, walkEndOf}
 use Rattle.requests.specs.declared.Answer.{Answer}
@@ -15,10 +15,6 @@ use Rattle.walk.specs.AidStands.{BeginsAt, endedBy}
 use Rattle.walk.specs.declared.Place.{Place}
 use Rattle.walk.specs.declared.Begun.{Begun}
 use Rattle.walk.specs.declared.Begun.the-variants.{At, Refused}
-
--- the four numbers that a walk is asked with
-abbrev pub asking : ℕ → ℕ → ℕ → ℕ → Numbers
-asking size offset key most = record { size = size; offset = offset; key = key; most = most }
 
 -- a place by its seven numbers
 abbrev pub place : ℕ → ℕ → ℕ → ℕ → ℕ → ℕ → ℕ → Place
@@ -34,17 +30,17 @@ Tells (At q) r p = (r ≡ 0) × (p ≡ q)
 Tells (Refused a) r p = Denies a r p
 
 -- what a walk from bytes begins with, told
-pub record Starts (k : Numbers) (area : List ℕ) (forward : Bool) (given : List ℕ) (r : ℕ) (p : Place) : Type 0 where
+pub record Starts (m : Measures) (area : List ℕ) (forward : Bool) (given : List ℕ) (r : ℕ) (p : Place) : Type 0 where
   pub begun : Begun
-  pub begins : Begins area (k .size) forward (walkFromOf (k .size) (k .offset) (k .key) (k .most) area forward given) begun
-  pub there : BeginsAt k area forward given begun
+  pub begins : Begins area (m .size) forward (walkFromOf m area forward given) begun
+  pub there : BeginsAt m area forward given begun
   pub tells : Tells begun r p
 
 -- and what one from an end does
-pub record Opens (k : Numbers) (area : List ℕ) (forward : Bool) (r : ℕ) (p : Place) : Type 0 where
+pub record Opens (m : Measures) (area : List ℕ) (forward : Bool) (r : ℕ) (p : Place) : Type 0 where
   pub begun : Begun
-  pub begins : Begins area (k .size) forward (walkEndOf (k .size) (k .offset) (k .key) (k .most) area forward) begun
-  pub is : begun ≡ endedBy area forward (openedOf k area)
+  pub begins : Begins area (m .size) forward (walkEndOf m area forward) begun
+  pub is : begun ≡ endedBy area forward (openedOf m area)
   pub tells : Tells begun r p
 
 -- a step from one place to another, and the length of the record there
@@ -63,8 +59,8 @@ allOf area size forward (At p) = lengthsFrom (length area) area size forward p %
 allOf area size forward (Refused a) = 0
 
 -- a whole walk from an end, added up
-pub record Adds (k : Numbers) (area : List ℕ) (forward : Bool) (r : ℕ) : Type 0 where
+pub record Adds (m : Measures) (area : List ℕ) (forward : Bool) (r : ℕ) : Type 0 where
   pub begun : Begun
-  pub begins : Begins area (k .size) forward (walkEndOf (k .size) (k .offset) (k .key) (k .most) area forward) begun
-  pub is : begun ≡ endedBy area forward (openedOf k area)
-  pub sum : r ≡ allOf area (k .size) forward begun
+  pub begins : Begins area (m .size) forward (walkEndOf m area forward) begun
+  pub is : begun ≡ endedBy area forward (openedOf m area)
+  pub sum : r ≡ allOf area (m .size) forward begun

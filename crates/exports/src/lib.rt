@@ -105,7 +105,8 @@ pub extern "C" fn belquita_check(
     first: &mut usize,
     second: &mut usize,
 ) -> usize
-    ensures { λ r. ⌜ Told (checkOf size offset key most (now (area .entry))) r (now (first .exit)) (now (second .exit)) ⌝ }
+    ensures { λ r. ⌜ Told (checkOf (measures size offset key most) (now (area .entry)))
+        r (now (first .exit)) (now (second .exit)) ⌝ }
 {
     let v = told(register::check(area, size, offset, key, most));
     *first = v.first;
@@ -125,7 +126,8 @@ pub extern "C" fn belquita_get(
     out: &mut [u8],
     value: &mut usize,
 ) -> usize
-    ensures { λ r. ⌜ Given (getOf size offset key most (now (area .entry)) (now (wanted .entry)) (now (out .entry))) r (now (value .exit)) (now (out .exit)) ⌝ }
+    ensures { λ r. ⌜ Given (getOf (measures size offset key most) (now (area .entry))
+        (now (wanted .entry)) (now (out .entry))) r (now (value .exit)) (now (out .exit)) ⌝ }
 {
     let v = told(register::get(area, size, offset, key, most, wanted, out));
     *value = v.first;
@@ -144,7 +146,8 @@ pub extern "C" fn belquita_get_at(
     out: &mut [u8],
     value: &mut usize,
 ) -> usize
-    ensures { λ r. ⌜ Given (getAtOf size offset key most (now (area .entry)) address (now (out .entry))) r (now (value .exit)) (now (out .exit)) ⌝ }
+    ensures { λ r. ⌜ Given (getAtOf (measures size offset key most) (now (area .entry))
+        address (now (out .entry))) r (now (value .exit)) (now (out .exit)) ⌝ }
 {
     let v = told(register::get_at(area, size, offset, key, most, address, out));
     *value = v.first;
@@ -166,7 +169,9 @@ pub extern "C" fn belquita_insert(
     third: &mut usize,
     fourth: &mut usize,
 ) -> usize
-    ensures { λ r. ⌜ Made (insertOf size offset key most (now (area .entry)) (now (new .entry))) r (now (value .exit)) (now (first .exit)) (now (second .exit)) (now (third .exit)) (now (fourth .exit)) (now (area .exit)) ⌝ }
+    ensures { λ r. ⌜ Made (insertOf (measures size offset key most) (now (area .entry)) (now (new .entry)))
+        r (now (value .exit)) (now (first .exit)) (now (second .exit)) (now (third .exit)) (now (fourth .exit))
+        (now (area .exit)) ⌝ }
 {
     let v = told(register::insert(area, size, offset, key, most, new));
     *value = v.first;
@@ -192,7 +197,9 @@ pub extern "C" fn belquita_update(
     third: &mut usize,
     fourth: &mut usize,
 ) -> usize
-    ensures { λ r. ⌜ Made (updateOf size offset key most (now (area .entry)) (now (new .entry))) r (now (value .exit)) (now (first .exit)) (now (second .exit)) (now (third .exit)) (now (fourth .exit)) (now (area .exit)) ⌝ }
+    ensures { λ r. ⌜ Made (updateOf (measures size offset key most) (now (area .entry)) (now (new .entry)))
+        r (now (value .exit)) (now (first .exit)) (now (second .exit)) (now (third .exit)) (now (fourth .exit))
+        (now (area .exit)) ⌝ }
 {
     let v = told(register::update(area, size, offset, key, most, new));
     *value = v.first;
@@ -218,7 +225,9 @@ pub extern "C" fn belquita_erase(
     third: &mut usize,
     fourth: &mut usize,
 ) -> usize
-    ensures { λ r. ⌜ Made (eraseOf size offset key most (now (area .entry)) (now (wanted .entry))) r (now (value .exit)) (now (first .exit)) (now (second .exit)) (now (third .exit)) (now (fourth .exit)) (now (area .exit)) ⌝ }
+    ensures { λ r. ⌜ Made (eraseOf (measures size offset key most) (now (area .entry)) (now (wanted .entry)))
+        r (now (value .exit)) (now (first .exit)) (now (second .exit)) (now (third .exit)) (now (fourth .exit))
+        (now (area .exit)) ⌝ }
 {
     let v = told(register::erase(area, size, offset, key, most, wanted));
     *value = v.first;

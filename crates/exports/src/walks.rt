@@ -2,7 +2,8 @@
 ghost use Prim.Native.Nat.{_%_, _^_};
 ghost use mathlib.Core.Path.{_≡_};
 ghost use lib.ListN.{length};
-ghost use Rattle.exports.specs.Walks.{asking, place, Denies, Tells, Starts, Opens, Steps, lengthsFrom, Adds};
+ghost use Rattle.measures.specs.Judgement.{measures};
+ghost use Rattle.exports.specs.Walks.{place, Denies, Tells, Starts, Opens, Steps, lengthsFrom, Adds};
 use measures::Numbers;
 use requests::Answer;
 use walk::Begun;
@@ -60,7 +61,9 @@ pub extern "C" fn belquita_walk_from(
     right: &mut usize,
     end: &mut usize,
 ) -> usize
-    ensures { λ r. ⌜ Starts (asking size offset key most) (now (area .entry)) forward (now (given .entry)) r (place (now (entry .exit)) (now (start .exit)) (now (long .exit)) (now (left .exit)) (now (at .exit)) (now (right .exit)) (now (end .exit))) ⌝ }
+    ensures { λ r. ⌜ Starts (measures size offset key most) (now (area .entry)) forward (now (given .entry)) r
+        (place (now (entry .exit)) (now (start .exit)) (now (long .exit)) (now (left .exit)) (now (at .exit))
+        (now (right .exit)) (now (end .exit))) ⌝ }
 {
     let numbers = Numbers {
         size,
@@ -97,7 +100,9 @@ pub extern "C" fn belquita_walk_end(
     right: &mut usize,
     end: &mut usize,
 ) -> usize
-    ensures { λ r. ⌜ Opens (asking size offset key most) (now (area .entry)) forward r (place (now (entry .exit)) (now (start .exit)) (now (long .exit)) (now (left .exit)) (now (at .exit)) (now (right .exit)) (now (end .exit))) ⌝ }
+    ensures { λ r. ⌜ Opens (measures size offset key most) (now (area .entry)) forward r
+        (place (now (entry .exit)) (now (start .exit)) (now (long .exit)) (now (left .exit)) (now (at .exit))
+        (now (right .exit)) (now (end .exit))) ⌝ }
 {
     let numbers = Numbers {
         size,
@@ -181,7 +186,7 @@ pub extern "C" fn belquita_walk(
     most: usize,
     forward: bool,
 ) -> usize
-    ensures { λ r. ⌜ Adds (asking size offset key most) (now (area .entry)) forward r ⌝ }
+    ensures { λ r. ⌜ Adds (measures size offset key most) (now (area .entry)) forward r ⌝ }
 {
     let numbers = Numbers {
         size,

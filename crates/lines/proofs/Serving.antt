@@ -6,6 +6,7 @@ use lib.ListN.{length, getD, take, drop}
 use native.Mathlib.Omega.{arith}
 use borrow.Author.Tests.{eq-eqb, ne-eqb, le-leb, lt-leb}
 use Rattle.fields.specs.Bytes.{part}
+use Rattle.area.specs.Example.{depot}
 use Rattle.requests.specs.Reading.{getOf, Gives}
 use Rattle.requests.specs.Changing.{insertOf, updateOf, eraseOf, Makes}
 use Rattle.requests.specs.declared.Answer.{Answer}
@@ -49,28 +50,28 @@ module _ (area request out : List ℕ) where
       unfolding commandOf
       asks = rw (eq-eqb (length request) 64 s, le-leb (getD request 1 0) 62 l, cut-is request)
 
-      pub got : getD request 0 0 ≡ 71 → (r : Answer) (o : List ℕ) → Gives (getOf 512 0 8 60 area (cutOut request) out) r o → Serves (servedOf area request out) (Told r) area o
+      pub got : getD request 0 0 ≡ 71 → (r : Answer) (o : List ℕ) → Gives (getOf depot area (cutOut request) out) r o → Serves (servedOf area request out) (Told r) area o
       got g r o h =
           serves-as (get (cutOut request)) (Told r) area o (asks ∙ is) (record { tells = ap Told (h .answers); leaves = refl; outputs = h .outputs })
         where
           is : byLetter (getD request 0 0) (cutOut request) ≡ get (cutOut request)
           is = rw g
 
-      pub inserted : getD request 0 0 ≡ 73 → (r : Answer) (a : List ℕ) → Makes (insertOf 512 0 8 60 area (cutOut request)) r a → Serves (servedOf area request out) (Told r) a out
+      pub inserted : getD request 0 0 ≡ 73 → (r : Answer) (a : List ℕ) → Makes (insertOf depot area (cutOut request)) r a → Serves (servedOf area request out) (Told r) a out
       inserted g r a h =
           serves-as (insert (cutOut request)) (Told r) a out (asks ∙ is) (record { tells = ap Told (h .answers); leaves = h .leaves; outputs = refl })
         where
           is : byLetter (getD request 0 0) (cutOut request) ≡ insert (cutOut request)
           is = rw g
 
-      pub updated : getD request 0 0 ≡ 85 → (r : Answer) (a : List ℕ) → Makes (updateOf 512 0 8 60 area (cutOut request)) r a → Serves (servedOf area request out) (Told r) a out
+      pub updated : getD request 0 0 ≡ 85 → (r : Answer) (a : List ℕ) → Makes (updateOf depot area (cutOut request)) r a → Serves (servedOf area request out) (Told r) a out
       updated g r a h =
           serves-as (update (cutOut request)) (Told r) a out (asks ∙ is) (record { tells = ap Told (h .answers); leaves = h .leaves; outputs = refl })
         where
           is : byLetter (getD request 0 0) (cutOut request) ≡ update (cutOut request)
           is = rw g
 
-      pub erased : getD request 0 0 ≡ 69 → (r : Answer) (a : List ℕ) → Makes (eraseOf 512 0 8 60 area (cutOut request)) r a → Serves (servedOf area request out) (Told r) a out
+      pub erased : getD request 0 0 ≡ 69 → (r : Answer) (a : List ℕ) → Makes (eraseOf depot area (cutOut request)) r a → Serves (servedOf area request out) (Told r) a out
       erased g r a h =
           serves-as (erase (cutOut request)) (Told r) a out (asks ∙ is) (record { tells = ap Told (h .answers); leaves = h .leaves; outputs = refl })
         where

@@ -6,6 +6,7 @@ use lib.ListN.{length, getD}
 use lib.Dec.{eqb, leb}
 use Rattle.fields.specs.Choice.{pick, both}
 use Rattle.fields.specs.Bytes.{part}
+use Rattle.area.specs.Example.{depot}
 use Rattle.requests.specs.Answers.{numberOf}
 use Rattle.requests.specs.Reading.{Given, getOf}
 use Rattle.requests.specs.Changing.{Outcome, insertOf, updateOf, eraseOf}
@@ -44,13 +45,13 @@ afterGet area g = record { line = Told (g .answer); area = area; output = g .out
 abbrev pub afterChange : List ℕ → Outcome → Served
 afterChange out o = record { line = Told (o .answer); area = o .area; output = out }
 
--- the register's own meanings at S 512, offset 0, K 8, M 60; a bad line leaves everything
+-- the register's own meanings at the depot's S 512, offset 0, K 8, M 60; a bad line leaves everything
 abbrev pub serve : Command → List ℕ → List ℕ → Served
 serve bad area out = record { line = Bad; area = area; output = out }
-serve (get key) area out = afterGet area (getOf 512 0 8 60 area key out)
-serve (insert r) area out = afterChange out (insertOf 512 0 8 60 area r)
-serve (update r) area out = afterChange out (updateOf 512 0 8 60 area r)
-serve (erase key) area out = afterChange out (eraseOf 512 0 8 60 area key)
+serve (get key) area out = afterGet area (getOf depot area key out)
+serve (insert r) area out = afterChange out (insertOf depot area r)
+serve (update r) area out = afterChange out (updateOf depot area r)
+serve (erase key) area out = afterChange out (eraseOf depot area key)
 
 unfoldable pub servedOf : List ℕ → List ℕ → List ℕ → Served
 servedOf area request out = serve (commandOf request) area out

@@ -3,8 +3,8 @@ use Prim.Native.Nat.{ℕ}
 use mathlib.Core.Path.{_≡_, refl, _∙_, sym}
 use mathlib.Core.List.{List, [], _∷_, _++_}
 use Rattle.fields.specs.Bytes.{Octets}
-use Rattle.measures.specs.declared.Measures.{Measures}
 use Rattle.area.specs.Content.{Content, recordsOf}
+use Rattle.area.specs.Example.{depot}
 use Rattle.promises.specs.Trace.{acceptedIn, Sound, Stands}
 use Rattle.lines.specs.Lines.{servedOf, Serves}
 use Rattle.lines.specs.declared.Line.{Line}
@@ -36,6 +36,6 @@ led-on a b c l k = record {
 
 -- So wherever a program says that lines lead from one area to another, the area afterwards is sound if the one before was, and its records are those of
 -- before with exactly the changes made that those lines were granted.
-pub led-history : (m : Measures) (n : ℕ) (before after : List ℕ) (c : Content) → Sound 512 0 8 60 m n before c → (l : Leads before after)
-    → Stands 512 0 8 60 m n before after (recordsOf (c .filled)) (acceptedIn (stepsOf (l .turns)))
-led-history m n before after c s l = rw (l .leaves) (day-history m n (l .turns) before c s (l .day))
+pub led-history : (n : ℕ) (before after : List ℕ) (c : Content) → Sound depot n before c → (l : Leads before after)
+    → Stands depot n before after (recordsOf (c .filled)) (acceptedIn (stepsOf (l .turns)))
+led-history n before after c s l = rw (l .leaves) (day-history n (l .turns) before c s (l .day))

@@ -9,8 +9,8 @@ use native.Mathlib.Omega.{arith}
 use Rattle.fields.specs.Bytes.{Octets, part}
 use Rattle.fields.specs.Choice.{pick, both}
 use Rattle.fields.proofs.Octets.{octets-part}
-use Rattle.measures.specs.declared.Measures.{Measures}
 use Rattle.area.specs.Content.{Content, recordsOf}
+use Rattle.area.specs.Example.{depot}
 use Rattle.requests.specs.declared.Answer.{Answer}
 use Rattle.promises.specs.Trace.{Step, Trace, areaAfter, acceptedIn, Sound, Stands}
 use Rattle.promises.proofs.History.{history}
@@ -36,7 +36,7 @@ bad-told a e = let z : _≡_ {A = ℕ} 0 1 = cc in omega arith
 module _ (area : List ℕ) (t : Turn) where
   -- one line is a step, or leaves the area
   one : (q : Command) (l : Line) → Octets (handed q) → Serves (serve q area (t .lent)) l (t .area) (t .output)
-      → Trace 512 0 8 60 area (stepFor q l t) × (areaAfter area (stepFor q l t) ≡ t .area)
+      → Trace depot area (stepFor q l t) × (areaAfter area (stepFor q l t) ≡ t .area)
   one bad l o s = (tt, sym (s .leaves))
   one (get key) Bad o s = absurd (bad-told _ (s .tells))
   one (get key) (Told a) o s = (((s .leaves, record { answers = told-same _ _ (s .tells); outputs = s .outputs }), tt), refl)
@@ -68,7 +68,7 @@ line-octets line o =
 
 -- ---- traces one after another
 
-trace-join : (ss rest : List Step) (area : List ℕ) → Trace 512 0 8 60 area ss → Trace 512 0 8 60 (areaAfter area ss) rest → Trace 512 0 8 60 area (ss ++ rest)
+trace-join : (ss rest : List Step) (area : List ℕ) → Trace depot area ss → Trace depot (areaAfter area ss) rest → Trace depot area (ss ++ rest)
 trace-join [] rest area t u = u
 trace-join (x ∷ ss) rest area t u = (t .0, trace-join ss rest (x .area) (t .1) u)
 
@@ -83,7 +83,7 @@ served-as area t s = s
 
 -- The lines of a day, served one after another, are a trace of the register's requests, in which a bad line is no step and changes nothing; and the area
 -- in the evening is the one that the trace leaves.
-pub day-trace : (ts : List Turn) (area : List ℕ) → Day area ts → Trace 512 0 8 60 area (stepsOf ts) × (areaAfter area (stepsOf ts) ≡ evening area ts)
+pub day-trace : (ts : List Turn) (area : List ℕ) → Day area ts → Trace depot area (stepsOf ts) × (areaAfter area (stepsOf ts) ≡ evening area ts)
 day-trace [] area d = (tt, refl)
 day-trace (t ∷ ts) area d =
     let q : Command = commandOf (t .bytes) in
@@ -95,8 +95,8 @@ day-trace (t ∷ ts) area d =
 
 -- So what is promised of histories holds of a depot's day: in the evening the area is sound, and its records are those of the morning with exactly the
 -- accepted changes made.
-pub day-history : (m : Measures) (n : ℕ) (ts : List Turn) (area : List ℕ) (c : Content) → Sound 512 0 8 60 m n area c → Day area ts
-    → Stands 512 0 8 60 m n area (evening area ts) (recordsOf (c .filled)) (acceptedIn (stepsOf ts))
-day-history m n ts area c s d =
+pub day-history : (n : ℕ) (ts : List Turn) (area : List ℕ) (c : Content) → Sound depot n area c → Day area ts
+    → Stands depot n area (evening area ts) (recordsOf (c .filled)) (acceptedIn (stepsOf ts))
+day-history n ts area c s d =
     let t = day-trace ts area d in
-    rw (← t .1) (history 512 0 8 60 m n (stepsOf ts) area c s (t .0))
+    rw (← t .1) (history depot n (stepsOf ts) area c s (t .0))

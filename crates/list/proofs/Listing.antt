@@ -22,21 +22,21 @@ use Rattle.walk.specs.declared.Place.{Place}
 use Rattle.walk.specs.declared.Begun.{Begun}
 use Rattle.walk.specs.declared.Begun.the-variants.{At}
 use Rattle.walk.proofs.Promised.{never, placed-gives}
-use Rattle.list.specs.Listed.{givenBy, listOf, Line, Closing, Lists}
+use Rattle.list.specs.Listed.{givenBy, depot, listOf, Line, Closing, Lists}
 
 -- A list is short enough to be counted: a check of the same area counts as many records.
 pub list-small : (area : List ℕ) → length (listOf area) < 134217728
 unfolding listOf walkEndOf checkOf
-list-small area = go (openingOf 512 0 8 60 area) (check-small 512 0 8 60 area)
+list-small area = go (openingOf depot area) (check-small depot area)
   where
     go : (o : Opening) → Small (checkOpened o) → length (givenBy (endOpened true o)) < 134217728
     go (shut a) s = omega arith
     go (holding m c) s = rw (walk-all m c, items-long m (c .filled)) (s .many)
 
 -- A walk from the low end that begins at a place lists the area from there.
-pub end-lists : (area : List ℕ) (r : Begun) (p : Place) → r ≡ At p → Begins area 512 true (walkEndOf 512 0 8 60 area true) r → Lists area p
+pub end-lists : (area : List ℕ) (r : Begun) (p : Place) → r ≡ At p → Begins area 512 true (walkEndOf depot area true) r → Lists area p
 unfolding listOf
-end-lists area r p at = go (walkEndOf 512 0 8 60 area true)
+end-lists area r p at = go (walkEndOf depot area true)
   where
     go : (x : Walk) → Begins area 512 true x r → Gives area 512 true (givenBy x) p
     go (refusedWith a) b = absurd (never area 512 true r p at a b)

@@ -4,6 +4,8 @@ use mathlib.Core.Path.{_≡_}
 use mathlib.Core.Bool.{true}
 use mathlib.Core.List.{List, []}
 use lib.ListN.{length, getD}
+use Rattle.measures.specs.Judgement.{measures}
+use Rattle.measures.specs.declared.Measures.{Measures}
 use Rattle.requests.specs.Walks.{Item, Walk, refusedWith, giving, walkEndOf}
 use Rattle.walk.specs.AidGives.{Gives}
 use Rattle.walk.specs.declared.Place.{Place}
@@ -13,9 +15,13 @@ abbrev pub givenBy : Walk → List Item
 givenBy (refusedWith a) = []
 givenBy (giving items) = items
 
--- the walk from the low end of an area with the depot's measures: intervals of 512 bytes, keys of 8 bytes at the front of records of at most 60
+-- how the depot's areas are measured: intervals of 512 bytes, keys of 8 bytes at the front of records of at most 60
+abbrev pub depot : Measures
+depot = measures 512 0 8 60
+
+-- the walk from the low end of such an area
 unfoldable pub listOf : List ℕ → List Item
-listOf area = givenBy (walkEndOf 512 0 8 60 area true)
+listOf area = givenBy (walkEndOf depot area true)
 
 -- r is the n-th record of the list, counted from 1
 pub record Line (area : List ℕ) (n : ℕ) (r : List ℕ) : Type 0 where

@@ -4,11 +4,11 @@ use mathlib.Core.Bool.{Bool}
 use mathlib.Core.List.{[], _∷_}
 use Rattle.fields.specs.Table.{all}
 use Rattle.fields.specs.Choice.{no}
-use Rattle.measures.specs.Judgement.{fine}
+use Rattle.measures.specs.Judgement.{fine, measures}
 
 -- an area of n data intervals, key of 8 bytes at the front, records up to the most
 unfoldable pub area : ℕ → ℕ → ℕ → Bool
-area size most n = fine size 0 8 most (size * (n + 1))
+area size most n = fine (measures size 0 8 most) (size * (n + 1))
 
 -- largest numbers of a request
 abbrev largest : ℕ
@@ -36,17 +36,17 @@ edges =
     ∷ no (area 512 60 4097)
     ∷ area 32768 60 4096
     ∷ no (area 32768 60 4097)
-    ∷ no (fine 512 0 8 60 1025)
-    ∷ no (fine 512 0 8 60 1535)
-    ∷ no (fine 512 0 0 60 1024)
-    ∷ fine 512 0 1 60 1024
-    ∷ fine 512 0 255 505 1024
-    ∷ no (fine 512 0 256 505 1024)
-    ∷ fine 512 52 8 60 1024
-    ∷ no (fine 512 53 8 60 1024)
-    ∷ no (fine 512 largest 8 60 1024)
-    ∷ no (fine 512 (largest - 7) 8 60 1024)
-    ∷ no (fine 512 0 8 largest 1024)
-    ∷ no (fine largest 0 8 60 1024)
-    ∷ no (fine 512 0 8 60 largest)
+    ∷ no (fine (measures 512 0 8 60) 1025)
+    ∷ no (fine (measures 512 0 8 60) 1535)
+    ∷ no (fine (measures 512 0 0 60) 1024)
+    ∷ fine (measures 512 0 1 60) 1024
+    ∷ fine (measures 512 0 255 505) 1024
+    ∷ no (fine (measures 512 0 256 505) 1024)
+    ∷ fine (measures 512 52 8 60) 1024
+    ∷ no (fine (measures 512 53 8 60) 1024)
+    ∷ no (fine (measures 512 largest 8 60) 1024)
+    ∷ no (fine (measures 512 (largest - 7) 8 60) 1024)
+    ∷ no (fine (measures 512 0 8 largest) 1024)
+    ∷ no (fine (measures largest 0 8 60) 1024)
+    ∷ no (fine (measures 512 0 8 60) largest)
     ∷ [])

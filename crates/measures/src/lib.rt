@@ -2,7 +2,7 @@
 ghost use mathlib.Core.Path.{_≡_};
 ghost use lib.ListN.{length};
 ghost use Rattle.measures.specs.Sizes.{permittedSize};
-ghost use Rattle.measures.specs.Judgement.{judgedOf, widthFor};
+ghost use Rattle.measures.specs.Judgement.{asked, judgedOf, widthFor};
 
 // What every definition and function below the requests goes by. `least` is the shortest record.
 pub struct Measures {
@@ -88,7 +88,7 @@ pub fn permitted(size: usize) -> bool
 // Refusal 1: whether the four measures and the buffer's length are what document 01 allows, with the number of data intervals.
 // The size is judged before anything is divided by it, and sums are taken only of what is known to be small.
 pub fn judge(numbers: Numbers, length: usize) -> Judged
-    ensures { λ r. ⌜ r ≡ judgedOf (numbers .size) (numbers .offset) (numbers .key) (numbers .most) length ⌝ }
+    ensures { λ r. ⌜ r ≡ judgedOf (asked numbers) length ⌝ }
 {
     let size = numbers.size;
     let offset = numbers.offset;

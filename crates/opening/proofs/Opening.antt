@@ -1,4 +1,4 @@
--- What an area is opened as, by the judgement of the four numbers and by the check of the area; and what the requests may take from it: a refusal is that
+-- What an area is opened as, by the judgement of the measures and by the check of the area; and what the requests may take from it: a refusal is that
 -- of the meaning, and an area opened whole holds a content which its reading gives.
 use Prim.Native.Nat.{ℕ}
 use mathlib.Core.Path.{_≡_, refl, _∙_, sym, ap}
@@ -7,10 +7,9 @@ use lib.ListN.{length}
 use native.Mathlib.Omega.{arith}
 use Rattle.measures.specs.Judgement.{Fits, judgedOf}
 use Rattle.measures.specs.declared.Measures.{Measures}
-use Rattle.measures.specs.declared.Numbers.{Numbers}
 use Rattle.measures.specs.declared.Judged.{Judged}
 use Rattle.measures.specs.declared.Judged.the-variants as judged
-use Rattle.measures.proofs.Fine.{accepted-fits}
+use Rattle.measures.proofs.Fine.{judged-same, accepted-fits}
 use Rattle.area.specs.Content.{Content, recordsOf}
 use Rattle.area.specs.Reading.{Reading, damaged, whole, readArea}
 use Rattle.area.specs.Checked.{checkedOf}
@@ -34,17 +33,13 @@ told-read : (m : Measures) (n : ℕ) (x : Reading) → openedTold m n (checkedOf
 told-read m n (damaged place) = refl
 told-read m n (whole c) = refl
 
--- the judgement of the numbers, for a buffer so long
-abbrev pub judgedFor : Numbers → ℕ → Judged
-judgedFor k l = judgedOf (k .size) (k .offset) (k .key) (k .most) l
-
-module _ (k : Numbers) (area : List ℕ) where
-  pub open-outside : judgedFor k (length area) ≡ judged.Outside → Refused Outside ≡ openedOf k area
+module _ (k : Measures) (area : List ℕ) where
+  pub open-outside : judgedOf k (length area) ≡ judged.Outside → Refused Outside ≡ openedOf k area
   open-outside e = sym (ap (λ (j : Judged). openedJudged j area) e)
 
-  module _ (m : Measures) (n : ℕ) (e : judgedFor k (length area) ≡ judged.Fine m n) where
+  module _ (m : Measures) (n : ℕ) (e : judgedOf k (length area) ≡ judged.Fine m n) where
     pub fits-lent : Fits m n (length area)
-    fits-lent = let a = accepted-fits (k .size) (k .offset) (k .key) (k .most) (length area) n m e in rw (a .0) (a .1)
+    fits-lent = accepted-fits m (length area) n (rw (judged-same k m (length area) n e) at e)
 
     pub open-told : (x : Checked) → x ≡ checkedOf (readArea m n area) → openedTold m n x ≡ openedOf k area
     open-told x h = ap (openedTold m n) h ∙ told-read m n (readArea m n area) ∙ sym (ap (λ (j : Judged). openedJudged j area) e)
@@ -52,8 +47,8 @@ module _ (k : Numbers) (area : List ℕ) where
 -- ---- what a caller takes from the answer
 
 -- A refusal is that of the meaning.
-pub opened-shut : (k : Numbers) (area : List ℕ) (a : Answer) → openedOf k area ≡ Refused a → openingOf (k .size) (k .offset) (k .key) (k .most) area ≡ shut a
-opened-shut k area a = by-judged (judgedFor k (length area))
+pub opened-shut : (m : Measures) (area : List ℕ) (a : Answer) → openedOf m area ≡ Refused a → openingOf m area ≡ shut a
+opened-shut m area a = by-judged (judgedOf m (length area))
   where
     by-read : (m : Measures) (n : ℕ) (x : Reading) → openedRead m n x ≡ Refused a → openRead m x ≡ shut a
     by-read m n (damaged place) e = let z : Damaged place ≡ a = cc in ap shut z
@@ -64,14 +59,14 @@ opened-shut k area a = by-judged (judgedFor k (length area))
     by-judged (judged.Fine m n) e = by-read m n (readArea m n area) e
 
 -- An area that is opened whole fits its measures, reads as a content, which it holds by the meaning too, and the counts are that content's.
-pub opened-whole : (k : Numbers) (area : List ℕ) (m : Measures) (n records free : ℕ) → openedOf k area ≡ Whole m n records free
+pub opened-whole : (k : Measures) (area : List ℕ) (m : Measures) (n records free : ℕ) → openedOf k area ≡ Whole m n records free
     → (c : Content)
-    × (openingOf (k .size) (k .offset) (k .key) (k .most) area ≡ holding m c)
+    × (openingOf k area ≡ holding m c)
     × (readArea m n area ≡ whole c)
     × Fits m n (length area)
     × (records ≡ length (recordsOf (c .filled)))
     × (free ≡ length (c .free))
-opened-whole k area m n records free = by-judged (judgedFor k (length area)) refl
+opened-whole k area m n records free = by-judged (judgedOf k (length area)) refl
   where
     Held : Opening → Type 0
     Held o =
@@ -89,6 +84,6 @@ opened-whole k area m n records free = by-judged (judgedFor k (length area)) ref
         let z : q ≡ n = cc in
         (c, ap (λ (v : Measures). holding v c) y, rw (y, z) at h, rw (y, z) at f, cc, cc)
 
-    by-judged : (j : Judged) → judgedFor k (length area) ≡ j → openedJudged j area ≡ Whole m n records free → Held (openJudged j area)
+    by-judged : (j : Judged) → judgedOf k (length area) ≡ j → openedJudged j area ≡ Whole m n records free → Held (openJudged j area)
     by-judged judged.Outside g e = absurd (let z : _≡_ {A = ℕ} 0 1 = cc in omega arith)
     by-judged (judged.Fine p q) g e = by-read p q (readArea p q area) refl (fits-lent k area p q g) e

@@ -4,7 +4,6 @@ use Prim.Native.Nat.{ℕ}
 use lib.ListN.{length}
 use Rattle.measures.specs.Judgement.{judgedOf}
 use Rattle.measures.specs.declared.Measures.{Measures}
-use Rattle.measures.specs.declared.Numbers.{Numbers}
 use Rattle.measures.specs.declared.Judged.{Judged}
 use Rattle.measures.specs.declared.Judged.the-variants as judged
 use Rattle.area.specs.Content.{recordsOf}
@@ -21,5 +20,5 @@ abbrev pub openedJudged : Judged → List ℕ → Opened
 openedJudged judged.Outside area = Refused Outside
 openedJudged (judged.Fine m n) area = openedRead m n (readArea m n area)
 
-abbrev pub openedOf : Numbers → List ℕ → Opened
-openedOf k area = openedJudged (judgedOf (k .size) (k .offset) (k .key) (k .most) (length area)) area
+abbrev pub openedOf : Measures → List ℕ → Opened
+openedOf m area = openedJudged (judgedOf m (length area)) area

@@ -1,5 +1,6 @@
 // What every request does first: the measures are judged and the area is checked, once.
 ghost use mathlib.Core.Path.{_≡_};
+ghost use Rattle.measures.specs.Judgement.{asked};
 ghost use Rattle.opening.specs.AidOpened.{openedOf};
 use area::Checked;
 use measures::Judged;
@@ -22,7 +23,7 @@ pub enum Opened {
 
 // Judges the four numbers, then checks the area.
 pub fn open(area: &[u8], numbers: Numbers) -> Opened
-    ensures { λ r. ⌜ r ≡ openedOf numbers (now (area .entry)) ⌝ }
+    ensures { λ r. ⌜ r ≡ openedOf (asked numbers) (now (area .entry)) ⌝ }
 {
     let Judged::Fine { measures, count } = measures::judge(numbers, area.len()) else {
         return Opened::Refused {

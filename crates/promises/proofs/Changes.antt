@@ -13,7 +13,6 @@ use Rattle.index.specs.Meaning.{numbers}
 use Rattle.index.specs.Search.{leadsTo}
 use Rattle.index.specs.Cuts.{separators}
 use Rattle.measures.specs.Judgement.{widthFor}
-use Rattle.measures.proofs.Fine.{accepted-fits}
 use Rattle.area.specs.Content.{Filled, Content, recordsOf, entriesOf, widthIn}
 use Rattle.area.proofs.Widths.{width-rules}
 use Rattle.area.specs.Reading.{whole, readArea}
@@ -49,8 +48,8 @@ use Rattle.promises.proofs.Parts.{new, new-records, new-numbers, new-ma
 
 -- ---- an accepted change
 
-module _ (size offset key most : ℕ) (m : Measures) (n : ℕ) (area : List ℕ) (c : Content) (s : Sound size offset key most m n area c) (ch : Change) (a : Answer)
-    (after : List ℕ) (k : ChangeAllowed size offset key most area ch a after) (z : numberOf a ≡ 0) where
+module _ (m : Measures) (n : ℕ) (area : List ℕ) (c : Content) (s : Sound m n area c) (ch : Change) (a : Answer)
+    (after : List ℕ) (k : ChangeAllowed m area ch a after) (z : numberOf a ≡ 0) where
   abbrev e : Edit
   e = editOf m c ch
 
@@ -58,16 +57,16 @@ module _ (size offset key most : ℕ) (m : Measures) (n : ℕ) (area : List ℕ)
   ps = divided m (c .filled) e
 
   bytes : Octets (bytesOf ch)
-  bytes = change-octets size offset key most area after ch a k
+  bytes = change-octets m area after ch a k
 
-  did : Carried size offset key most area m n c (s .judges) (s .reads) ch
-  did = carried size offset key most area m n c (s .judges) (s .reads) ch (ap numberOf (sym (change-makes size offset key most area after ch a k .answers)) ∙ z)
+  did : Carried m area n c (s .judges) (s .reads) ch
+  did = carried m area n c (s .judges) (s .reads) ch (ap numberOf (sym (change-makes m area after ch a k .answers)) ∙ z)
 
   left : after ≡ stored (m .size) area (did .ss)
-  left = change-makes size offset key most area after ch a k .leaves ∙ ap (λ (o : Outcome). o .area) (did .leaves)
+  left = change-makes m area after ch a k .leaves ∙ ap (λ (o : Outcome). o .area) (did .leaves)
 
   fits : Fitting m n area c e
-  fits = way-fits size offset key most m n area c s ch (did .fine) bytes (did .legal)
+  fits = way-fits m n area c s ch (did .fine) bytes (did .legal)
 
   some : 1 ≤ length ps
   some = one-to-three m (c .filled) e .0
@@ -80,12 +79,10 @@ module _ (size offset key most : ℕ) (m : Measures) (n : ℕ) (area : List ℕ)
 
   -- what it is answered with, and what it leaves alone
   told-so : a ≡ Done (writtenOf (did .ss))
-  told-so = change-makes size offset key most area after ch a k .answers ∙ ap (λ (o : Outcome). o .answer) (did .leaves)
+  told-so = change-makes m area after ch a k .answers ∙ ap (λ (o : Outcome). o .answer) (did .leaves)
 
   framed : Framed (m .size) area after a
-  framed =
-      let same : size ≡ m .size = ap (λ (x : Measures). x .size) (sym (accepted-fits size offset key most (length area) n m (s .judges) .0)) in
-      rw same at (change-frame size offset key most area (s .octets) ch a after k)
+  framed = change-frame m area (s .octets) ch a after k
 
   -- what is told is what is named
   told-named : (i : ℕ) → List·Memᴰ i (toldWritten a) → List·Memᴰ i (namedFor c (e .entry) (length ps))
@@ -104,10 +101,10 @@ module _ (size offset key most : ℕ) (m : Measures) (n : ℕ) (area : List ℕ)
     unfolding partedAt home swap
     spreads-fewest =
         record {
-          home = home size offset key most m n area c s ch (did .fine) bytes;
+          home = home m n area c s ch (did .fine) bytes;
           new = new m c (ledTo c (keyIn m ch)) ps;
           entries = rw (is-after, ← place);
-          makes = old-records ∙ way-edits size offset key most m n area c s ch (did .fine) bytes (did .legal);
+          makes = old-records ∙ way-edits m n area c s ch (did .fine) bytes (did .legal);
           fewest = rw (old-records, new-many m c (ledTo c (keyIn m ch)) ps some) (made-fewest m n area c e fits);
         }
 
@@ -182,7 +179,7 @@ module _ (size offset key most : ℕ) (m : Measures) (n : ℕ) (area : List ℕ)
     unfolding home spreads-fewest divided
     cut-prescribed =
         let f : Filled = ledTo c (keyIn m ch) in
-        let p = made-prescribed m (m .size) (edited (c .filled) e) (broughtBy ch) (e .ordinal) (way-placed size offset key most m n area c s ch (did .fine) bytes (did .legal)) in
+        let p = made-prescribed m (m .size) (edited (c .filled) e) (broughtBy ch) (e .ordinal) (way-placed m n area c s ch (did .fine) bytes (did .legal)) in
         record {
           parts = rw (old-records, new-parts m c f ps some) p;
           cuts = new-seps m c f ps some ∙ rw (new-parts m c f ps some);
@@ -193,7 +190,7 @@ pub old-told : (m : Measures) (before after : List ℕ) (c d : Content) (a : Ans
 old-told m before after c d a old w = rw (w .told) (w .intervals old .1 (inl refl))
 
 -- A check of a sound area tells how many records and how many free intervals it has.
-pub check-true : (size offset key most : ℕ) (m : Measures) (n : ℕ) (area : List ℕ) (c : Content) → Sound size offset key most m n area c → (a : Answer)
-    → a ≡ checkOf size offset key most area → a ≡ Intact (length (recordsOf (c .filled))) (length (c .free))
+pub check-true : (m : Measures) (n : ℕ) (area : List ℕ) (c : Content) → Sound m n area c → (a : Answer)
+    → a ≡ checkOf m area → a ≡ Intact (length (recordsOf (c .filled))) (length (c .free))
 unfolding checkOf
-check-true size offset key most m n area c s a e = e ∙ rw (s .judges, s .reads)
+check-true m n area c s a e = e ∙ rw (s .judges, s .reads)

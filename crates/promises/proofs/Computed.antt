@@ -36,7 +36,8 @@ use Rattle.change.specs.Stores.{stored}
 use Rattle.change.specs.Written.{among, inOrder, carrying}
 use Rattle.requests.specs.Records.{withKey}
 use Rattle.fields.proofs.Octets.{allOctets}
-use Rattle.measures.specs.Judgement.{measures, countOf, widthFor, fine, judgedOf}
+use Rattle.measures.specs.Judgement.{countOf, widthFor, fine, judgedOf}
+use Rattle.measures.specs.declared.Measures.{Measures}
 use Rattle.measures.specs.declared.Judged.the-variants.{Fine}
 use Rattle.area.specs.Content.{Content, recordsOf}
 use Rattle.area.specs.Reading.{damaged, whole, readArea}
@@ -48,28 +49,28 @@ use Rattle.requests.specs.Allowed.{get, changes}
 use Rattle.requests.specs.declared.Answer.the-variants.{Done, NoInterval, NoRoom, Absent, Found, Damaged}
 use Rattle.promises.specs.Home.{LengthFine}
 use Rattle.promises.specs.Changes.{unitAt}
-use Rattle.promises.specs.Instances.{alone, between, eight, ninth, ten, shorter, high, certificate, certificates}
+use Rattle.promises.specs.Instances.{alone, allKey, between, eight, ninth, ten, shorter, high, certificate, certificates}
 use Rattle.promises.specs.Wrong.{third, together, rightly, lastLost, fillsIndex, scratched, vouchesForAll, beyondBound, looksAway, halfLost, sought, seeking, leavesOutput, recordBefore}
 use Rattle.requests.specs.Reading.{getThere, getIn, getOf}
 use Rattle.requests.specs.Opening.{openingOf}
 use Rattle.promises.specs.Instances as at
 
 -- an area that is read as a content, and a change of a lawful length
-pub record Shown (key most : ℕ) (area : List ℕ) (c : Content) (ch : Change) : Type 0 where
+pub record Shown (m : Measures) (area : List ℕ) (c : Content) (ch : Change) : Type 0 where
   pub octets : allOctets area ≡ true
-  pub judges : judgedOf 512 0 key most (length area) ≡ Fine (measures 512 0 key most) (countOf 512 (length area))
-  pub reads : readArea (measures 512 0 key most) (countOf 512 (length area)) area ≡ whole c
+  pub judges : judgedOf m (length area) ≡ Fine m (countOf (m .size) (length area))
+  pub reads : readArea m (countOf (m .size) (length area)) area ≡ whole c
   pub handed : allOctets (bytesOf ch) ≡ true
-  pub long : LengthFine (measures 512 0 key most) ch
+  pub long : LengthFine m ch
 
 -- each area, with the change that is asked of it
 pub record Areas : Type 0 where
-  pub crowded : Shown 8 60 at.crowded (alone [] eight) (insert ninth)
-  pub roomy : Shown 8 60 at.roomy (alone (1 ∷ []) eight) (insert ninth)
-  pub even : Shown 8 60 at.even (alone (1 ∷ []) ten) (update shorter)
-  pub small : Shown 8 60 bytes held (insert third)
-  pub brimful : Shown 240 240 at.brimful (between 232) (insert (high 0x32))
-  pub overfull : Shown 240 240 at.overfull (between 233) (insert (high 0x32))
+  pub crowded : Shown depot at.crowded (alone [] eight) (insert ninth)
+  pub roomy : Shown depot at.roomy (alone (1 ∷ []) eight) (insert ninth)
+  pub even : Shown depot at.even (alone (1 ∷ []) ten) (update shorter)
+  pub small : Shown depot bytes held (insert third)
+  pub brimful : Shown allKey at.brimful (between 232) (insert (high 0x32))
+  pub overfull : Shown allKey at.overfull (between 233) (insert (high 0x32))
 
 pub areas : Areas
 unfolding bytes splice number digits sum concat swap every orderOf common widthFor fine judgedOf anyBelow permittedSize described rdfCount push groups need
@@ -90,15 +91,15 @@ areas = record {
 
 -- what each change is answered
 pub record Answers : Type 0 where
-  pub crowded : changeOf 512 0 8 60 at.crowded (insert ninth) .answer ≡ NoInterval
-  pub roomy : changeOf 512 0 8 60 at.roomy (insert ninth) .answer ≡ Done (carrying (0 ∷ 1 ∷ 2 ∷ []))
-  pub even : changeOf 512 0 8 60 at.even (update shorter) .answer ≡ Done (carrying (0 ∷ 1 ∷ 2 ∷ []))
-  pub inserted : changeOf 512 0 8 60 bytes (insert third) ≡ record { answer = Done (carrying (1 ∷ [])); area = together }
-  pub erased : changeOf 512 0 8 60 bytes (erase (keyOf depot first)) .answer ≡ Done (carrying (1 ∷ []))
-  pub brimful : changeOf 512 0 240 240 at.brimful (insert (high 0x32)) .answer ≡ Done (carrying (0 ∷ 2 ∷ 3 ∷ []))
-  pub overfull : changeOf 512 0 240 240 at.overfull (insert (high 0x32)) .answer ≡ NoRoom
-  pub got-first : getOf 512 0 8 60 bytes (keyOf depot first) (replicate 60 0) .answer ≡ Found 10
-  pub got-second : getOf 512 0 8 60 bytes (keyOf depot second) (replicate 60 0) .answer ≡ Found 14
+  pub crowded : changeOf depot at.crowded (insert ninth) .answer ≡ NoInterval
+  pub roomy : changeOf depot at.roomy (insert ninth) .answer ≡ Done (carrying (0 ∷ 1 ∷ 2 ∷ []))
+  pub even : changeOf depot at.even (update shorter) .answer ≡ Done (carrying (0 ∷ 1 ∷ 2 ∷ []))
+  pub inserted : changeOf depot bytes (insert third) ≡ record { answer = Done (carrying (1 ∷ [])); area = together }
+  pub erased : changeOf depot bytes (erase (keyOf depot first)) .answer ≡ Done (carrying (1 ∷ []))
+  pub brimful : changeOf allKey at.brimful (insert (high 0x32)) .answer ≡ Done (carrying (0 ∷ 2 ∷ 3 ∷ []))
+  pub overfull : changeOf allKey at.overfull (insert (high 0x32)) .answer ≡ NoRoom
+  pub got-first : getOf depot bytes (keyOf depot first) (replicate 60 0) .answer ≡ Found 10
+  pub got-second : getOf depot bytes (keyOf depot second) (replicate 60 0) .answer ≡ Found 14
 
 pub answers : Answers
 unfolding bytes splice number digits sum concat swap every orderOf common widthFor fine judgedOf anyBelow permittedSize described rdfCount push groups need
@@ -140,11 +141,11 @@ halves =
 -- what areas hold that a register leaves, right or wrong; that the renewed index record fills its interval, and where one begins its unused space
 pub record Left : Type 0 where
   pub together : readArea depot 2 together ≡ whole (alone (1 ∷ []) (first ∷ second ∷ third ∷ []))
-  pub lost : readArea depot (countOf 512 (length at.even)) (lastLost (openingOf 512 0 8 60 at.even) (update shorter) at.even) ≡ whole (alone (1 ∷ []) nine)
-  pub brimful : fillsIndex (rightly 240 240 at.brimful (changes (insert (high 0x32))) .area) ≡ true
-  pub halved : readArea depot (countOf 512 (length at.roomy)) (rightly 8 60 at.roomy (changes (insert ninth)) .area) ≡ whole halves
+  pub lost : readArea depot (countOf 512 (length at.even)) (lastLost (openingOf depot at.even) (update shorter) at.even) ≡ whole (alone (1 ∷ []) nine)
+  pub brimful : fillsIndex (rightly allKey at.brimful (changes (insert (high 0x32))) .area) ≡ true
+  pub halved : readArea depot (countOf 512 (length at.roomy)) (rightly depot at.roomy (changes (insert ninth)) .area) ≡ whole halves
   pub unused-was : getD (unitAt 512 at.roomy 0) 19 0 ≡ 25
-  pub unused-is : getD (unitAt 512 (rightly 8 60 at.roomy (changes (insert ninth)) .area) 0) 19 0 ≡ 24
+  pub unused-is : getD (unitAt 512 (rightly depot at.roomy (changes (insert ninth)) .area) 0) 19 0 ≡ 24
 
 pub left : Left
 unfolding bytes splice number digits sum concat swap every orderOf common widthFor fine judgedOf anyBelow permittedSize described rdfCount push groups need
@@ -172,19 +173,19 @@ pub record Damages : Type 0 where
       (intervalFor depot (countOf 512 (length beyondBound)) beyondBound (keyOf depot first))
       ≡ false
   pub beyond-told : numberOf (looksAway beyondBound (get (keyOf depot first) (replicate 60 0)) .answer) ≡ 0
-  pub got-scratched : getOf 512 0 8 60 scratched (keyOf depot first) (replicate 60 0) .answer ≡ Found 10
-  pub got-beyond : getOf 512 0 8 60 beyondBound (keyOf depot first) (replicate 60 0) .answer ≡ Damaged 1
-  pub got-stray : getOf 512 0 8 60 beyondBound (keyOf depot second) (replicate 60 0) .answer ≡ Absent
+  pub got-scratched : getOf depot scratched (keyOf depot first) (replicate 60 0) .answer ≡ Found 10
+  pub got-beyond : getOf depot beyondBound (keyOf depot first) (replicate 60 0) .answer ≡ Damaged 1
+  pub got-stray : getOf depot beyondBound (keyOf depot second) (replicate 60 0) .answer ≡ Absent
   pub lost-octets : allOctets halfLost ≡ true
   pub lost-key : allOctets (keyOf depot sought) ≡ true
-  pub lost-judges : judgedOf 512 0 8 60 (length halfLost) ≡ Fine depot (countOf 512 (length halfLost))
+  pub lost-judges : judgedOf depot (length halfLost) ≡ Fine depot (countOf 512 (length halfLost))
   pub lost-damaged : readArea depot (countOf 512 (length halfLost)) halfLost ≡ damaged 2
   pub lost-index : indexSound depot (countOf 512 (length halfLost)) halfLost ≡ true
   pub lost-there : soundFor depot (entriesFor depot (countOf 512 (length halfLost)) halfLost) (keyOf depot sought)
       (intervalFor depot (countOf 512 (length halfLost)) halfLost (keyOf depot sought))
       ≡ true
   pub lost-records : recordsIn (intervalFor depot (countOf 512 (length halfLost)) halfLost (keyOf depot sought)) ≡ certificates 2 0x31 60
-  pub got-lost : getOf 512 0 8 60 halfLost (keyOf depot sought) (replicate 60 0) ≡ record { answer = Found 60; output = sought }
+  pub got-lost : getOf depot halfLost (keyOf depot sought) (replicate 60 0) ≡ record { answer = Found 60; output = sought }
   pub left-told : leavesOutput halfLost seeking .answer ≡ Found 60
   pub left-given : leavesOutput halfLost seeking .output ≡ replicate 60 0
   pub before-told : recordBefore halfLost seeking .answer ≡ Found 60

@@ -9,7 +9,7 @@ use lib.Seq.{length-take-le}
 use native.Mathlib.Omega.{arith}
 use Rattle.fields.specs.Bytes.{Octets}
 use Rattle.fields.specs.Lists.{swap}
-use Rattle.measures.specs.Judgement.{measures, countOf}
+use Rattle.measures.specs.Judgement.{countOf}
 use Rattle.measures.specs.declared.Measures.{Measures}
 use Rattle.index.specs.Search.{leadsTo}
 use Rattle.index.specs.Cuts.{separators}
@@ -56,14 +56,11 @@ seps-append : (fs gs : List Filled) → sepsBy (fs ++ gs) ≡ sepsBy fs ++ sepsB
 seps-append [] gs = refl
 seps-append (f ∷ fs) gs = ap (λ (x : List (List ℕ)). f .sep ∷ x) (seps-append fs gs)
 
-module _ (size offset key most : ℕ) (area : List ℕ) where
-  abbrev m : Measures
-  m = measures size offset key most
-
+module _ (m : Measures) (area : List ℕ) where
   abbrev n : ℕ
-  n = countOf size (length area)
+  n = countOf (m .size) (length area)
 
-  module _ (c : Content) (s : Sound size offset key most m n area c) (ch : Change) (b : Octets (bytesOf ch)) (f : lengthFine m ch ≡ true) (l : Legal m ch (recordsOf (c .filled))) where
+  module _ (c : Content) (s : Sound m n area c) (ch : Change) (b : Octets (bytesOf ch)) (f : lengthFine m ch ≡ true) (l : Legal m ch (recordsOf (c .filled))) where
     abbrev e : Edit
     e = editOf m c ch
 
@@ -71,36 +68,36 @@ module _ (size offset key most : ℕ) (area : List ℕ) where
     ps = divided m (c .filled) e
 
     fits : Fitting m n area c e
-    fits = way-fits size offset key most m n area c s ch f b l
+    fits = way-fits m n area c s ch f b l
 
     abbrev here : Home m c (keyIn m ch)
-    here = home size offset key most m n area c s ch f b
+    here = home m n area c s ch f b
 
     -- whichever entry the key belongs to, its records with the change made are those of the edit,
     changed-is : (h : Home m c (keyIn m ch)) → changed m c ch h ≡ edited (c .filled) e
     unfolding home
     changed-is h =
-        ap (λ (x : Filled). makeChange m ch (x .records)) (home-one m n area c (s .reads) (keyIn m ch) h here .1) ∙ sym (way-edits size offset key most m n area c s ch f b l)
+        ap (λ (x : Filled). makeChange m ch (x .records)) (home-one m n area c (s .reads) (keyIn m ch) h here .1) ∙ sym (way-edits m n area c s ch f b l)
 
     -- they lie over so many intervals,
-    parts-fewest : (h : Home m c (keyIn m ch)) → Fewest size (changed m c ch h) (length ps)
+    parts-fewest : (h : Home m c (keyIn m ch)) → Fewest (m .size) (changed m c ch h) (length ps)
     parts-fewest h = rw (changed-is h) (made-fewest m n area c e fits)
 
     -- over no other number,
-    parts-only : (h : Home m c (keyIn m ch)) (k : ℕ) → Fewest size (changed m c ch h) k → length ps ≡ k
-    parts-only h k w = fewest-unique size (changed m c ch h) (length ps) k (parts-fewest h) w
+    parts-only : (h : Home m c (keyIn m ch)) (k : ℕ) → Fewest (m .size) (changed m c ch h) k → length ps ≡ k
+    parts-only h k w = fewest-unique (m .size) (changed m c ch h) (length ps) k (parts-fewest h) w
 
     -- the prescribed parts are those of the division and no others,
-    placed : divisionOf size (map length (edited (c .filled) e)) ≡ Three → Placed m (broughtBy ch) (edited (c .filled) e) (e .ordinal)
-    placed = way-placed size offset key most m n area c s ch f b l
+    placed : divisionOf (m .size) (map length (edited (c .filled) e)) ≡ Three → Placed m (broughtBy ch) (edited (c .filled) e) (e .ordinal)
+    placed = way-placed m n area c s ch f b l
 
-    parts-prescribed : (h : Home m c (keyIn m ch)) → PrescribedParts size (changed m c ch h) (broughtBy ch) ps
+    parts-prescribed : (h : Home m c (keyIn m ch)) → PrescribedParts (m .size) (changed m c ch h) (broughtBy ch) ps
     unfolding divided
-    parts-prescribed h = rw (changed-is h) (made-prescribed m size (edited (c .filled) e) (broughtBy ch) (e .ordinal) placed)
+    parts-prescribed h = rw (changed-is h) (made-prescribed m (m .size) (edited (c .filled) e) (broughtBy ch) (e .ordinal) placed)
 
-    prescribed-parts : (h : Home m c (keyIn m ch)) (qs : List (List (List ℕ))) → PrescribedParts size (changed m c ch h) (broughtBy ch) qs → qs ≡ ps
+    prescribed-parts : (h : Home m c (keyIn m ch)) (qs : List (List (List ℕ))) → PrescribedParts (m .size) (changed m c ch h) (broughtBy ch) qs → qs ≡ ps
     unfolding divided
-    prescribed-parts h qs p = prescribed-made m size (edited (c .filled) e) (broughtBy ch) (e .ordinal) placed qs (rw (changed-is h) at p)
+    prescribed-parts h qs p = prescribed-made m (m .size) (edited (c .filled) e) (broughtBy ch) (e .ordinal) placed qs (rw (changed-is h) at p)
 
     needs-after : indexSize (widthIn c) (meaningOf (contentAfter m c e))
         ≡ 24 + widthIn c * (length (c .free) - (length ps - 1))
@@ -130,18 +127,18 @@ module _ (size offset key most : ℕ) (area : List ℕ) where
         rw (o, f, t, ← edit-entry m c ch) (sym needs-after ∙ ap (indexSize (widthIn c)) (after-meaning m c e))
 
     -- Rows 6 and 7 decide a change whose length is fine and which may be made.
-    pub plan-rows : First (row 6 (WantOfInterval size offset key most area ch) (row 7 (WantOfRoom size offset key most area ch) done)) (numberOf (carryOut m area (planOf m c e) .answer))
+    pub plan-rows : First (row 6 (WantOfInterval m area ch) (row 7 (WantOfRoom m area ch) done)) (numberOf (carryOut m area (planOf m c e) .answer))
     plan-rows = go (wants m c e)
       where
-        six : WantsInterval m c e → WantOfInterval size offset key most area ch
+        six : WantsInterval m c e → WantOfInterval m area ch
         six w = (c, s .reads, (here, length ps, parts-fewest here, w))
 
-        not-six : length ps - 1 ≤ length (c .free) → WantOfInterval size offset key most area ch → ⊥
+        not-six : length ps - 1 ≤ length (c .free) → WantOfInterval m area ch → ⊥
         not-six w x =
-            let y = held size offset key most area (Crowded size offset key most ch) c (s .reads) x in
+            let y = held m area (Crowded m ch) c (s .reads) x in
             omega (arith, parts-only (y .0) (y .1) (y .2), y .3)
 
-        seven : WantsRoom m c e → WantOfRoom size offset key most area ch
+        seven : WantsRoom m c e → WantOfRoom m area ch
         seven w = (
           c,
           s .reads,
@@ -156,15 +153,15 @@ module _ (size offset key most : ℕ) (area : List ℕ) where
           ),
         )
 
-        not-seven : (1 < length ps → indexSize (widthIn c) (indexAfter m c e) ≤ size - 7) → WantOfRoom size offset key most area ch → ⊥
+        not-seven : (1 < length ps → indexSize (widthIn c) (indexAfter m c e) ≤ m .size - 7) → WantOfRoom m area ch → ⊥
         not-seven w x =
-            let y = held size offset key most area (Roomless size offset key most ch) c (s .reads) x in
+            let y = held m area (Roomless m ch) c (s .reads) x in
             let q : y .4 ≡ ps = prescribed-parts (y .0) (y .4) (y .5) in
-            let o : size - 7 < indexNeeds m c (keyIn m ch) (y .0) ps = rw q at (y .6) in
+            let o : m .size - 7 < indexNeeds m c (keyIn m ch) (y .0) ps = rw q at (y .6) in
             omega (arith, w (omega (arith, parts-only (y .0) (y .1) (y .2), y .3)), o, needs-is (y .0))
 
         go : (WantsInterval m c e ⊎ WantsRoom m c e) ⊎ WantsNothing m c e
-            → First (row 6 (WantOfInterval size offset key most area ch) (row 7 (WantOfRoom size offset key most area ch) done)) (numberOf (carryOut m area (planOf m c e) .answer))
+            → First (row 6 (WantOfInterval m area ch) (row 7 (WantOfRoom m area ch) done)) (numberOf (carryOut m area (planOf m c e) .answer))
         go (inl (inl w)) = inl (six w, rw (refuse-interval m c e w))
         go (inl (inr w)) = inr (not-six (w .0), inl (seven w, rw (refuse-room m c e w)))
         go (inr w) = inr (not-six (w .0), inr (not-seven (w .1), rw (make-stores m c e w)))

@@ -9,7 +9,7 @@ use lib.Dec.{eqb, leb}
 use native.Mathlib.Omega.{arith}
 use borrow.Author.Tests.{eqb-true, eqb-false, leb-true, leb-false}
 use Rattle.fields.proofs.Choices.{false-true}
-use Rattle.measures.specs.Judgement.{judgedOf, measures, countOf}
+use Rattle.measures.specs.Judgement.{judgedOf, countOf}
 use Rattle.measures.specs.declared.Measures.{Measures}
 use Rattle.measures.specs.declared.Judged.the-variants.{Fine}
 use Rattle.measures.specs.declared.Judged.the-variants as judged
@@ -29,20 +29,17 @@ use Rattle.promises.specs.Tables.{Table, done, row, First, Holding, Nowh
 use Rattle.promises.specs.Tables.{TooLongThere, checkTable, getTable, getAtTable}
 use Rattle.promises.proofs.Rows.{first-one, first-two, held, keyed-either}
 
-module _ (size offset key most : ℕ) (area : List ℕ) where
-  abbrev m : Measures
-  m = measures size offset key most
-
+module _ (m : Measures) (area : List ℕ) where
   abbrev n : ℕ
-  n = countOf size (length area)
+  n = countOf (m .size) (length area)
 
   -- A check is refused with 1 or 2 exactly as its table says.
-  pub check-exact : (a : Answer) → a ≡ checkOf size offset key most area → First (checkTable size offset key most area) (numberOf a)
+  pub check-exact : (a : Answer) → a ≡ checkOf m area → First (checkTable m area) (numberOf a)
   unfolding checkOf
   check-exact a e =
-      first-two size offset key most area done (numberOf a) (λ (o : judgedOf size offset key most (length area) ≡ judged.Outside). ap numberOf e ∙ rw o)
-      (λ (j : judgedOf size offset key most (length area) ≡ Fine m n) (p : ℕ) (d : readArea m n area ≡ damaged p). ap numberOf e ∙ rw (j, d))
-      (λ (j : judgedOf size offset key most (length area) ≡ Fine m n) (c : Content) (w : readArea m n area ≡ whole c). ap numberOf e ∙ rw (j, w))
+      first-two m area done (numberOf a) (λ (o : judgedOf m (length area) ≡ judged.Outside). ap numberOf e ∙ rw o)
+      (λ (j : judgedOf m (length area) ≡ Fine m n) (p : ℕ) (d : readArea m n area ≡ damaged p). ap numberOf e ∙ rw (j, d))
+      (λ (j : judgedOf m (length area) ≡ Fine m n) (c : Content) (w : readArea m n area ≡ whole c). ap numberOf e ∙ rw (j, w))
 
   -- ---- gets
 
@@ -71,8 +68,8 @@ module _ (size offset key most : ℕ) (area : List ℕ) where
           inl (long-is .1 (x .0, x .1, l), answered g (Short (length (x .0))) out (f .short (x .0) (x .1) l))
 
   -- What an area holds is said of its content.
-  of-content : (P : Content → Type 0) (c : Content) → readArea m n area ≡ whole c → Holding size offset key most area P ↔ P c
-  of-content P c w = (held size offset key most area P c w, λ (p : P c). (c, w, p))
+  of-content : (P : Content → Type 0) (c : Content) → readArea m n area ≡ whole c → Holding m area P ↔ P c
+  of-content P c w = (held m area P c w, λ (p : P c). (c, w, p))
 
   -- Some record lies at an address, or none.
   lies-either : 1 ≤ m .least → (c : Content) → readArea m n area ≡ whole c → (address : ℕ)
@@ -91,65 +88,62 @@ module _ (size offset key most : ℕ) (area : List ℕ) where
   -- records of that interval.
   module _ (wanted lent : List ℕ) where
     abbrev got : Given
-    got = getOf size offset key most area wanted lent
+    got = getOf m area wanted lent
 
     abbrev thereRows : Table
-    thereRows = row 5 (AbsentThere size offset key most area wanted) (row 8 (TooLongThere size offset key most area wanted lent) done)
+    thereRows = row 5 (AbsentThere m area wanted) (row 8 (TooLongThere m area wanted lent) done)
 
-    module _ (j : judgedOf size offset key most (length area) ≡ Fine m n) (i : indexSound m n area ≡ true) where
-      by-there : length wanted ≡ key → (t : Bool) → soundFor m (entriesFor m n area) wanted (intervalFor m n area wanted) ≡ t
-          → First (row 2 (DamagedThere size offset key most area wanted) thereRows) (numberOf (got .answer))
+    module _ (j : judgedOf m (length area) ≡ Fine m n) (i : indexSound m n area ≡ true) where
+      by-there : length wanted ≡ m .key → (t : Bool) → soundFor m (entriesFor m n area) wanted (intervalFor m n area wanted) ≡ t
+          → First (row 2 (DamagedThere m area wanted) thereRows) (numberOf (got .answer))
       by-there l false d =
-          inl (d, answered got (Damaged (numberFor m n area wanted + 1)) lent (get-there-damaged size offset key most area m n j wanted lent i l d))
+          inl (d, answered got (Damaged (numberFor m n area wanted + 1)) lent (get-there-damaged m area n j wanted lent i l d))
       by-there l true d =
-          let rs : List (List ℕ) = recordsThere size offset key most area wanted in
+          let rs : List (List ℕ) = recordsThere m area wanted in
           inr (
-            λ (h : DamagedThere size offset key most area wanted). false-true (sym h ∙ d),
-            last-two (Keyed m wanted rs) lent (AbsentThere size offset key most area wanted) (TooLongThere size offset key most area wanted lent)
-                (λ x. x, λ x. x) (λ x. x, λ x. x) answer.Absent got (get-there-finds size offset key most area m n j wanted lent i l d)
-                (keyed-either size offset key most area wanted rs),
+            λ (h : DamagedThere m area wanted). false-true (sym h ∙ d),
+            last-two (Keyed m wanted rs) lent (AbsentThere m area wanted) (TooLongThere m area wanted lent)
+                (λ x. x, λ x. x) (λ x. x, λ x. x) answer.Absent got (get-there-finds m area n j wanted lent i l d) (keyed-either m wanted rs),
           )
 
-      by-length : (t : Bool) → eqb (length wanted) key ≡ t
-          → First (row 3 (length wanted ≡ key → ⊥) (row 2 (DamagedThere size offset key most area wanted) thereRows)) (numberOf (got .answer))
+      by-length : (t : Bool) → eqb (length wanted) (m .key) ≡ t
+          → First (row 3 (length wanted ≡ m .key → ⊥) (row 2 (DamagedThere m area wanted) thereRows)) (numberOf (got .answer))
       by-length false f =
-          let l : length wanted ≡ key → ⊥ = eqb-false (length wanted) key f in
-          inl (l, answered got answer.WrongLength lent (get-length-wrong size offset key most area m n j wanted lent i l))
+          let l : length wanted ≡ m .key → ⊥ = eqb-false (length wanted) (m .key) f in
+          inl (l, answered got answer.WrongLength lent (get-length-wrong m area n j wanted lent i l))
       by-length true f =
-          let l : length wanted ≡ key = eqb-true (length wanted) key f in
-          inr (λ (g : length wanted ≡ key → ⊥). g l, by-there l (soundFor m (entriesFor m n area) wanted (intervalFor m n area wanted)) refl)
+          let l : length wanted ≡ m .key = eqb-true (length wanted) (m .key) f in
+          inr (λ (g : length wanted ≡ m .key → ⊥). g l, by-there l (soundFor m (entriesFor m n area) wanted (intervalFor m n area wanted)) refl)
 
-    by-index : judgedOf size offset key most (length area) ≡ Fine m n → (t : Bool) → indexSound m n area ≡ t
-        → First (row 2 (DamagedIndex size offset key most area) (row 3 (length wanted ≡ key → ⊥) (row 2 (DamagedThere size offset key most area wanted) thereRows)))
-        (numberOf (got .answer))
-    by-index j false i = inl (i, answered got (Damaged 0) lent (get-index-damaged size offset key most area m n j wanted lent i))
-    by-index j true i = inr (λ (h : DamagedIndex size offset key most area). false-true (sym h ∙ i), by-length j i (eqb (length wanted) key) refl)
+    by-index : judgedOf m (length area) ≡ Fine m n → (t : Bool) → indexSound m n area ≡ t
+        → First (row 2 (DamagedIndex m area) (row 3 (length wanted ≡ m .key → ⊥) (row 2 (DamagedThere m area wanted) thereRows))) (numberOf (got .answer))
+    by-index j false i = inl (i, answered got (Damaged 0) lent (get-index-damaged m area n j wanted lent i))
+    by-index j true i = inr (λ (h : DamagedIndex m area). false-true (sym h ∙ i), by-length j i (eqb (length wanted) (m .key)) refl)
 
-    get-outside : judgedOf size offset key most (length area) ≡ judged.Outside → numberOf (got .answer) ≡ 1
+    get-outside : judgedOf m (length area) ≡ judged.Outside → numberOf (got .answer) ≡ 1
     unfolding getOf
     get-outside o = rw o
 
-    pub get-exact : (a : Answer) (out : List ℕ) → Gives (getOf size offset key most area wanted lent) a out
-        → First (getTable size offset key most area wanted lent) (numberOf a)
+    pub get-exact : (a : Answer) (out : List ℕ) → Gives (getOf m area wanted lent) a out → First (getTable m area wanted lent) (numberOf a)
     get-exact a out k =
         rw (ap numberOf (k .answers))
-        (first-one size offset key most area
-        (row 2 (DamagedIndex size offset key most area) (row 3 (length wanted ≡ key → ⊥) (row 2 (DamagedThere size offset key most area wanted) thereRows)))
-        (numberOf (got .answer)) get-outside (λ (j : judgedOf size offset key most (length area) ≡ Fine m n). by-index j (indexSound m n area) refl))
+        (first-one m area
+        (row 2 (DamagedIndex m area) (row 3 (length wanted ≡ m .key → ⊥) (row 2 (DamagedThere m area wanted) thereRows)))
+        (numberOf (got .answer)) get-outside (λ (j : judgedOf m (length area) ≡ Fine m n). by-index j (indexSound m n area) refl))
 
   -- A get by address is refused with 1, 2, 9 or 8 exactly as its table says.
-  pub get-at-exact : (address : ℕ) (lent : List ℕ) (a : Answer) (out : List ℕ) → Gives (getAtOf size offset key most area address lent) a out
-      → First (getAtTable size offset key most area address lent) (numberOf a)
+  pub get-at-exact : (address : ℕ) (lent : List ℕ) (a : Answer) (out : List ℕ) → Gives (getAtOf m area address lent) a out
+      → First (getAtTable m area address lent) (numberOf a)
   unfolding getAtOf
   get-at-exact address lent a out k =
-      let e : numberOf a ≡ numberOf (getAtOf size offset key most area address lent .answer) = ap numberOf (k .answers) in
-      first-two size offset key most area (row 9 (Nowhere size offset key most area address) (row 8 (LyingTooLong size offset key most area address lent) done))
-      (numberOf a) (λ (o : judgedOf size offset key most (length area) ≡ judged.Outside). e ∙ rw o)
-      (λ (j : judgedOf size offset key most (length area) ≡ Fine m n) (p : ℕ) (d : readArea m n area ≡ damaged p). e ∙ rw (j, d))
-      (λ (j : judgedOf size offset key most (length area) ≡ Fine m n) (c : Content) (w : readArea m n area ≡ whole c).
+      let e : numberOf a ≡ numberOf (getAtOf m area address lent .answer) = ap numberOf (k .answers) in
+      first-two m area (row 9 (Nowhere m area address) (row 8 (LyingTooLong m area address lent) done))
+      (numberOf a) (λ (o : judgedOf m (length area) ≡ judged.Outside). e ∙ rw o)
+      (λ (j : judgedOf m (length area) ≡ Fine m n) (p : ℕ) (d : readArea m n area ≡ damaged p). e ∙ rw (j, d))
+      (λ (j : judgedOf m (length area) ≡ Fine m n) (c : Content) (w : readArea m n area ≡ whole c).
       rw e
-      (last-two (Lies m (baseOf c) address (c .filled)) lent (Nowhere size offset key most area address) (LyingTooLong size offset key most area address lent)
+      (last-two (Lies m (baseOf c) address (c .filled)) lent (Nowhere m area address) (LyingTooLong m area address lent)
       (of-content (λ (d : Content). (r : List ℕ) → Lies m (baseOf d) address (d .filled) r → ⊥) c w)
       (of-content (λ (d : Content). (r : List ℕ) × Lies m (baseOf d) address (d .filled) r × (length lent < length r)) c w) answer.NoRecord
-      (getAtOf size offset key most area address lent) (get-at-finds size offset key most area m n c j w address lent)
-      (lies-either (judged-least size offset key most area m n c j w) c w address)))
+      (getAtOf m area address lent) (get-at-finds m area n c j w address lent)
+      (lies-either (judged-least m area n j) c w address)))

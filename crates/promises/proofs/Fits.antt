@@ -17,17 +17,15 @@ use Rattle.requests.specs.Changing.{Outcome, editOf}
 use Rattle.requests.specs.Accepted.{Accepted}
 
 -- Bytes whose length is not refused are lent as the laws ask.
-pub judged-lent : (size offset key most n : ℕ) (m : Measures) (area : List ℕ) → judgedOf size offset key most (length area) ≡ Fine m n → Octets area → Lent m n area
-judged-lent size offset key most n m area j o =
-    let a = accepted-fits size offset key most (length area) n m j in
-    record { octets = o; fits = rw (a .0) (a .1) }
+pub judged-lent : (m : Measures) (n : ℕ) (area : List ℕ) → judgedOf m (length area) ≡ Fine m n → Octets area → Lent m n area
+judged-lent m n area j o = record { octets = o; fits = accepted-fits m (length area) n j }
 
 -- An edit of a change that its interval can bear fits the area.
-pub proper-fits : (size offset key most n : ℕ) (m : Measures) (area : List ℕ) (c : Content) → Octets area → judgedOf size offset key most (length area) ≡ Fine m n
+pub proper-fits : (m : Measures) (n : ℕ) (area : List ℕ) (c : Content) → Octets area → judgedOf m (length area) ≡ Fine m n
     → readArea m n area ≡ whole c → (ch : Change) → Proper m (c .filled) (editOf m c ch) → Fitting m n area c (editOf m c ch)
-proper-fits size offset key most n m area c b j w ch p = record { lent = judged-lent size offset key most n m area j b; reads = w; proper = p }
+proper-fits m n area c b j w ch p = record { lent = judged-lent m n area j b; reads = w; proper = p }
 
 -- So an accepted change of an area of bytes fits.
-pub accepted-fits-area : (size offset key most : ℕ) (area : List ℕ) (ch : Change) (o : Outcome) → Octets area → (a : Accepted size offset key most area ch o)
-    → Fitting (a .m) (a .n) area (a .c) (editOf (a .m) (a .c) ch)
-accepted-fits-area size offset key most area ch o b a = proper-fits size offset key most (a .n) (a .m) area (a .c) b (a .judges) (a .reads) ch (a .proper)
+pub accepted-fits-area : (m : Measures) (area : List ℕ) (ch : Change) (o : Outcome) → Octets area → (a : Accepted m area ch o)
+    → Fitting m (a .n) area (a .c) (editOf m (a .c) ch)
+accepted-fits-area m area ch o b a = proper-fits m (a .n) area (a .c) b (a .judges) (a .reads) ch (a .proper)

@@ -12,7 +12,7 @@ use borrow.Author.Tests.{eqb-true, eqb-false, ltb-true}
 use Rattle.fields.specs.Bytes.{Octets}
 use Rattle.fields.specs.Lists.{every}
 use Rattle.fields.proofs.Choices.{both-split, false-true}
-use Rattle.measures.specs.Judgement.{judgedOf, measures, countOf, widthFor}
+use Rattle.measures.specs.Judgement.{judgedOf, countOf, widthFor}
 use Rattle.measures.specs.declared.Measures.{Measures}
 use Rattle.measures.specs.declared.Judged.the-variants.{Fine}
 use Rattle.measures.proofs.Fine.{accepted, fits-small}
@@ -55,54 +55,51 @@ use Rattle.promises.proofs.History.{given-is}
 
 -- Whatever two areas hold elsewhere, sound or not: where they are equally long, have the same index record, and the same bytes in the interval that it leads
 -- the key to, a get by that key answers the same of both and leaves the same output.
-pub get-local : (size offset key most : ℕ) (area area' wanted : List ℕ) → SameFor size offset key most area area' wanted
-    → (lent : List ℕ) (a b : Answer) (after after' out out' : List ℕ) → Allowed size offset key most area (get wanted lent) a after out
-    → Allowed size offset key most area' (get wanted lent) b after' out' → (a ≡ b) × (out ≡ out')
-get-local size offset key most area area' wanted s lent a b after after' out out' k l =
-    let e : getOf size offset key most area' wanted lent ≡ getOf size offset key most area wanted lent =
-    get-of-elsewhere size offset key most area area' wanted lent (s .long) (s .index) (s .there) in
+pub get-local : (m : Measures) (area area' wanted : List ℕ) → SameFor m area area' wanted
+    → (lent : List ℕ) (a b : Answer) (after after' out out' : List ℕ) → Allowed m area (get wanted lent) a after out
+    → Allowed m area' (get wanted lent) b after' out' → (a ≡ b) × (out ≡ out')
+get-local m area area' wanted s lent a b after after' out out' k l =
+    let e : getOf m area' wanted lent ≡ getOf m area wanted lent =
+    get-of-elsewhere m area area' wanted lent (s .long) (s .index) (s .there) in
     (k .1 .answers ∙ ap (λ (g : Given). g .answer) (sym e) ∙ sym (l .1 .answers), k .1 .outputs ∙ ap (λ (g : Given). g .output) (sym e) ∙ sym (l .1 .outputs))
 
-module _ (size offset key most : ℕ) (area : List ℕ) where
-  abbrev m : Measures
-  m = measures size offset key most
-
+module _ (m : Measures) (area : List ℕ) where
   abbrev n : ℕ
-  n = countOf size (length area)
+  n = countOf (m .size) (length area)
 
   -- ---- on a sound area
 
-  module _ (c : Content) (s : Sound size offset key most m n area c) (wanted : List ℕ) (l : length wanted ≡ key) where
+  module _ (c : Content) (s : Sound m n area c) (wanted : List ℕ) (l : length wanted ≡ m .key) where
     abbrev all : List (List ℕ)
     all = recordsOf (c .filled)
 
     -- a record has the key in the key's interval exactly where it has it in the whole list
-    same-with : withKey m wanted (recordsOf (c .filled)) ≡ withKey m wanted (recordsThere size offset key most area wanted)
-    same-with = there-is-all m n area c (s .reads) wanted (judged-key size offset key most area m n c (s .judges) (s .reads)) (s .octets) l
+    same-with : withKey m wanted (recordsOf (c .filled)) ≡ withKey m wanted (recordsThere m area wanted)
+    same-with = there-is-all m n area c (s .reads) wanted (judged-key m area n (s .judges)) (s .octets) l
 
-    keyed-all : (r : List ℕ) → Keyed m wanted (recordsThere size offset key most area wanted) r → Keyed m wanted (recordsOf (c .filled)) r
+    keyed-all : (r : List ℕ) → Keyed m wanted (recordsThere m area wanted) r → Keyed m wanted (recordsOf (c .filled)) r
     keyed-all r k =
-        among-keyed m wanted (recordsOf (c .filled)) r (rw same-with (keyed-among m wanted (recordsThere size offset key most area wanted) r k))
+        among-keyed m wanted (recordsOf (c .filled)) r (rw same-with (keyed-among m wanted (recordsThere m area wanted) r k))
 
-    keyed-there : (r : List ℕ) → Keyed m wanted (recordsOf (c .filled)) r → Keyed m wanted (recordsThere size offset key most area wanted) r
+    keyed-there : (r : List ℕ) → Keyed m wanted (recordsOf (c .filled)) r → Keyed m wanted (recordsThere m area wanted) r
     keyed-there r k =
-        among-keyed m wanted (recordsThere size offset key most area wanted) r (rw (← same-with) (keyed-among m wanted (recordsOf (c .filled)) r k))
+        among-keyed m wanted (recordsThere m area wanted) r (rw (← same-with) (keyed-among m wanted (recordsOf (c .filled)) r k))
 
     -- On a sound area the rows of a get by key speak of all records.
-    pub rows-whole : RowsWhole size offset key most area wanted
+    pub rows-whole : RowsWhole m area wanted
     rows-whole =
         record {
-          index = λ (d : DamagedIndex size offset key most area). false-true (sym d ∙ sound-apart m n area c (s .reads) .index);
-          there = λ (d : DamagedThere size offset key most area wanted). false-true (sym d ∙ there-sound m n area c (s .reads) wanted);
+          index = λ (d : DamagedIndex m area). false-true (sym d ∙ sound-apart m n area c (s .reads) .index);
+          there = λ (d : DamagedThere m area wanted). false-true (sym d ∙ there-sound m n area c (s .reads) wanted);
           absent = (
-            λ (x : AbsentThere size offset key most area wanted). (c, s .reads, λ (r : List ℕ) (k : Keyed m wanted all r). x r (keyed-there r k)),
-            λ (h : Absent size offset key most area wanted) (r : List ℕ) (k : Keyed m wanted (recordsThere size offset key most area wanted) r).
-                held size offset key most area (λ (d : Content). (x : List ℕ) → Keyed m wanted (recordsOf (d .filled)) x → ⊥) c (s .reads) h r (keyed-all r k),
+            λ (x : AbsentThere m area wanted). (c, s .reads, λ (r : List ℕ) (k : Keyed m wanted all r). x r (keyed-there r k)),
+            λ (h : Absent m area wanted) (r : List ℕ) (k : Keyed m wanted (recordsThere m area wanted) r).
+                held m area (λ (d : Content). (x : List ℕ) → Keyed m wanted (recordsOf (d .filled)) x → ⊥) c (s .reads) h r (keyed-all r k),
           );
           too-long = λ (out : List ℕ). (
-            λ (x : TooLongThere size offset key most area wanted out). (c, s .reads, (x .0, keyed-all (x .0) (x .1), x .2)),
-            λ (h : KeyedTooLong size offset key most area wanted out).
-                let x = held size offset key most area (λ (d : Content). (r : List ℕ) × Keyed m wanted (recordsOf (d .filled)) r × (length out < length r)) c (s .reads) h in
+            λ (x : TooLongThere m area wanted out). (c, s .reads, (x .0, keyed-all (x .0) (x .1), x .2)),
+            λ (h : KeyedTooLong m area wanted out).
+                let x = held m area (λ (d : Content). (r : List ℕ) × Keyed m wanted (recordsOf (d .filled)) r × (length out < length r)) c (s .reads) h in
                 (x .0, keyed-there (x .0) (x .1), x .2),
           );
         }
@@ -119,21 +116,21 @@ module _ (size offset key most : ℕ) (area : List ℕ) where
     some : 1 ≤ m .least
     some = omega (arith, lent .fits .key-some, lent .fits .key-inside)
 
-    small : size ≤ 32768
+    small : m .size ≤ 32768
     small = fits-small (lent .fits)
 
-    fine : judgedOf size offset key most (length area) ≡ Fine m n
-    fine = accepted size offset key most (length area) n (lent .fits)
+    fine : judgedOf m (length area) ≡ Fine m n
+    fine = accepted m (length area) n (lent .fits)
 
     -- the index record is unsound exactly where no layout explains it
-    index-unlaid : DamagedIndex size offset key most area ↔ ((ix : Meaning) → IndexInterval m n ix (indexIn m area) → ⊥)
+    index-unlaid : DamagedIndex m area ↔ ((ix : Meaning) → IndexInterval m n ix (indexIn m area) → ⊥)
     index-unlaid = (
-      λ (d : DamagedIndex size offset key most area) (ix : Meaning) (i : IndexInterval m n ix (indexIn m area)).
+      λ (d : DamagedIndex m area) (ix : Meaning) (i : IndexInterval m n ix (indexIn m area)).
           false-true (sym d ∙ index-sound m area some small n (lent .fits .few) ix i),
       λ (none : (ix : Meaning) → IndexInterval m n ix (indexIn m area) → ⊥). go none (indexSound m n area) refl,
     )
       where
-        go : ((ix : Meaning) → IndexInterval m n ix (indexIn m area) → ⊥) → (t : Bool) → indexSound m n area ≡ t → DamagedIndex size offset key most area
+        go : ((ix : Meaning) → IndexInterval m n ix (indexIn m area) → ⊥) → (t : Bool) → indexSound m n area ≡ t → DamagedIndex m area
         go none true i = absurd (none _ (index-laid m n area lent i))
         go none false i = i
 
@@ -142,17 +139,17 @@ module _ (size offset key most : ℕ) (area : List ℕ) where
 
       -- the interval that a key leads to is that of the entry to which it belongs, and its role is between that entry's bounds
       home-there : (es pre : List Entry) (sep : List ℕ) (k : ℕ) (post : List Entry) → es ≡ pre ++ (entry sep k ∷ post) → length pre ≡ leadsTo wanted es
-          → (ci : List ℕ) → soundFor m es wanted ci ≡ soundUsed m (boundBefore key [] pre) (bound key sep) ci
+          → (ci : List ℕ) → soundFor m es wanted ci ≡ soundUsed m (boundBefore (m .key) [] pre) (bound (m .key) sep) ci
       unfolding soundFor
       home-there es pre sep k post e p ci = rw (before-there wanted es pre (entry sep k) post e p, entry-there wanted es pre (entry sep k) post e p)
 
       -- where the index record is sound, a key of the right length has a home
-      home-of : indexSound m n area ≡ true → length wanted ≡ key → KeyHome m n area wanted (numberFor m n area wanted)
+      home-of : indexSound m n area ≡ true → length wanted ≡ m .key → KeyHome m n area wanted (numberFor m n area wanted)
       home-of i l =
           let es : List Entry = entriesFor m n area in
           let x = index-laid m n area lent i in
-          let r = rules-apart size key n [] [] _ (x .rules) in
-          let h = lead-base key wanted l b es (lent .fits .key-some) (r .rising) (r .closing) in
+          let r = rules-apart (m .size) (m .key) n [] [] _ (x .rules) in
+          let h = lead-base (m .key) wanted l b es (lent .fits .key-some) (r .rising) (r .closing) in
           let q : h .entry .num ≡ numberFor m n area wanted = sym (ap (λ (e : Entry). e .num) (entry-there wanted es (h .pre) (h .entry) (h .post) (h .split) (h .place))) in
           record {
             long = l;
@@ -168,13 +165,13 @@ module _ (size offset key most : ℕ) (area : List ℕ) where
 
       module _ (k : ℕ) (h : KeyHome m n area wanted k) where
         abbrev low : List ℕ
-        low = boundBefore key [] (h .pre)
+        low = boundBefore (m .key) [] (h .pre)
 
         abbrev high : List ℕ
-        high = bound key (h .sep)
+        high = bound (m .key) (h .sep)
 
-        rules : Keeps size key n [] [] (h .meaning)
-        rules = rules-apart size key n [] [] (h .meaning) (h .index .rules)
+        rules : Keeps (m .size) (m .key) n [] [] (h .meaning)
+        rules = rules-apart (m .size) (m .key) n [] [] (h .meaning) (h .index .rules)
 
         -- the index record is sound, and read as its meaning,
         home-index : indexSound m n area ≡ true
@@ -186,7 +183,7 @@ module _ (size offset key most : ℕ) (area : List ℕ) where
         place : length (h .pre) ≡ leadsTo wanted (h .meaning .entries)
         place =
             sym
-            (lead-only key wanted (h .long) b [] (h .meaning .entries) (length (h .pre)) (rules .rising)
+            (lead-only (m .key) wanted (h .long) b [] (h .meaning .entries) (length (h .pre)) (rules .rising)
             (record { pre = h .pre; entry = entry (h .sep) k; post = h .post; split = h .split; place = refl; beyond = h .after; within = h .within }))
 
         -- it leads the key to its home,
@@ -209,14 +206,14 @@ module _ (size offset key most : ℕ) (area : List ℕ) where
         home-sound : (rs : List (List ℕ)) → HomeLaid m n area wanted k h rs → soundFor m (entriesFor m n area) wanted (intervalFor m n area wanted) ≡ true
         home-sound rs u = home-judged ∙ laid-used m (dataIn m area k) some small low high rs u
 
-        home-reads : (rs : List (List ℕ)) → HomeLaid m n area wanted k h rs → recordsThere size offset key most area wanted ≡ rs
+        home-reads : (rs : List (List ℕ)) → HomeLaid m n area wanted k h rs → recordsThere m area wanted ≡ rs
         home-reads rs u = ap (λ (j : ℕ). recordsIn (dataIn m area j)) number-is ∙ laid-used-reads m (dataIn m area k) some small low high rs u
 
       -- ---- where the home is fine
 
       -- A home that the tests find sound is fine, as the records that are read there: so `FineHome` asks for no more than they do.
-      pub fine-home : indexSound m n area ≡ true → length wanted ≡ key → soundFor m (entriesFor m n area) wanted (intervalFor m n area wanted) ≡ true
-          → FineHome m n area wanted (recordsThere size offset key most area wanted)
+      pub fine-home : indexSound m n area ≡ true → length wanted ≡ m .key → soundFor m (entriesFor m n area) wanted (intervalFor m n area wanted) ≡ true
+          → FineHome m n area wanted (recordsThere m area wanted)
       fine-home i l s =
           let k : ℕ = numberFor m n area wanted in
           let h = home-of i l in
@@ -225,23 +222,23 @@ module _ (size offset key most : ℕ) (area : List ℕ) where
       -- A get by key finds exactly what the key's own interval says, whatever damage lies elsewhere: where one of its records has the key, that is handed out
       -- at the output's front and the output stays behind it, or its length is told where the output is too short; where none has it, that is told.
       pub get-there-finds : (rs : List (List ℕ)) → FineHome m n area wanted rs → (lent : List ℕ) (a : Answer) (after out : List ℕ)
-          → Allowed size offset key most area (get wanted lent) a after out → Finds (Keyed m wanted rs) answer.Absent lent (record { answer = a; output = out })
+          → Allowed m area (get wanted lent) a after out → Finds (Keyed m wanted rs) answer.Absent lent (record { answer = a; output = out })
       get-there-finds rs f lent a after out w =
           let h = f .home in
-          rw (given-is (getOf size offset key most area wanted lent) a out (w .1), ← home-reads (f .interval) h rs (f .laid))
-          (there-finds size offset key most area m n fine wanted lent (home-index (f .interval) h) (h .long) (home-sound (f .interval) h rs (f .laid)))
+          rw (given-is (getOf m area wanted lent) a out (w .1), ← home-reads (f .interval) h rs (f .laid))
+          (there-finds m area n fine wanted lent (home-index (f .interval) h) (h .long) (home-sound (f .interval) h rs (f .laid)))
 
       -- ---- where it is damaged
 
       -- a home that the tests find unsound is damaged, and the other way round
-      damaged-home : indexSound m n area ≡ true → length wanted ≡ key → DamagedThere size offset key most area wanted
+      damaged-home : indexSound m n area ≡ true → length wanted ≡ m .key → DamagedThere m area wanted
           → DamagedHome m n area wanted (numberFor m n area wanted)
       damaged-home i l d =
           let k : ℕ = numberFor m n area wanted in
           let h = home-of i l in
           record { home = h; unsound = λ (rs : List (List ℕ)) (u : HomeLaid m n area wanted k h rs). false-true (sym d ∙ home-sound k h rs u) }
 
-      damaged-there : (k : ℕ) → DamagedHome m n area wanted k → DamagedThere size offset key most area wanted
+      damaged-there : (k : ℕ) → DamagedHome m n area wanted k → DamagedThere m area wanted
       damaged-there k d = home-judged k (d .home) ∙ go (soundUsed m (low k (d .home)) (high k (d .home)) (dataIn m area k)) refl
         where
           go : (t : Bool) → soundUsed m (low k (d .home)) (high k (d .home)) (dataIn m area k) ≡ t
@@ -253,53 +250,52 @@ module _ (size offset key most : ℕ) (area : List ℕ) where
 
     module _ (wanted : List ℕ) (b : Octets wanted) (out : List ℕ) where
       abbrev got : Given
-      got = getOf size offset key most area wanted out
+      got = getOf m area wanted out
 
       home-told : (k : ℕ) → DamagedHome m n area wanted k → got ≡ refused (Damaged (k + 1)) out
       home-told k d =
           let h = d .home in
-          get-there-damaged size offset key most area m n fine wanted out (home-index wanted b k h) (h .long) (damaged-there wanted b k d)
+          get-there-damaged m area n fine wanted out (home-index wanted b k h) (h .long) (damaged-there wanted b k d)
           ∙ ap (λ (j : ℕ). refused (Damaged (j + 1)) out) (number-is wanted b k h)
 
       -- 2 is told of the index record, or of the key's interval where the index record is sound and the key's length right
-      told-two : (k : ℕ) → First (getTable size offset key most area wanted out) k → k ≡ 2
-          → DamagedIndex size offset key most area ⊎ ((indexSound m n area ≡ true) × (length wanted ≡ key) × DamagedThere size offset key most area wanted)
+      told-two : (k : ℕ) → First (getTable m area wanted out) k → k ≡ 2
+          → DamagedIndex m area ⊎ ((indexSound m n area ≡ true) × (length wanted ≡ m .key) × DamagedThere m area wanted)
       told-two k (inl x) z = absurd (omega (arith, x .1))
       told-two k (inr (o, inl x)) z = inl (x .0)
       told-two k (inr (o, inr (i, inl x))) z = absurd (omega (arith, x .1))
-      told-two k (inr (o, inr (i, inr (g, inl x)))) z = inr (sound (indexSound m n area) refl, right (eqb (length wanted) key) refl, x .0)
+      told-two k (inr (o, inr (i, inr (g, inl x)))) z = inr (sound (indexSound m n area) refl, right (eqb (length wanted) (m .key)) refl, x .0)
         where
           sound : (t : Bool) → indexSound m n area ≡ t → indexSound m n area ≡ true
           sound true e = e
           sound false e = absurd (i e)
 
-          right : (t : Bool) → eqb (length wanted) key ≡ t → length wanted ≡ key
-          right true e = eqb-true (length wanted) key e
-          right false e = absurd (g (eqb-false (length wanted) key e))
+          right : (t : Bool) → eqb (length wanted) (m .key) ≡ t → length wanted ≡ m .key
+          right true e = eqb-true (length wanted) (m .key) e
+          right false e = absurd (g (eqb-false (length wanted) (m .key) e))
       told-two k (inr (o, inr (i, inr (g, inr (d, inl x))))) z = absurd (omega (arith, x .1))
       told-two k (inr (o, inr (i, inr (g, inr (d, inr (e, inl x)))))) z = absurd (omega (arith, x .1))
       told-two k (inr (o, inr (i, inr (g, inr (d, inr (e, inr x)))))) z = absurd (omega (arith, x))
 
       -- Damage is told to a get by key where it is: place 0 exactly if no index layout fits; else the place of the interval to which the key belongs, exactly if no
       -- layout explains it in its role. Damage of any other interval is not told to it.
-      pub get-damage-placed : (a : Answer) (after put : List ℕ) → Allowed size offset key most area (get wanted out) a after put
+      pub get-damage-placed : (a : Answer) (after put : List ℕ) → Allowed m area (get wanted out) a after put
           → ((a ≡ Damaged 0) ↔ ((ix : Meaning) → IndexInterval m n ix (indexIn m area) → ⊥)) × ((k : ℕ) → (a ≡ Damaged (k + 1)) ↔ DamagedHome m n area wanted k)
       get-damage-placed a after put w = ((index-told, index-back), λ (k : ℕ). (home-here k, home-back k))
         where
           is : a ≡ got .answer
           is = w .1 .answers
 
-          exact : First (getTable size offset key most area wanted out) (numberOf a)
-          exact = get-exact size offset key most area wanted out a put (w .1)
+          exact : First (getTable m area wanted out) (numberOf a)
+          exact = get-exact m area wanted out a put (w .1)
 
-          by-index : DamagedIndex size offset key most area → a ≡ Damaged 0
-          by-index d = is ∙ ap (λ (g : Given). g .answer) (get-index-damaged size offset key most area m n fine wanted out d)
+          by-index : DamagedIndex m area → a ≡ Damaged 0
+          by-index d = is ∙ ap (λ (g : Given). g .answer) (get-index-damaged m area n fine wanted out d)
 
           by-home : (k : ℕ) → DamagedHome m n area wanted k → a ≡ Damaged (k + 1)
           by-home k h = is ∙ ap (λ (g : Given). g .answer) (home-told k h)
 
-          two-told : (p : ℕ) → a ≡ Damaged p
-              → DamagedIndex size offset key most area ⊎ ((indexSound m n area ≡ true) × (length wanted ≡ key) × DamagedThere size offset key most area wanted)
+          two-told : (p : ℕ) → a ≡ Damaged p → DamagedIndex m area ⊎ ((indexSound m n area ≡ true) × (length wanted ≡ m .key) × DamagedThere m area wanted)
           two-told p e = told-two (numberOf a) exact (ap numberOf e)
 
           same-place : (p q : ℕ) → a ≡ Damaged p → a ≡ Damaged q → p ≡ q
@@ -308,7 +304,7 @@ module _ (size offset key most : ℕ) (area : List ℕ) where
           index-told : a ≡ Damaged 0 → (ix : Meaning) → IndexInterval m n ix (indexIn m area) → ⊥
           index-told e = go (two-told 0 e)
             where
-              go : DamagedIndex size offset key most area ⊎ ((indexSound m n area ≡ true) × (length wanted ≡ key) × DamagedThere size offset key most area wanted)
+              go : DamagedIndex m area ⊎ ((indexSound m n area ≡ true) × (length wanted ≡ m .key) × DamagedThere m area wanted)
                   → (ix : Meaning) → IndexInterval m n ix (indexIn m area) → ⊥
               go (inl d) = index-unlaid .0 d
               go (inr x) = absurd (omega (arith, same-place 0 (numberFor m n area wanted + 1) e (by-home (numberFor m n area wanted) (damaged-home wanted b (x .0) (x .1) (x .2)))))
@@ -319,7 +315,7 @@ module _ (size offset key most : ℕ) (area : List ℕ) where
           home-here : (k : ℕ) → a ≡ Damaged (k + 1) → DamagedHome m n area wanted k
           home-here k e = go (two-told (k + 1) e)
             where
-              go : DamagedIndex size offset key most area ⊎ ((indexSound m n area ≡ true) × (length wanted ≡ key) × DamagedThere size offset key most area wanted)
+              go : DamagedIndex m area ⊎ ((indexSound m n area ≡ true) × (length wanted ≡ m .key) × DamagedThere m area wanted)
                   → DamagedHome m n area wanted k
               go (inl d) = absurd (omega (arith, same-place (k + 1) 0 e (by-index d)))
               go (inr x) =

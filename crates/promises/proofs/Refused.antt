@@ -59,12 +59,12 @@ change-opened (holding m c) area ch n = by-length (lengthFine m ch) n
     by-length false n = refl
 
 -- A refused change leaves the area, whichever result its contract allows.
-pub change-harmless : (size offset key most : ℕ) (area : List ℕ) (ch : Change) (a : Answer) (after : List ℕ) → Makes (changeOf size offset key most area ch) a after
+pub change-harmless : (m : Measures) (area : List ℕ) (ch : Change) (a : Answer) (after : List ℕ) → Makes (changeOf m area ch) a after
     → Refusal a → after ≡ area
 unfolding changeOf
-change-harmless size offset key most area ch a after k n =
+change-harmless m area ch a after k n =
     k .leaves
-    ∙ change-opened (openingOf size offset key most area) area ch (λ (z : numberOf (changeOf size offset key most area ch .answer) ≡ 0). n (ap numberOf (k .answers) ∙ z))
+    ∙ change-opened (openingOf m area) area ch (λ (z : numberOf (changeOf m area ch .answer) ≡ 0). n (ap numberOf (k .answers) ∙ z))
 
 -- ---- gets
 
@@ -111,13 +111,13 @@ given g out s a after k n = k .outputs ∙ s (λ (z : numberOf (g .answer) ≡ 0
 -- ---- all of them
 
 -- A request that is refused has changed no byte of the area or of the output, whichever result its contract allows.
-pub refused-harmless : (size offset key most : ℕ) (area : List ℕ) → RefusedHarmless size offset key most area
+pub refused-harmless : (m : Measures) (area : List ℕ) → RefusedHarmless m area
 unfolding getOf getAtOf
-refused-harmless size offset key most area =
+refused-harmless m area =
     record {
-      insert = λ (r : List ℕ). change-harmless size offset key most area (insert r);
-      update = λ (r : List ℕ). change-harmless size offset key most area (update r);
-      erase = λ (wanted : List ℕ). change-harmless size offset key most area (erase wanted);
-      get = λ (wanted out : List ℕ). given (getOf size offset key most area wanted out) out (get-judged (judgedOf size offset key most (length area)) area wanted out);
-      get-at = λ (address : ℕ) (out : List ℕ). given (getAtOf size offset key most area address out) out (get-at-opened (openingOf size offset key most area) address out);
+      insert = λ (r : List ℕ). change-harmless m area (insert r);
+      update = λ (r : List ℕ). change-harmless m area (update r);
+      erase = λ (wanted : List ℕ). change-harmless m area (erase wanted);
+      get = λ (wanted out : List ℕ). given (getOf m area wanted out) out (get-judged (judgedOf m (length area)) area wanted out);
+      get-at = λ (address : ℕ) (out : List ℕ). given (getAtOf m area address out) out (get-at-opened (openingOf m area) address out);
     }

@@ -6,7 +6,7 @@ use mathlib.Core.List.{List}
 use mathlib.Core.Logic.{inl, inr, _↔_}
 use lib.ListN.{length}
 use native.Mathlib.Omega.{arith}
-use Rattle.measures.specs.Judgement.{measures, countOf}
+use Rattle.measures.specs.Judgement.{countOf}
 use Rattle.measures.specs.declared.Measures.{Measures}
 use Rattle.sections.specs.Parts.{partsSize}
 use Rattle.sections.specs.Layout.{LaidOut}
@@ -32,30 +32,27 @@ first-exact : (number k : ℕ) (condition : Type 0) (later : Table) → First (r
 first-exact number k condition later (inl x) other = (λ (e : k ≡ number). x .0, λ (y : condition). x .1)
 first-exact number k condition later (inr x) other = (λ (e : k ≡ number). absurd (other (x .1) e), λ (y : condition). absurd (x .0 y))
 
-module _ (size offset key most : ℕ) (area : List ℕ) (c : Content) (s : Sound size offset key most (measures size offset key most) (countOf size (length area)) area c)
-    (ch : Change) (a : Answer) (after : List ℕ) (k : ChangeAllowed size offset key most area ch a after) (f : LengthFine (measures size offset key most) ch)
-    (l : Legal (measures size offset key most) ch (recordsOf (c .filled))) where
-  rows : First (row 6 (WantOfInterval size offset key most area ch) (row 7 (WantOfRoom size offset key most area ch) done)) (numberOf a)
+module _ (m : Measures) (area : List ℕ) (c : Content) (s : Sound m (countOf (m .size) (length area)) area c) (ch : Change) (a : Answer) (after : List ℕ) (k : ChangeAllowed m area ch a after) (f : LengthFine m ch)
+    (l : Legal m ch (recordsOf (c .filled))) where
+  rows : First (row 6 (WantOfInterval m area ch) (row 7 (WantOfRoom m area ch) done)) (numberOf a)
   rows =
-      let m : Measures = measures size offset key most in
       let t : lengthFine m ch ≡ true = fine-tested m ch f in
-      let p = way-planned size offset key most area m (countOf size (length area)) c (s .judges) (s .reads) ch t l in
-      rw (change-makes size offset key most area after ch a k .answers, p) (plan-rows size offset key most area c s ch (change-octets size offset key most area after ch a k) t l)
+      let p = way-planned m area (countOf (m .size) (length area)) c (s .judges) (s .reads) ch t l in
+      rw (change-makes m area after ch a k .answers, p) (plan-rows m area c s ch (change-octets m area after ch a k) t l)
 
   -- A change that may be made is refused for want of an interval exactly if the fewest intervals that hold the records need more new ones than are free.
-  pub want-of-interval : (numberOf a ≡ 6) ↔ WantOfInterval size offset key most area ch
-  want-of-interval = first-exact 6 (numberOf a) (WantOfInterval size offset key most area ch) (row 7 (WantOfRoom size offset key most area ch) done) rows other
+  pub want-of-interval : (numberOf a ≡ 6) ↔ WantOfInterval m area ch
+  want-of-interval = first-exact 6 (numberOf a) (WantOfInterval m area ch) (row 7 (WantOfRoom m area ch) done) rows other
     where
-      other : First (row 7 (WantOfRoom size offset key most area ch) done) (numberOf a) → numberOf a ≡ 6 → ⊥
+      other : First (row 7 (WantOfRoom m area ch) done) (numberOf a) → numberOf a ≡ 6 → ⊥
       other (inl x) e = omega (arith, x .1)
       other (inr x) e = omega (arith, x .1)
 
   -- Otherwise it is refused for want of room exactly if it divides and the index record's bytes, counted out, are more than an interval has for them.
-  pub want-of-room : (WantOfInterval size offset key most area ch → ⊥) → (numberOf a ≡ 7) ↔ WantOfRoom size offset key most area ch
-  want-of-room not = first-exact 7 (numberOf a) (WantOfRoom size offset key most area ch) done (go rows) (λ (z : numberOf a ≡ 0) (e : numberOf a ≡ 7). omega arith)
+  pub want-of-room : (WantOfInterval m area ch → ⊥) → (numberOf a ≡ 7) ↔ WantOfRoom m area ch
+  want-of-room not = first-exact 7 (numberOf a) (WantOfRoom m area ch) done (go rows) (λ (z : numberOf a ≡ 0) (e : numberOf a ≡ 7). omega arith)
     where
-      go : First (row 6 (WantOfInterval size offset key most area ch) (row 7 (WantOfRoom size offset key most area ch) done)) (numberOf a)
-          → First (row 7 (WantOfRoom size offset key most area ch) done) (numberOf a)
+      go : First (row 6 (WantOfInterval m area ch) (row 7 (WantOfRoom m area ch) done)) (numberOf a) → First (row 7 (WantOfRoom m area ch) done) (numberOf a)
       go (inl x) = absurd (not (x .0))
       go (inr x) = x .1
 

@@ -52,12 +52,12 @@ edit-entry m c (insert r) = refl
 edit-entry m c (update r) = refl
 edit-entry m c (erase wanted) = refl
 
-module _ (size offset key most : ℕ) (m : Measures) (n : ℕ) (area : List ℕ) (c : Content) (s : Sound size offset key most m n area c) where
+module _ (m : Measures) (n : ℕ) (area : List ℕ) (c : Content) (s : Sound m n area c) where
   some : 1 ≤ m .key
-  some = judged-key size offset key most area m n c (s .judges) (s .reads)
+  some = judged-key m area n (s .judges)
 
   inside : m .offset + m .key ≤ m .least
-  inside = judged-inside size offset key most area m n c (s .judges) (s .reads)
+  inside = judged-inside m area n (s .judges)
 
   pub led : (ch : Change) → lengthFine m ch ≡ true → Octets (bytesOf ch) → Led m area (keyIn m ch) (c .filled) (leadsTo (keyIn m ch) (entriesOf (c .filled)))
   led = change-led m n area c (s .reads) some inside
@@ -82,7 +82,7 @@ module _ (size offset key most : ℕ) (m : Measures) (n : ℕ) (area : List ℕ)
 
   -- it fits,
   pub way-fits : (ch : Change) → lengthFine m ch ≡ true → Octets (bytesOf ch) → Legal m ch (recordsOf (c .filled)) → Fitting m n area c (editOf m c ch)
-  way-fits ch f o h = proper-fits size offset key most n m area c (s .octets) (s .judges) (s .reads) ch (proper ch f o h)
+  way-fits ch f o h = proper-fits m n area c (s .octets) (s .judges) (s .reads) ch (proper ch f o h)
 
   -- has its record at one place where it divides into three,
   pub way-placed : (ch : Change) → lengthFine m ch ≡ true → Octets (bytesOf ch) → Legal m ch (recordsOf (c .filled))

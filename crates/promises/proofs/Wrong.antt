@@ -11,6 +11,7 @@ use Rattle.fields.specs.Lists.{sum, every}
 use Rattle.fields.proofs.Choices.{false-true}
 use Rattle.fields.proofs.Octets.{all-octets}
 use Rattle.measures.specs.Judgement.{countOf}
+use Rattle.measures.specs.declared.Measures.{Measures}
 use Rattle.measures.proofs.Fine.{accepted, accepted-fits, fits-count}
 use Rattle.room.specs.Room.{rdfCount, push, groups, need, fits}
 use Rattle.interval.specs.Records.{keyOf}
@@ -46,7 +47,7 @@ use Rattle.division.specs.Division.{counts}
 use Rattle.change.specs.Parts.{divided}
 use Rattle.change.specs.Written.{carrying, numbersOf}
 use Rattle.requests.specs.Records.{withKey}
-use Rattle.promises.specs.Instances.{alone, eight, ninth, roomy, ten, shorter, even, high, brimful, certificate, certificates}
+use Rattle.promises.specs.Instances.{alone, allKey, eight, ninth, roomy, ten, shorter, even, high, brimful, certificate, certificates}
 use Rattle.promises.proofs.Wants.{want-of-interval, want-of-room}
 use Rattle.interval.proofs.Form.{interval-reads-back}
 use Rattle.promises.specs.Wrong.{run, Breaks, handedBy, rightly, refusesAll, callsDamaged, alwaysFull, fullTooSoon, crampedAtHome}
@@ -57,14 +58,14 @@ use Rattle.promises.proofs.Instances.{six-just-not, home-not-seven, sev
 -- ---- the area
 
 -- The small area is sound, so that the promises speak of it.
-pub example-sound : Sound 512 0 8 60 depot 2 bytes held
-example-sound = record { octets = some-lent .octets; judges = accepted 512 0 8 60 (length bytes) 2 some-fits; reads = some-sound }
+pub example-sound : Sound depot 2 bytes held
+example-sound = record { octets = some-lent .octets; judges = accepted depot (length bytes) 2 some-fits; reads = some-sound }
 
 two : countOf 512 (length bytes) ≡ 2
-two = fits-count 512 0 8 60 (length bytes) 2 some-fits
+two = fits-count depot (length bytes) 2 some-fits
 
 -- What it holds, it holds of its content.
-held-there : (P : Content → Type 0) → Holding 512 0 8 60 bytes P → P held
+held-there : (P : Content → Type 0) → Holding depot bytes P → P held
 held-there P h =
     let w : readArea depot 2 bytes ≡ whole (h .0) = rw two at (h .1) in
     let v : whole (h .0) ≡ whole held = sym w ∙ some-sound in
@@ -72,13 +73,13 @@ held-there P h =
     rw e at (h .2)
 
 -- the same with as many data intervals as its length says
-here-sound : Sound 512 0 8 60 depot (countOf 512 (length bytes)) bytes held
+here-sound : Sound depot (countOf 512 (length bytes)) bytes held
 here-sound = rw two example-sound
 
 -- ---- tables
 
 -- A register that refuses everything breaks `refusals-exact`: the first certificate is there.
-pub refuses-all : First (tableFor 512 0 8 60 bytes (get (keyOf depot first) [])) (numberOf (refusesAll bytes (get (keyOf depot first) []) .answer)) → ⊥
+pub refuses-all : First (tableFor depot bytes (get (keyOf depot first) [])) (numberOf (refusesAll bytes (get (keyOf depot first) []) .answer)) → ⊥
 unfolding recordsOf
 refuses-all (inl x) = omega (arith, x .1)
 refuses-all (inr (a, inl x)) = omega (arith, x .1)
@@ -86,12 +87,12 @@ refuses-all (inr (a, inr (b, inl x))) = omega (arith, x .1)
 refuses-all (inr (a, inr (b, inr (d, inl x)))) = omega (arith, x .1)
 refuses-all (inr (a, inr (b, inr (d, inr (e, inl x))))) =
     held-there (λ (c : Content). (r : List ℕ) → Keyed depot (keyOf depot first) (recordsOf (c .filled)) r → ⊥)
-    (rows-whole 512 0 8 60 bytes held here-sound (keyOf depot first) refl .absent .0 (x .0)) first (record { among = List·Memᴰ·head refl; has = refl })
+    (rows-whole depot bytes held here-sound (keyOf depot first) refl .absent .0 (x .0)) first (record { among = List·Memᴰ·head refl; has = refl })
 refuses-all (inr (a, inr (b, inr (d, inr (e, inr (f, inl x)))))) = omega (arith, x .1)
 refuses-all (inr (a, inr (b, inr (d, inr (e, inr (f, inr x)))))) = omega (arith, x)
 
 -- A register that calls everything damaged breaks it too: the area is sound.
-pub calls-damaged : First (tableFor 512 0 8 60 bytes check) (numberOf (callsDamaged bytes check .answer)) → ⊥
+pub calls-damaged : First (tableFor depot bytes check) (numberOf (callsDamaged bytes check .answer)) → ⊥
 calls-damaged (inl x) = omega (arith, x .1)
 calls-damaged (inr (a, inl x)) =
     let w : readArea depot 2 bytes ≡ damaged (x .0 .0) = rw two at (x .0 .1) in
@@ -112,14 +113,14 @@ unfolding makeChange add orderOf need sum rdfCount push groups
 three-fit = omega arith
 
 -- A register that says it is full breaks `refusals-exact`: the interval has room for the third certificate, and another one is free.
-pub always-full : First (tableFor 512 0 8 60 bytes (changes (insert third))) (numberOf (alwaysFull bytes (changes (insert third)) .answer)) → ⊥
+pub always-full : First (tableFor depot bytes (changes (insert third))) (numberOf (alwaysFull bytes (changes (insert third)) .answer)) → ⊥
 always-full (inl x) = omega (arith, x .1)
 always-full (inr (a, inl x)) = omega (arith, x .1)
 always-full (inr (a, inr (b, inl x))) = omega (arith, x .1)
 always-full (inr (a, inr (b, inr (d, inl x)))) = omega (arith, x .1)
 always-full (inr (a, inr (b, inr (d, inr (e, inl x))))) =
     let y =
-    held-there (Crowded 512 0 8 60 (insert third)) (x .0) in
+    held-there (Crowded depot (insert third)) (x .0) in
     let o : y .0 .old ≡ record { sep = []; num = 0; records = first ∷ second ∷ [] } = only-entry (y .0 .pre) (y .0 .old) _ (y .0 .post) (y .0 .split) in
     let f : Fewest 512 (changed depot held (insert third) (y .0)) 1 =
     rw o (fewest-one 512 (makeChange depot (insert third) (first ∷ second ∷ [])) three-fit) in
@@ -131,21 +132,21 @@ always-full (inr (a, inr (b, inr (d, inr (e, inr (f, inr x)))))) = omega (arith,
 full-answer : fullTooSoon roomy (changes (insert ninth)) .answer ≡ NoInterval
 full-answer = rw (answers .roomy) refl
 
-pub full-too-soon : ((numberOf (fullTooSoon roomy (changes (insert ninth)) .answer) ≡ 6) ↔ WantOfInterval 512 0 8 60 roomy (insert ninth)) → ⊥
+pub full-too-soon : ((numberOf (fullTooSoon roomy (changes (insert ninth)) .answer) ≡ 6) ↔ WantOfInterval depot roomy (insert ninth)) → ⊥
 full-too-soon w = six-just-not (w .0 (ap numberOf full-answer))
 
 -- A register that looks for room in the index record where the change stays in its interval breaks `want-of-room`.
 home-answer : crampedAtHome bytes (changes (insert third)) .answer ≡ NoRoom
 home-answer = rw (answers .inserted) refl
 
-pub cramped-at-home : ((numberOf (crampedAtHome bytes (changes (insert third)) .answer) ≡ 7) ↔ WantOfRoom 512 0 8 60 bytes (insert third)) → ⊥
+pub cramped-at-home : ((numberOf (crampedAtHome bytes (changes (insert third)) .answer) ≡ 7) ↔ WantOfRoom depot bytes (insert third)) → ⊥
 cramped-at-home w = home-not-seven (w .0 (ap numberOf home-answer))
 
 -- And so does one that finds no room where the renewed record just fits.
 brim-answer : crampedAtBrim brimful (changes (insert (high 0x32))) .answer ≡ NoRoom
 brim-answer = rw (left .brimful, answers .brimful) refl
 
-pub cramped-at-brim : ((numberOf (crampedAtBrim brimful (changes (insert (high 0x32))) .answer) ≡ 7) ↔ WantOfRoom 512 0 240 240 brimful (insert (high 0x32))) → ⊥
+pub cramped-at-brim : ((numberOf (crampedAtBrim brimful (changes (insert (high 0x32))) .answer) ≡ 7) ↔ WantOfRoom allKey brimful (insert (high 0x32))) → ⊥
 cramped-at-brim w = seven-just-not (w .0 (ap numberOf brim-answer))
 
 -- ---- counts
@@ -186,7 +187,7 @@ misnames-written h t =
 forgot : forgetsIndex roomy (changes (insert ninth)) .answer ≡ Done (carrying (1 ∷ 2 ∷ []))
 forgot = rw (answers .roomy) refl
 
-forgot-left : forgetsIndex roomy (changes (insert ninth)) .area ≡ rightly 8 60 roomy (changes (insert ninth)) .area
+forgot-left : forgetsIndex roomy (changes (insert ninth)) .area ≡ rightly depot roomy (changes (insert ninth)) .area
 forgot-left = rw (answers .roomy) refl
 
 not-zero : List·Memᴰ {A = ℕ} 0 (1 ∷ 2 ∷ []) → ⊥
@@ -254,7 +255,7 @@ keeps-revoked f =
     (λ (i : List·Memᴰ (x .0) []). List·Memᴰ·not-nil i) (List·Memᴰ·cases-cons (k .among))
 
 -- A register that refuses a get for damage in another interval breaks `refusals-exact`: the index record and the key's interval are sound.
-pub vouches-for-all : First (tableFor 512 0 8 60 scratched (get (keyOf depot first) (replicate 60 0)))
+pub vouches-for-all : First (tableFor depot scratched (get (keyOf depot first) (replicate 60 0)))
     (numberOf (vouchesForAll scratched (get (keyOf depot first) (replicate 60 0)) .answer))
     → ⊥
 vouches-for-all (inl x) = omega (arith, x .1, damages .scratched-told)
@@ -266,7 +267,7 @@ vouches-for-all (inr (a, inr (b, inr (d, inr (e, inr (f, inl x)))))) = omega (ar
 vouches-for-all (inr (a, inr (b, inr (d, inr (e, inr (f, inr x)))))) = omega (arith, x, damages .scratched-told)
 
 -- A register that hands out a certificate from a damaged interval breaks it too: a key that lies there is above the interval's bound.
-pub looks-away : First (tableFor 512 0 8 60 beyondBound (get (keyOf depot first) (replicate 60 0)))
+pub looks-away : First (tableFor depot beyondBound (get (keyOf depot first) (replicate 60 0)))
     (numberOf (looksAway beyondBound (get (keyOf depot first) (replicate 60 0)) .answer))
     → ⊥
 looks-away (inl x) = omega (arith, x .1, damages .beyond-told)
@@ -282,14 +283,14 @@ lost-lent : Lent depot (countOf 512 (length halfLost)) halfLost
 lost-lent =
     record {
       octets = all-octets halfLost (damages .lost-octets);
-      fits = accepted-fits 512 0 8 60 (length halfLost) (countOf 512 (length halfLost)) depot (damages .lost-judges) .1;
+      fits = accepted-fits depot (length halfLost) (countOf 512 (length halfLost)) (damages .lost-judges);
     }
 
 -- and the home of a key that is not lost is fine there: so `get-there-finds` speaks of an area in which certificates are lost.
 pub lost-fine : FineHome depot (countOf 512 (length halfLost)) halfLost (keyOf depot sought) (certificates 2 0x31 60)
 lost-fine =
     subst (λ (rs : List (List ℕ)). FineHome depot (countOf 512 (length halfLost)) halfLost (keyOf depot sought) rs) (damages .lost-records)
-    (fine-home 512 0 8 60 halfLost lost-lent (keyOf depot sought) (all-octets (keyOf depot sought) (damages .lost-key)) (damages .lost-index) refl (damages .lost-there))
+    (fine-home depot halfLost lost-lent (keyOf depot sought) (all-octets (keyOf depot sought) (damages .lost-key)) (damages .lost-index) refl (damages .lost-there))
 
 -- what a register must come to there where it keeps its contracts: the certificate itself
 abbrev pub FindsSought : Step → Type 0
@@ -316,7 +317,7 @@ record-before f =
 
 -- what an area holds of which something stands
 standing : (n : ℕ) (before after : List ℕ) (opening : List (List ℕ)) (c : Content) (chs : List Change) → readArea depot n after ≡ whole c
-    → Stands 512 0 8 60 depot n before after opening chs → recordsOf (c .filled) ≡ makeAll depot chs opening
+    → Stands depot n before after opening chs → recordsOf (c .filled) ≡ makeAll depot chs opening
 standing n before after opening c chs w s =
     let v : whole (s .content) ≡ whole c = sym (s .sound .reads) ∙ w in
     let e : s .content ≡ c = cc in
@@ -330,7 +331,7 @@ shorter-taken : acceptedIn (losesLast even (changes (update shorter)) ∷ []) �
 shorter-taken = rw (answers .even) refl
 
 -- A register that says it is done and has done nothing breaks `history`: the third certificate is not there.
-pub untouched-done : Stands 512 0 8 60 depot 2 bytes (untouchedDone bytes (changes (insert third)) .area) (recordsOf (held .filled))
+pub untouched-done : Stands depot 2 bytes (untouchedDone bytes (changes (insert third)) .area) (recordsOf (held .filled))
     (acceptedIn (untouchedDone bytes (changes (insert third)) ∷ [])) → ⊥
 unfolding makeAll makeChange
 untouched-done s =
@@ -339,7 +340,7 @@ untouched-done s =
     omega (arith, ap length e, count-add depot third (recordsOf (held .filled)))
 
 -- A register that keeps what was revoked breaks it: the first certificate is still there.
-pub keeps-revoked-history : Stands 512 0 8 60 depot 2 bytes (keepsRevoked bytes (changes (erase (keyOf depot first))) .area) (recordsOf (held .filled))
+pub keeps-revoked-history : Stands depot 2 bytes (keepsRevoked bytes (changes (erase (keyOf depot first))) .area) (recordsOf (held .filled))
     (acceptedIn (keepsRevoked bytes (changes (erase (keyOf depot first))) ∷ [])) → ⊥
 unfolding recordsOf makeAll makeChange remove
 keeps-revoked-history s =
@@ -358,7 +359,7 @@ keeps-revoked-bytes e =
     omega arith
 
 -- Version two breaks `history`: nine certificates are left of ten.
-pub loses-last : Stands 512 0 8 60 depot (countOf 512 (length even)) even (losesLast even (changes (update shorter)) .area) (recordsOf (alone (1 ∷ []) ten .filled))
+pub loses-last : Stands depot (countOf 512 (length even)) even (losesLast even (changes (update shorter)) .area) (recordsOf (alone (1 ∷ []) ten .filled))
     (acceptedIn (losesLast even (changes (update shorter)) ∷ [])) → ⊥
 unfolding recordsOf makeAll makeChange replace
 loses-last s =
@@ -380,14 +381,14 @@ loses-last-bytes e =
 
 -- Whatever bytes a register always leaves, be they sound, it breaks `history`: they cannot be read both as the records with one come and with one gone.
 pub constant-bytes : (b : List ℕ)
-    → Stands 512 0 8 60 depot 2 bytes (constantBytes b bytes (changes (insert third)) .area) (recordsOf (held .filled)) (acceptedIn (constantBytes b bytes (changes (insert third)) ∷ []))
-    → Stands 512 0 8 60 depot 2 bytes (constantBytes b bytes (changes (erase (keyOf depot first))) .area) (recordsOf (held .filled))
+    → Stands depot 2 bytes (constantBytes b bytes (changes (insert third)) .area) (recordsOf (held .filled)) (acceptedIn (constantBytes b bytes (changes (insert third)) ∷ []))
+    → Stands depot 2 bytes (constantBytes b bytes (changes (erase (keyOf depot first))) .area) (recordsOf (held .filled))
     (acceptedIn (constantBytes b bytes (changes (erase (keyOf depot first))) ∷ []))
     → ⊥
 unfolding recordsOf makeAll makeChange remove
 constant-bytes b s t =
-    let s1 : Stands 512 0 8 60 depot 2 bytes b (first ∷ second ∷ []) (insert third ∷ []) = rw (answers .inserted) at s in
-    let t1 : Stands 512 0 8 60 depot 2 bytes b (first ∷ second ∷ []) (erase (keyOf depot first) ∷ []) = rw (answers .erased) at t in
+    let s1 : Stands depot 2 bytes b (first ∷ second ∷ []) (insert third ∷ []) = rw (answers .inserted) at s in
+    let t1 : Stands depot 2 bytes b (first ∷ second ∷ []) (erase (keyOf depot first) ∷ []) = rw (answers .erased) at t in
     let e = standing 2 bytes b (first ∷ second ∷ []) (t1 .content) (insert third ∷ []) (t1 .sound .reads) s1 in
     let f : second ∷ [] ≡ add depot third (first ∷ second ∷ []) = sym (t1 .records) ∙ e in
     omega (arith, ap length f, count-add depot third (first ∷ second ∷ []))
@@ -408,29 +409,29 @@ constant-writer writer b same back =
 -- ---- so none of them keeps its contracts
 
 -- what a register must come to where it keeps its contracts
-exact : (q : Request) (x : Step) → Allowed 512 0 8 60 bytes q (x .answer) (x .area) (x .output) → First (tableFor 512 0 8 60 bytes q) (numberOf (x .answer))
-exact q x k = refusals-exact 512 0 8 60 bytes (some-lent .octets) q (x .answer) (x .area) (x .output) k
+exact : (q : Request) (x : Step) → Allowed depot bytes q (x .answer) (x .area) (x .output) → First (tableFor depot bytes q) (numberOf (x .answer))
+exact q x k = refusals-exact depot bytes (some-lent .octets) q (x .answer) (x .area) (x .output) k
 
-stands : (x : Step) → Trace 512 0 8 60 bytes (x ∷ []) → Stands 512 0 8 60 depot 2 bytes (x .area) (recordsOf (held .filled)) (acceptedIn (x ∷ []))
-stands x t = history 512 0 8 60 depot 2 (x ∷ []) bytes held example-sound t
+stands : (x : Step) → Trace depot bytes (x ∷ []) → Stands depot 2 bytes (x .area) (recordsOf (held .filled)) (acceptedIn (x ∷ []))
+stands x t = history depot 2 (x ∷ []) bytes held example-sound t
 
 -- The register that does what the contracts say keeps them, whatever bytes it is handed.
-pub rightly-keeps : (key most : ℕ) (area : List ℕ) (q : Request) → Octets (handedBy q)
-    → Allowed 512 0 key most area q (rightly key most area q .answer) (rightly key most area q .area) (rightly key most area q .output)
-rightly-keeps key most area check o = (refl, refl)
-rightly-keeps key most area (get wanted out) o = (refl, record { answers = refl; outputs = refl })
-rightly-keeps key most area (getAt address out) o = (refl, record { answers = refl; outputs = refl })
-rightly-keeps key most area (changes (insert r)) o = (o, record { answers = refl; leaves = refl })
-rightly-keeps key most area (changes (update r)) o = (o, record { answers = refl; leaves = refl })
-rightly-keeps key most area (changes (erase wanted)) o = (o, record { answers = refl; leaves = refl })
+pub rightly-keeps : (m : Measures) (area : List ℕ) (q : Request) → Octets (handedBy q)
+    → Allowed m area q (rightly m area q .answer) (rightly m area q .area) (rightly m area q .output)
+rightly-keeps m area check o = (refl, refl)
+rightly-keeps m area (get wanted out) o = (refl, record { answers = refl; outputs = refl })
+rightly-keeps m area (getAt address out) o = (refl, record { answers = refl; outputs = refl })
+rightly-keeps m area (changes (insert r)) o = (o, record { answers = refl; leaves = refl })
+rightly-keeps m area (changes (update r)) o = (o, record { answers = refl; leaves = refl })
+rightly-keeps m area (changes (erase wanted)) o = (o, record { answers = refl; leaves = refl })
 
 -- Refusals.
-pub refusals-broken : Breaks 8 60 bytes refusesAll (get (keyOf depot first) [] ∷ [])
-    × Breaks 8 60 bytes callsDamaged (check ∷ [])
-    × Breaks 8 60 bytes alwaysFull (changes (insert third) ∷ [])
-    × Breaks 8 60 roomy fullTooSoon (changes (insert ninth) ∷ [])
-    × Breaks 8 60 bytes crampedAtHome (changes (insert third) ∷ [])
-    × Breaks 240 240 brimful crampedAtBrim (changes (insert (high 0x32)) ∷ [])
+pub refusals-broken : Breaks depot bytes refusesAll (get (keyOf depot first) [] ∷ [])
+    × Breaks depot bytes callsDamaged (check ∷ [])
+    × Breaks depot bytes alwaysFull (changes (insert third) ∷ [])
+    × Breaks depot roomy fullTooSoon (changes (insert ninth) ∷ [])
+    × Breaks depot bytes crampedAtHome (changes (insert third) ∷ [])
+    × Breaks allKey brimful crampedAtBrim (changes (insert (high 0x32)) ∷ [])
 refusals-broken = (
   λ t. refuses-all (exact (get (keyOf depot first) []) (refusesAll bytes (get (keyOf depot first) [])) (t .0)),
   λ t. calls-damaged (exact check (callsDamaged bytes check) (t .0)),
@@ -442,71 +443,71 @@ refusals-broken = (
 )
 
 -- Counts and gets.
-pub tellings-broken : Breaks 8 60 bytes inventsCounts (check ∷ [])
-    × Breaks 8 60 bytes inventsWritten (changes (insert third) ∷ [])
-    × Breaks 8 60 bytes misnamesWritten (changes (insert third) ∷ [])
-    × Breaks 8 60 roomy forgetsIndex (changes (insert ninth) ∷ [])
-    × Breaks 8 60 bytes sameRecord (get (keyOf depot second) (replicate 60 0) ∷ [])
-    × Breaks 8 60 bytes keepsRevoked (changes (erase (keyOf depot first)) ∷ get (keyOf depot first) (replicate 60 0) ∷ [])
+pub tellings-broken : Breaks depot bytes inventsCounts (check ∷ [])
+    × Breaks depot bytes inventsWritten (changes (insert third) ∷ [])
+    × Breaks depot bytes misnamesWritten (changes (insert third) ∷ [])
+    × Breaks depot roomy forgetsIndex (changes (insert ninth) ∷ [])
+    × Breaks depot bytes sameRecord (get (keyOf depot second) (replicate 60 0) ∷ [])
+    × Breaks depot bytes keepsRevoked (changes (erase (keyOf depot first)) ∷ get (keyOf depot first) (replicate 60 0) ∷ [])
 tellings-broken = (
-  λ t. invents-counts (check-true 512 0 8 60 depot 2 bytes held example-sound (inventsCounts bytes check .answer) (t .0 .1)),
+  λ t. invents-counts (check-true depot 2 bytes held example-sound (inventsCounts bytes check .answer) (t .0 .1)),
   λ t. invents-written _
-      (written-true 512 0 8 60 depot 2 bytes held example-sound (insert third) (inventsWritten bytes (changes (insert third)) .answer)
+      (written-true depot 2 bytes held example-sound (insert third) (inventsWritten bytes (changes (insert third)) .answer)
       (inventsWritten bytes (changes (insert third)) .area) (t .0) written-done three written-read),
   λ t. misnames-written
-      (spreads-fewest 512 0 8 60 depot 2 bytes held example-sound (insert third) (misnamesWritten bytes (changes (insert third)) .answer)
+      (spreads-fewest depot 2 bytes held example-sound (insert third) (misnamesWritten bytes (changes (insert third)) .answer)
       (misnamesWritten bytes (changes (insert third)) .area) (t .0) (ap numberOf misnamed) three misnamed-read .home)
-      (written-true 512 0 8 60 depot 2 bytes held example-sound (insert third) (misnamesWritten bytes (changes (insert third)) .answer)
+      (written-true depot 2 bytes held example-sound (insert third) (misnamesWritten bytes (changes (insert third)) .answer)
       (misnamesWritten bytes (changes (insert third)) .area) (t .0) (ap numberOf misnamed) three misnamed-read),
   λ t. forgets-index _
-      (written-true 512 0 8 60 depot (countOf 512 (length roomy)) roomy (alone (1 ∷ []) eight) roomy-sound (insert ninth) (forgetsIndex roomy (changes (insert ninth)) .answer)
+      (written-true depot (countOf 512 (length roomy)) roomy (alone (1 ∷ []) eight) roomy-sound (insert ninth) (forgetsIndex roomy (changes (insert ninth)) .answer)
       (forgetsIndex roomy (changes (insert ninth)) .area) (t .0) (ap numberOf forgot) halves forgot-read),
   λ t. same-record
-      (get-finds 512 0 8 60 depot 2 bytes held example-sound [] [] (sameRecord bytes (get (keyOf depot second) (replicate 60 0)) .answer) bytes
+      (get-finds depot 2 bytes held example-sound [] [] (sameRecord bytes (get (keyOf depot second) (replicate 60 0)) .answer) bytes
       (sameRecord bytes (get (keyOf depot second) (replicate 60 0)) .output) (replicate 60 0) (keyOf depot second) refl t),
   λ t. keeps-revoked
-      (get-finds 512 0 8 60 depot 2 bytes held example-sound (keepsRevoked bytes (changes (erase (keyOf depot first))) ∷ []) []
+      (get-finds depot 2 bytes held example-sound (keepsRevoked bytes (changes (erase (keyOf depot first))) ∷ []) []
       (keepsRevoked bytes (get (keyOf depot first) (replicate 60 0)) .answer) bytes
       (keepsRevoked bytes (get (keyOf depot first) (replicate 60 0)) .output) (replicate 60 0) (keyOf depot first) refl t),
 )
 
 -- Gets that judge more than they read, or less.
-pub judgings-broken : Breaks 8 60 scratched vouchesForAll (get (keyOf depot first) (replicate 60 0) ∷ [])
-    × Breaks 8 60 beyondBound looksAway (get (keyOf depot first) (replicate 60 0) ∷ [])
+pub judgings-broken : Breaks depot scratched vouchesForAll (get (keyOf depot first) (replicate 60 0) ∷ [])
+    × Breaks depot beyondBound looksAway (get (keyOf depot first) (replicate 60 0) ∷ [])
 judgings-broken = (
   λ t. vouches-for-all
-      (refusals-exact 512 0 8 60 scratched (all-octets scratched (damages .scratched-octets)) (get (keyOf depot first) (replicate 60 0))
+      (refusals-exact depot scratched (all-octets scratched (damages .scratched-octets)) (get (keyOf depot first) (replicate 60 0))
       (vouchesForAll scratched (get (keyOf depot first) (replicate 60 0)) .answer) scratched
       (vouchesForAll scratched (get (keyOf depot first) (replicate 60 0)) .output) (t .0)),
   λ t. looks-away
-      (refusals-exact 512 0 8 60 beyondBound (all-octets beyondBound (damages .beyond-octets)) (get (keyOf depot first) (replicate 60 0))
+      (refusals-exact depot beyondBound (all-octets beyondBound (damages .beyond-octets)) (get (keyOf depot first) (replicate 60 0))
       (looksAway beyondBound (get (keyOf depot first) (replicate 60 0)) .answer) beyondBound
       (looksAway beyondBound (get (keyOf depot first) (replicate 60 0)) .output) (t .0)),
 )
 
 -- Gets where damage lies elsewhere.
-pub givings-broken : Breaks 8 60 halfLost leavesOutput (seeking ∷ [])
-    × Breaks 8 60 halfLost recordBefore (seeking ∷ [])
+pub givings-broken : Breaks depot halfLost leavesOutput (seeking ∷ [])
+    × Breaks depot halfLost recordBefore (seeking ∷ [])
 givings-broken = (λ t. leaves-output (finds (leavesOutput halfLost seeking) (t .0)), λ t. record-before (finds (recordBefore halfLost seeking) (t .0)))
   where
-    finds : (x : Step) → Allowed 512 0 8 60 halfLost seeking (x .answer) (x .area) (x .output) → FindsSought x
+    finds : (x : Step) → Allowed depot halfLost seeking (x .answer) (x .area) (x .output) → FindsSought x
     finds x k =
-        get-there-finds 512 0 8 60 halfLost lost-lent (keyOf depot sought) (all-octets (keyOf depot sought) (damages .lost-key)) (certificates 2 0x31 60) lost-fine (replicate 60 0)
+        get-there-finds depot halfLost lost-lent (keyOf depot sought) (all-octets (keyOf depot sought) (damages .lost-key)) (certificates 2 0x31 60) lost-fine (replicate 60 0)
         (x .answer) (x .area) (x .output) k
 
 -- Changes.
-pub changes-broken : Breaks 8 60 bytes untouchedDone (changes (insert third) ∷ [])
-    × Breaks 8 60 bytes keepsRevoked (changes (erase (keyOf depot first)) ∷ [])
-    × Breaks 8 60 even losesLast (changes (update shorter) ∷ [])
+pub changes-broken : Breaks depot bytes untouchedDone (changes (insert third) ∷ [])
+    × Breaks depot bytes keepsRevoked (changes (erase (keyOf depot first)) ∷ [])
+    × Breaks depot even losesLast (changes (update shorter) ∷ [])
 changes-broken = (
   λ t. untouched-done (stands (untouchedDone bytes (changes (insert third))) t),
   λ t. keeps-revoked-history (stands (keepsRevoked bytes (changes (erase (keyOf depot first)))) t),
   λ t. loses-last
-      (history 512 0 8 60 depot (countOf 512 (length even)) (losesLast even (changes (update shorter)) ∷ []) even (alone (1 ∷ []) ten) even-sound t),
+      (history depot (countOf 512 (length even)) (losesLast even (changes (update shorter)) ∷ []) even (alone (1 ∷ []) ten) even-sound t),
 )
 
 -- Whatever bytes are always left, one of two changes breaks the contracts.
-pub constant-broken : (b : List ℕ) → Trace 512 0 8 60 bytes (run (constantBytes b) bytes (changes (insert third) ∷ []))
-    → Breaks 8 60 bytes (constantBytes b) (changes (erase (keyOf depot first)) ∷ [])
+pub constant-broken : (b : List ℕ) → Trace depot bytes (run (constantBytes b) bytes (changes (insert third) ∷ []))
+    → Breaks depot bytes (constantBytes b) (changes (erase (keyOf depot first)) ∷ [])
 constant-broken b s t =
     constant-bytes b (stands (constantBytes b bytes (changes (insert third))) s) (stands (constantBytes b bytes (changes (erase (keyOf depot first)))) t)

@@ -2,6 +2,7 @@
 use Prim.Native.Nat.{ℕ}
 use mathlib.Core.Path.{_≡_}
 use mathlib.Core.List.{List}
+use Rattle.measures.specs.declared.Measures.{Measures}
 use Rattle.requests.specs.Answers.{numberOf}
 use Rattle.requests.specs.Reading.{getOf, getAtOf, Gives}
 use Rattle.requests.specs.Changing.{insertOf, updateOf, eraseOf, Makes}
@@ -13,9 +14,12 @@ Refusal a = numberOf a ≡ 0 → ⊥
 
 -- Whatever the measures, the area and what is asked: a refused change has changed no byte of the area, a refused get none of the output.
 -- (A get and a check are lent no area to change.)
-pub record RefusedHarmless (size offset key most : ℕ) (area : List ℕ) : Type 0 where
-  pub insert : (r : List ℕ) (a : Answer) (after : List ℕ) → Makes (insertOf size offset key most area r) a after → Refusal a → after ≡ area
-  pub update : (r : List ℕ) (a : Answer) (after : List ℕ) → Makes (updateOf size offset key most area r) a after → Refusal a → after ≡ area
-  pub erase : (wanted : List ℕ) (a : Answer) (after : List ℕ) → Makes (eraseOf size offset key most area wanted) a after → Refusal a → after ≡ area
-  pub get : (wanted out : List ℕ) (a : Answer) (after : List ℕ) → Gives (getOf size offset key most area wanted out) a after → Refusal a → after ≡ out
-  pub get-at : (address : ℕ) (out : List ℕ) (a : Answer) (after : List ℕ) → Gives (getAtOf size offset key most area address out) a after → Refusal a → after ≡ out
+pub record RefusedHarmless (m : Measures) (area : List ℕ) : Type 0 where
+  pub insert : (r : List ℕ) (a : Answer) (after : List ℕ) → Makes (insertOf m area r) a after → Refusal a → after ≡ area
+  pub update : (r : List ℕ) (a : Answer) (after : List ℕ) → Makes (updateOf m area r) a after → Refusal a → after ≡ area
+  pub erase : (wanted : List ℕ) (a : Answer) (after : List ℕ)
+      → Makes (eraseOf m area wanted) a after → Refusal a → after ≡ area
+  pub get : (wanted out : List ℕ) (a : Answer) (after : List ℕ)
+      → Gives (getOf m area wanted out) a after → Refusal a → after ≡ out
+  pub get-at : (address : ℕ) (out : List ℕ) (a : Answer) (after : List ℕ)
+      → Gives (getAtOf m area address out) a after → Refusal a → after ≡ out

@@ -3,6 +3,8 @@ use Prim.Native.Nat.{ℕ, zero, suc, _-_}
 use mathlib.Core.List.{List, [], _∷_, _++_, map}
 use lib.ListN.{length, replicate}
 use Rattle.fields.specs.Lists.{concat}
+use Rattle.measures.specs.Judgement.{measures}
+use Rattle.measures.specs.declared.Measures.{Measures}
 use Rattle.interval.specs.Layout.{form}
 use Rattle.sections.specs.Form.{indexBytes}
 use Rattle.area.specs.Content.{Content, meaningOf, widthIn}
@@ -51,7 +53,11 @@ shorter = certificate 0x33 49
 abbrev pub even : List ℕ
 even = laid (alone (1 ∷ []) ten) (ten ∷ [] ∷ [])
 
--- ---- two intervals in use, one free, and an index record that is nearly full: keys of 240 bytes, which are the whole record
+-- ---- two intervals in use, one free, and an index record that is nearly full
+
+-- keys of 240 bytes, which are the whole record
+abbrev pub allKey : Measures
+allKey = measures 512 0 240 240
 
 abbrev pub low : List ℕ
 low = replicate 240 0x41

@@ -14,24 +14,24 @@ use Rattle.index.specs.Rules.{boundBefore}
 use Rattle.area.specs.Content.{indexIn, dataIn}
 use Rattle.area.specs.Layout.{IndexInterval, UsedInterval}
 use Rattle.area.specs.Leads.{indexSound, numberFor}
-use Rattle.promises.specs.Tables.{given, many, Absent, KeyedTooLong, DamagedIndex, DamagedThere, AbsentThere, TooLongThere}
+use Rattle.promises.specs.Tables.{many, Absent, KeyedTooLong, DamagedIndex, DamagedThere, AbsentThere}
+use Rattle.promises.specs.Tables.{TooLongThere}
 
 -- Two areas that a get by this key meets alike: equally long, with the same index record, and with the same bytes in the interval that it leads the key to.
 -- That interval counts only where the index record is sound and the key has the length of a key; else no data interval is looked at.
-pub record SameFor (size offset key most : ℕ) (area area' wanted : List ℕ) : Type 0 where
+pub record SameFor (m : Measures) (area area' wanted : List ℕ) : Type 0 where
   pub long : length area' ≡ length area
-  pub index : indexIn (given size offset key most area) area' ≡ indexIn (given size offset key most area) area
-  pub there : indexSound (given size offset key most area) (many size offset key most area) area ≡ true → length wanted ≡ key
-      → dataIn (given size offset key most area) area' (numberFor (given size offset key most area) (many size offset key most area) area wanted)
-      ≡ dataIn (given size offset key most area) area (numberFor (given size offset key most area) (many size offset key most area) area wanted)
+  pub index : indexIn m area' ≡ indexIn m area
+  pub there : indexSound m (many m area) area ≡ true → length wanted ≡ m .key
+      → dataIn m area' (numberFor m (many m area) area wanted) ≡ dataIn m area (numberFor m (many m area) area wanted)
 
 -- On a sound area the rows of a get by key speak of all records: neither place is damaged, none of the interval's records has the key exactly where none of
 -- all records has it, and so for one that is too long.
-pub record RowsWhole (size offset key most : ℕ) (area wanted : List ℕ) : Type 0 where
-  pub index : DamagedIndex size offset key most area → ⊥
-  pub there : DamagedThere size offset key most area wanted → ⊥
-  pub absent : AbsentThere size offset key most area wanted ↔ Absent size offset key most area wanted
-  pub too-long : (out : List ℕ) → TooLongThere size offset key most area wanted out ↔ KeyedTooLong size offset key most area wanted out
+pub record RowsWhole (m : Measures) (area wanted : List ℕ) : Type 0 where
+  pub index : DamagedIndex m area → ⊥
+  pub there : DamagedThere m area wanted → ⊥
+  pub absent : AbsentThere m area wanted ↔ Absent m area wanted
+  pub too-long : (out : List ℕ) → TooLongThere m area wanted out ↔ KeyedTooLong m area wanted out
 
 -- The key has the length of a key and belongs to interval k: the index record is laid out with some meaning, one of its
 -- entries is that of k, and the key is above the bound before that entry and at most the entry's own. Said by the

@@ -8,7 +8,7 @@ use mathlib.Core.Bool.{false}
 use mathlib.Core.List.{List, [], _∷_, _++_}
 use mathlib.Core.Logic.{_⊎_}
 use lib.ListN.{length}
-use Rattle.measures.specs.Judgement.{Fits, measures, countOf}
+use Rattle.measures.specs.Judgement.{Fits, countOf}
 use Rattle.measures.specs.declared.Measures.{Measures}
 use Rattle.interval.specs.Records.{keyOf}
 use Rattle.interval.specs.Reading.{recordsIn}
@@ -40,65 +40,64 @@ First (row number condition later) k = (condition × (k ≡ number)) ⊎ ((condi
 
 -- ---- conditions
 
-module _ (size offset key most : ℕ) (area : List ℕ) where
-  -- the measures of the request, and how many data intervals the area has
-  abbrev pub given : Measures
-  given = measures size offset key most
-
+module _ (m : Measures) (area : List ℕ) where
+  -- how many data intervals the area has
   abbrev pub many : ℕ
-  many = countOf size (length area)
+  many = countOf (m .size) (length area)
 
   -- 1: the measures or the area's length are outside the limits, however many data intervals were meant
   abbrev pub OutsideLimits : Type 0
-  OutsideLimits = (n : ℕ) → Fits given n (length area) → ⊥
+  OutsideLimits = (n : ℕ) → Fits m n (length area) → ⊥
 
   -- 2: the area is damaged at some place
   abbrev pub DamagedSomewhere : Type 0
-  DamagedSomewhere = (place : ℕ) × (readArea given many area ≡ damaged place)
+  DamagedSomewhere = (place : ℕ) × (readArea m many area ≡ damaged place)
 
   -- the area is read as a content of which this is so
   abbrev pub Holding : (Content → Type 0) → Type 0
-  Holding P = (c : Content) × (readArea given many area ≡ whole c) × P c
+  Holding P = (c : Content) × (readArea m many area ≡ whole c) × P c
 
   -- 4 and 5: some record has the key, none has it
   abbrev pub Present : List ℕ → Type 0
-  Present wanted = Holding (λ (c : Content). (r : List ℕ) × Keyed given wanted (recordsOf (c .filled)) r)
+  Present wanted = Holding (λ (c : Content). (r : List ℕ) × Keyed m wanted (recordsOf (c .filled)) r)
 
   abbrev pub Absent : List ℕ → Type 0
-  Absent wanted = Holding (λ (c : Content). (r : List ℕ) → Keyed given wanted (recordsOf (c .filled)) r → ⊥)
+  Absent wanted = Holding (λ (c : Content). (r : List ℕ) → Keyed m wanted (recordsOf (c .filled)) r → ⊥)
 
   -- 9: no record lies at the address
   abbrev pub Nowhere : ℕ → Type 0
-  Nowhere address = Holding (λ (c : Content). (r : List ℕ) → Lies given (baseOf c) address (c .filled) r → ⊥)
+  Nowhere address = Holding (λ (c : Content). (r : List ℕ) → Lies m (baseOf c) address (c .filled) r → ⊥)
 
   -- 8: the record is longer than the output; by key it is said here of all records, as it is on a sound area (`rows-whole`)
   abbrev pub KeyedTooLong : List ℕ → List ℕ → Type 0
-  KeyedTooLong wanted out = Holding (λ (c : Content). (r : List ℕ) × Keyed given wanted (recordsOf (c .filled)) r × (length out < length r))
+  KeyedTooLong wanted out =
+      Holding (λ (c : Content). (r : List ℕ) × Keyed m wanted (recordsOf (c .filled)) r × (length out < length r))
 
   abbrev pub LyingTooLong : ℕ → List ℕ → Type 0
-  LyingTooLong address out = Holding (λ (c : Content). (r : List ℕ) × Lies given (baseOf c) address (c .filled) r × (length out < length r))
+  LyingTooLong address out =
+      Holding (λ (c : Content). (r : List ℕ) × Lies m (baseOf c) address (c .filled) r × (length out < length r))
 
   -- ---- of a get by key
 
   -- 2: the index record is unsound
   abbrev pub DamagedIndex : Type 0
-  DamagedIndex = indexSound given many area ≡ false
+  DamagedIndex = indexSound m many area ≡ false
 
   -- 2: the interval that the key leads to is unsound in its role
   abbrev pub DamagedThere : List ℕ → Type 0
-  DamagedThere wanted = soundFor given (entriesFor given many area) wanted (intervalFor given many area wanted) ≡ false
+  DamagedThere wanted = soundFor m (entriesFor m many area) wanted (intervalFor m many area wanted) ≡ false
 
   -- the records of that interval
   abbrev pub recordsThere : List ℕ → List (List ℕ)
-  recordsThere wanted = recordsIn (intervalFor given many area wanted)
+  recordsThere wanted = recordsIn (intervalFor m many area wanted)
 
   -- 5: none of them has the key
   abbrev pub AbsentThere : List ℕ → Type 0
-  AbsentThere wanted = (r : List ℕ) → Keyed given wanted (recordsThere wanted) r → ⊥
+  AbsentThere wanted = (r : List ℕ) → Keyed m wanted (recordsThere wanted) r → ⊥
 
   -- 8: one of them has it, and is longer than the output
   abbrev pub TooLongThere : List ℕ → List ℕ → Type 0
-  TooLongThere wanted out = (r : List ℕ) × Keyed given wanted (recordsThere wanted) r × (length out < length r)
+  TooLongThere wanted out = (r : List ℕ) × Keyed m wanted (recordsThere wanted) r × (length out < length r)
 
 -- the records of the key's interval with the change made
 abbrev pub changed : (m : Measures) (c : Content) (ch : Change) → Home m c (keyIn m ch) → List (List ℕ)
@@ -112,42 +111,39 @@ indexNeeds m c key h parts =
     24 + widthIn c * (length (c .free) - (length parts - 1))
     + entriesNeed (widthIn c) (sepsBy (h .pre) ++ ((separators m parts ++ (h .old .sep ∷ [])) ++ sepsBy (h .post)))
 
-module _ (size offset key most : ℕ) (ch : Change) where
-  abbrev m : Measures
-  m = measures size offset key most
-
+module _ (m : Measures) (ch : Change) where
   -- there is a fewest number of intervals that hold the key's interval's records with the change made, and it is more, besides that interval, than are free
   abbrev pub Crowded : Content → Type 0
-  Crowded c = (h : Home m c (keyIn m ch)) × (k : ℕ) × Fewest size (changed m c ch h) k × (length (c .free) < k - 1)
+  Crowded c = (h : Home m c (keyIn m ch)) × (k : ℕ) × Fewest (m .size) (changed m c ch h) k × (length (c .free) < k - 1)
 
   -- it is more than one, and the index record that names the prescribed parts would need more than size - 7 bytes
   abbrev pub Roomless : Content → Type 0
   Roomless c =
       (h : Home m c (keyIn m ch))
       × (k : ℕ)
-      × Fewest size (changed m c ch h) k
+      × Fewest (m .size) (changed m c ch h) k
       × (1 < k)
       × (parts : List (List (List ℕ)))
-      × PrescribedParts size (changed m c ch h) (broughtBy ch) parts
-      × (size - 7 < indexNeeds m c (keyIn m ch) h parts)
+      × PrescribedParts (m .size) (changed m c ch h) (broughtBy ch) parts
+      × (m .size - 7 < indexNeeds m c (keyIn m ch) h parts)
 
-module _ (size offset key most : ℕ) (area : List ℕ) (ch : Change) where
+module _ (m : Measures) (area : List ℕ) (ch : Change) where
   -- 6: want of an interval
   abbrev pub WantOfInterval : Type 0
-  WantOfInterval = Holding size offset key most area (Crowded size offset key most ch)
+  WantOfInterval = Holding m area (Crowded m ch)
 
   -- 7: want of room in the index record
   abbrev pub WantOfRoom : Type 0
-  WantOfRoom = Holding size offset key most area (Roomless size offset key most ch)
+  WantOfRoom = Holding m area (Roomless m ch)
 
 -- ---- the six tables
 
-module _ (size offset key most : ℕ) (area : List ℕ) where
+module _ (m : Measures) (area : List ℕ) where
   abbrev outside : Type 0
-  outside = OutsideLimits size offset key most area
+  outside = OutsideLimits m area
 
   abbrev damage : Type 0
-  damage = DamagedSomewhere size offset key most area
+  damage = DamagedSomewhere m area
 
   abbrev pub checkTable : Table
   checkTable = row 1 outside (row 2 damage done)
@@ -155,33 +151,33 @@ module _ (size offset key most : ℕ) (area : List ℕ) where
   abbrev pub getTable : List ℕ → List ℕ → Table
   getTable wanted out =
       row 1 outside
-      (row 2 (DamagedIndex size offset key most area)
-      (row 3 (length wanted ≡ key → ⊥)
-      (row 2 (DamagedThere size offset key most area wanted)
-      (row 5 (AbsentThere size offset key most area wanted) (row 8 (TooLongThere size offset key most area wanted out) done)))))
+      (row 2 (DamagedIndex m area)
+      (row 3 (length wanted ≡ m .key → ⊥)
+      (row 2 (DamagedThere m area wanted)
+      (row 5 (AbsentThere m area wanted) (row 8 (TooLongThere m area wanted out) done)))))
 
   abbrev pub getAtTable : ℕ → List ℕ → Table
   getAtTable address out =
-      row 1 outside (row 2 damage (row 9 (Nowhere size offset key most area address) (row 8 (LyingTooLong size offset key most area address out) done)))
+      row 1 outside (row 2 damage (row 9 (Nowhere m area address) (row 8 (LyingTooLong m area address out) done)))
 
   abbrev lengthWrong : Change → Type 0
-  lengthWrong ch = LengthFine (measures size offset key most) ch → ⊥
+  lengthWrong ch = LengthFine m ch → ⊥
 
   abbrev pub changeTable : Change → Table
   changeTable (insert r) =
       row 1 outside
       (row 2 damage
       (row 3 (lengthWrong (insert r))
-      (row 4 (Present size offset key most area (keyOf (measures size offset key most) r))
-      (row 6 (WantOfInterval size offset key most area (insert r)) (row 7 (WantOfRoom size offset key most area (insert r)) done)))))
+      (row 4 (Present m area (keyOf m r))
+      (row 6 (WantOfInterval m area (insert r)) (row 7 (WantOfRoom m area (insert r)) done)))))
   changeTable (update r) =
       row 1 outside
       (row 2 damage
       (row 3 (lengthWrong (update r))
-      (row 5 (Absent size offset key most area (keyOf (measures size offset key most) r))
-      (row 6 (WantOfInterval size offset key most area (update r)) (row 7 (WantOfRoom size offset key most area (update r)) done)))))
+      (row 5 (Absent m area (keyOf m r))
+      (row 6 (WantOfInterval m area (update r)) (row 7 (WantOfRoom m area (update r)) done)))))
   changeTable (erase wanted) =
-      row 1 outside (row 2 damage (row 3 (lengthWrong (erase wanted)) (row 5 (Absent size offset key most area wanted) done)))
+      row 1 outside (row 2 damage (row 3 (lengthWrong (erase wanted)) (row 5 (Absent m area wanted) done)))
 
   -- the table of each request
   abbrev pub tableFor : Request → Table

@@ -27,10 +27,9 @@ pub record Step : Type 0 where
 -- ---- traces
 
 -- each step starts from the area that the one before left, with the same measures
-abbrev pub Trace : ℕ → ℕ → ℕ → ℕ → List ℕ → List Step → Type 0
-Trace size offset key most area [] = Unit {0}
-Trace size offset key most area (s ∷ ss) =
-    Allowed size offset key most area (s .request) (s .answer) (s .area) (s .output) × Trace size offset key most (s .area) ss
+abbrev pub Trace : Measures → List ℕ → List Step → Type 0
+Trace m area [] = Unit {0}
+Trace m area (s ∷ ss) = Allowed m area (s .request) (s .answer) (s .area) (s .output) × Trace m (s .area) ss
 
 -- the area after the last
 abbrev pub areaAfter : List ℕ → List Step → List ℕ
@@ -53,16 +52,17 @@ acceptedIn (s ∷ ss) = taking (s .request) (numberOf (s .answer)) (acceptedIn s
 -- ---- what stands
 
 -- the area is of bytes, is not refused as outside the limits, and is read as c
-pub record Sound (size offset key most : ℕ) (m : Measures) (n : ℕ) (area : List ℕ) (c : Content) : Type 0 where
+pub record Sound (m : Measures) (n : ℕ) (area : List ℕ) (c : Content) : Type 0 where
   pub octets : Octets area
-  pub judges : judgedOf size offset key most (length area) ≡ Fine m n
+  pub judges : judgedOf m (length area) ≡ Fine m n
   pub reads : readArea m n area ≡ whole c
 
 -- After changes made of opening records: the area is sound and as long as it was; its records are the opening ones with just these changes made one after
 -- another by key; their keys strictly ascend; and each change was one that may be made.
-pub record Stands (size offset key most : ℕ) (m : Measures) (n : ℕ) (before after : List ℕ) (opening : List (List ℕ)) (chs : List Change) : Type 0 where
+pub record Stands (m : Measures) (n : ℕ) (before after : List ℕ) (opening : List (List ℕ)) (chs : List Change)
+    : Type 0 where
   pub content : Content
-  pub sound : Sound size offset key most m n after content
+  pub sound : Sound m n after content
   pub long : length after ≡ length before
   pub records : recordsOf (content .filled) ≡ makeAll m chs opening
   pub ascend : ascending (keysOf m (recordsOf (content .filled))) ≡ true

@@ -8,7 +8,8 @@ use lib.ListN.{length, getD, replicate, take, drop}
 use lib.Dec.{eqb, ltb}
 use Rattle.fields.specs.Choice.{pick, both}
 use Rattle.fields.specs.Bytes.{splice}
-use Rattle.measures.specs.Judgement.{countOf, measures}
+use Rattle.measures.specs.Judgement.{countOf}
+use Rattle.measures.specs.declared.Measures.{Measures}
 use Rattle.room.specs.Room.{need}
 use Rattle.interval.specs.Records.{keyOf, lengthsFine}
 use Rattle.interval.specs.Layout.{form}
@@ -35,7 +36,7 @@ use Rattle.requests.specs.declared.Answer.the-variants.{NoRecord}
 use Rattle.requests.specs.Allowed.{Request, check, get, getAt, changes}
 use Rattle.promises.specs.Trace.{Step, Trace}
 use Rattle.promises.specs.Changes.{toldWritten}
-use Rattle.promises.specs.Instances.{alone, laid, certificate, certificates}
+use Rattle.promises.specs.Instances.{alone, laid, allKey, certificate, certificates}
 
 -- ---- registers
 
@@ -48,33 +49,35 @@ abbrev pub run : Register → List ℕ → List Request → List Step
 run reg area [] = []
 run reg area (q ∷ qs) = reg area q ∷ run reg (reg area q .area) qs
 
--- asked these one after another of an area, it does not keep its contracts at every step; keys are at the front of the records
-abbrev pub Breaks : ℕ → ℕ → List ℕ → Register → List Request → Type 0
-Breaks key most area reg qs = Trace 512 0 key most area (run reg area qs) → ⊥
+-- asked these one after another of an area, it does not keep its contracts at every step
+abbrev pub Breaks : Measures → List ℕ → Register → List Request → Type 0
+Breaks m area reg qs = Trace m area (run reg area qs) → ⊥
 
 -- a change that came to something; it is lent no output
 abbrev pub changedTo : Change → Outcome → Step
 changedTo ch o = record { request = changes ch; answer = o .answer; area = o .area; output = [] }
 
 -- the register that does what the contracts say
-abbrev pub rightly : ℕ → ℕ → Register
-rightly key most area check = record { request = check; answer = checkOf 512 0 key most area; area = area; output = [] }
-rightly key most area (get wanted out) =
-    record { request = get wanted out; answer = getOf 512 0 key most area wanted out .answer; area = area; output = getOf 512 0 key most area wanted out .output }
-rightly key most area (getAt address out) =
-    record { request = getAt address out; answer = getAtOf 512 0 key most area address out .answer; area = area; output = getAtOf 512 0 key most area address out .output }
-rightly key most area (changes ch) = changedTo ch (changeOf 512 0 key most area ch)
+abbrev pub rightly : Measures → Register
+rightly m area check = record { request = check; answer = checkOf m area; area = area; output = [] }
+rightly m area (get wanted out) =
+    let given : Given = getOf m area wanted out in
+    record { request = get wanted out; answer = given .answer; area = area; output = given .output }
+rightly m area (getAt address out) =
+    let given : Given = getAtOf m area address out in
+    record { request = getAt address out; answer = given .answer; area = area; output = given .output }
+rightly m area (changes ch) = changedTo ch (changeOf m area ch)
 
 -- a fault in changing: what becomes of the right outcome
 abbrev pub Fault : Type 0
 Fault = List ℕ → Change → Outcome → Outcome
 
 -- the register that has it, and reads rightly
-abbrev pub changingBy : Fault → ℕ → ℕ → Register
-changingBy f key most area check = rightly key most area check
-changingBy f key most area (get wanted out) = rightly key most area (get wanted out)
-changingBy f key most area (getAt address out) = rightly key most area (getAt address out)
-changingBy f key most area (changes ch) = changedTo ch (f area ch (changeOf 512 0 key most area ch))
+abbrev pub changingBy : Fault → Measures → Register
+changingBy f m area check = rightly m area check
+changingBy f m area (get wanted out) = rightly m area (get wanted out)
+changingBy f m area (getAt address out) = rightly m area (getAt address out)
+changingBy f m area (changes ch) = changedTo ch (f area ch (changeOf m area ch))
 
 -- a fault in a get by key: what becomes of what is rightly given, for an area, a key and an output
 abbrev pub GetFault : Type 0
@@ -82,12 +85,12 @@ GetFault = List ℕ → List ℕ → List ℕ → Given → Given
 
 -- the register that has it, and does all else rightly
 abbrev pub gettingBy : GetFault → Register
-gettingBy f area check = rightly 8 60 area check
+gettingBy f area check = rightly depot area check
 gettingBy f area (get wanted out) =
-    let given : Given = f area wanted out (getOf 512 0 8 60 area wanted out) in
+    let given : Given = f area wanted out (getOf depot area wanted out) in
     record { request = get wanted out; answer = given .answer; area = area; output = given .output }
-gettingBy f area (getAt address out) = rightly 8 60 area (getAt address out)
-gettingBy f area (changes ch) = rightly 8 60 area (changes ch)
+gettingBy f area (getAt address out) = rightly depot area (getAt address out)
+gettingBy f area (changes ch) = rightly depot area (changes ch)
 
 -- how many intervals an answer says were written: none where it is a refusal, one where the change stays in its interval, more where it divides
 abbrev pub writtenBy : Answer → ℕ
@@ -144,53 +147,53 @@ callsDamaged = saying (Damaged 0)
 
 -- says that the register is full, whatever is free
 abbrev pub alwaysFull : Register
-alwaysFull = changingBy (λ (area : List ℕ) (ch : Change) (o : Outcome). kept NoInterval area) 8 60
+alwaysFull = changingBy (λ (area : List ℕ) (ch : Change) (o : Outcome). kept NoInterval area) depot
 
 -- version three: an interval must be divided, enough are free, and it says that none is
 abbrev pub fullTooSoon : Register
-fullTooSoon = changingBy (λ (area : List ℕ) (ch : Change) (o : Outcome). ifDivides o (kept NoInterval area)) 8 60
+fullTooSoon = changingBy (λ (area : List ℕ) (ch : Change) (o : Outcome). ifDivides o (kept NoInterval area)) depot
 
 -- looks for room in the index record where nothing of it is renewed
 abbrev pub crampedAtHome : Register
-crampedAtHome = changingBy (λ (area : List ℕ) (ch : Change) (o : Outcome). ifStays o (kept NoRoom area)) 8 60
+crampedAtHome = changingBy (λ (area : List ℕ) (ch : Change) (o : Outcome). ifStays o (kept NoRoom area)) depot
 
--- whether an area's index record fills its interval to the last byte before the control fields; keys of 240 bytes, which are the whole record
+-- whether an area's index record fills its interval to the last byte before the control fields
 abbrev filled : Reading → Bool
 filled (damaged place) = false
 filled (whole c) = eqb (indexSize (widthIn c) (meaningOf c)) (512 - 7)
 
 abbrev pub fillsIndex : List ℕ → Bool
-fillsIndex area = filled (readArea (measures 512 0 240 240) (countOf 512 (length area)) area)
+fillsIndex area = filled (readArea allKey (countOf 512 (length area)) area)
 
 -- finds no room where the renewed index record just fits
 abbrev pub crampedAtBrim : Register
 crampedAtBrim =
-    changingBy (λ (area : List ℕ) (ch : Change) (o : Outcome). pick (fillsIndex (o .area)) (ifDivides o (kept NoRoom area)) o) 240 240
+    changingBy (λ (area : List ℕ) (ch : Change) (o : Outcome). pick (fillsIndex (o .area)) (ifDivides o (kept NoRoom area)) o) allKey
 
 -- ---- counts and gets
 
 -- invents how many records and free intervals there are
 abbrev pub inventsCounts : Register
 inventsCounts area check = record { request = check; answer = Intact 7 7; area = area; output = [] }
-inventsCounts area (get wanted out) = rightly 8 60 area (get wanted out)
-inventsCounts area (getAt address out) = rightly 8 60 area (getAt address out)
-inventsCounts area (changes ch) = rightly 8 60 area (changes ch)
+inventsCounts area (get wanted out) = rightly depot area (get wanted out)
+inventsCounts area (getAt address out) = rightly depot area (getAt address out)
+inventsCounts area (changes ch) = rightly depot area (changes ch)
 
 -- invents how many intervals a change wrote
 abbrev pub inventsWritten : Register
 inventsWritten =
     changingBy
-    (λ (area : List ℕ) (ch : Change) (o : Outcome). ifMade o (record { answer = Done (record { count = 7; first = 0; second = 1; third = 2; fourth = 3 }); area = o .area })) 8 60
+    (λ (area : List ℕ) (ch : Change) (o : Outcome). ifMade o (record { answer = Done (record { count = 7; first = 0; second = 1; third = 2; fourth = 3 }); area = o .area })) depot
 
 -- tells as many intervals as a change wrote, but each by the number of the one behind it
 abbrev pub misnamesWritten : Register
 misnamesWritten =
-    changingBy (λ (area : List ℕ) (ch : Change) (o : Outcome). ifMade o (record { answer = Done (carrying (nexts (toldWritten (o .answer)))); area = o .area })) 8 60
+    changingBy (λ (area : List ℕ) (ch : Change) (o : Outcome). ifMade o (record { answer = Done (carrying (nexts (toldWritten (o .answer)))); area = o .area })) depot
 
 -- leaves out the index record where a change wrote it
 abbrev pub forgetsIndex : Register
 forgetsIndex =
-    changingBy (λ (area : List ℕ) (ch : Change) (o : Outcome). ifDivides o (record { answer = Done (carrying (drop 1 (toldWritten (o .answer)))); area = o .area })) 8 60
+    changingBy (λ (area : List ℕ) (ch : Change) (o : Outcome). ifDivides o (record { answer = Done (carrying (drop 1 (toldWritten (o .answer)))); area = o .area })) depot
 
 -- hands out the same certificate to whoever asks for one that is there
 abbrev pub sameRecord : Register
@@ -217,7 +220,7 @@ vouched (holding m c) out right = right
 
 -- vouches for the whole area in every get
 abbrev pub vouchesForAll : Register
-vouchesForAll = gettingBy (λ (area wanted out : List ℕ) (right : Given). vouched (openingOf 512 0 8 60 area) out right)
+vouchesForAll = gettingBy (λ (area wanted out : List ℕ) (right : Given). vouched (openingOf depot area) out right)
 
 -- Two intervals in use: the first entry's separator is the first certificate's key, but in its interval lies also the second certificate, whose key is above
 -- that bound. The third lies in the other interval.
@@ -290,11 +293,11 @@ together = laid (alone (1 ∷ []) (first ∷ second ∷ third ∷ [])) ((first �
 
 -- says that it is done, and has done nothing
 abbrev pub untouchedDone : Register
-untouchedDone = changingBy (λ (area : List ℕ) (ch : Change) (o : Outcome). kept (o .answer) area) 8 60
+untouchedDone = changingBy (λ (area : List ℕ) (ch : Change) (o : Outcome). kept (o .answer) area) depot
 
 -- takes certificates in as it should, but a revoked one it keeps, and says that it is done
 abbrev pub keepsRevoked : Register
-keepsRevoked = changingBy keeping 8 60
+keepsRevoked = changingBy keeping depot
   where
     keeping : Fault
     keeping area (insert r) o = o
@@ -303,7 +306,7 @@ keepsRevoked = changingBy keeping 8 60
 
 -- says that it is done, and leaves the same bytes whatever was asked, be they damaged or sound
 abbrev pub constantBytes : List ℕ → Register
-constantBytes b = changingBy (λ (area : List ℕ) (ch : Change) (o : Outcome). ifMade o (record { answer = o .answer; area = b })) 8 60
+constantBytes b = changingBy (λ (area : List ℕ) (ch : Change) (o : Outcome). ifMade o (record { answer = o .answer; area = b })) depot
 
 -- the key's interval with its changed records written over it, but the last
 abbrev pub lastLost : Opening → Change → List ℕ → List ℕ
@@ -317,11 +320,12 @@ lastLost (holding m c) ch area =
 abbrev pub losesLast : Register
 losesLast =
     changingBy
-    (λ (area : List ℕ) (ch : Change) (o : Outcome). ifDivides o (record { answer = Done (carrying (1 ∷ [])); area = lastLost (openingOf 512 0 8 60 area) ch area }))
-    8 60
+    (λ (area : List ℕ) (ch : Change) (o : Outcome). ifDivides o (record { answer = Done (carrying (1 ∷ [])); area = lastLost (openingOf depot area) ch area }))
+    depot
 
 -- ---- writers
 
 -- a writer of intervals whose bytes are read as the records that it was given, wherever these fit
 abbrev pub ReadsBack : (List (List ℕ) → List ℕ) → Type 0
-ReadsBack writer = (rs : List (List ℕ)) → lengthsFine (measures 512 0 8 60) rs ≡ true → need (map length rs) ≤ 512 → recordsIn (writer rs) ≡ rs
+ReadsBack writer =
+    (rs : List (List ℕ)) → lengthsFine depot rs ≡ true → need (map length rs) ≤ 512 → recordsIn (writer rs) ≡ rs

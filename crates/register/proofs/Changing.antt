@@ -12,7 +12,6 @@ use denote.Enum.Declared.{tagOf}
 use borrow.Author.Tests.{le-leb, lt-leb, eq-eqb, ne-eqb}
 use Rattle.fields.proofs.Splices.{part-is}
 use Rattle.measures.specs.declared.Measures.{Measures}
-use Rattle.measures.specs.declared.Numbers.{Numbers}
 use Rattle.interval.specs.Records.{keyOf, within}
 use Rattle.change.specs.Plan.{Plan, noInterval, noRoom, stores}
 use Rattle.change_write.specs.AidCarried.{Carries}
@@ -51,14 +50,14 @@ pub length-long : (m : Measures) (l : ℕ) → m .least ≤ l → m .most < l �
 length-long m l h k = rw (le-leb (m .least) l h, lt-leb l (m .most) k)
 
 -- a refusal is the answer, and the area stays; a whole area is answered by what it holds
-module _ (k : Numbers) (area : List ℕ) (ch : Change) where
-  pub change-shut : (a : Answer) → openedOf k area ≡ opened.Refused a → Makes (changeOf (k .size) (k .offset) (k .key) (k .most) area ch) a area
+module _ (k : Measures) (area : List ℕ) (ch : Change) where
+  pub change-shut : (a : Answer) → openedOf k area ≡ opened.Refused a → Makes (changeOf k area ch) a area
   unfolding changeOf
   change-shut a e = rw (opened-shut k area a e) (record { answers = refl; leaves = refl })
 
   pub change-whole : (m : Measures) (n records free : ℕ) → openedOf k area ≡ opened.Whole m n records free
       → (a : Answer) (after : List ℕ) → MakesIn m n area (λ c. changeIn m c area ch) a after
-      → Makes (changeOf (k .size) (k .offset) (k .key) (k .most) area ch) a after
+      → Makes (changeOf k area ch) a after
   unfolding changeOf
   change-whole m n records free e a after g = let o = opened-whole k area m n records free e in rw (o .1) (g (o .0) (o .2))
 

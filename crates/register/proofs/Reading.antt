@@ -9,9 +9,8 @@ use borrow.Author.Tests.{eq-eqb, ne-eqb, le-leb, lt-leb}
 use Rattle.fields.specs.Choice.{pick}
 use Rattle.fields.specs.Bytes.{part, splice}
 use Rattle.fields.proofs.Splices.{length-mid}
-use Rattle.measures.specs.Judgement.{Fits}
+use Rattle.measures.specs.Judgement.{Fits, judgedOf}
 use Rattle.measures.specs.declared.Measures.{Measures}
-use Rattle.measures.specs.declared.Numbers.{Numbers}
 use Rattle.measures.specs.declared.Judged.the-variants as judged
 use Rattle.interval.specs.Reading.{recordsIn}
 use Rattle.interval.specs.Search.{placeOf}
@@ -31,7 +30,7 @@ use Rattle.requests.specs.declared.Answer.the-variants.{Intact, Damaged, Short,
 use Rattle.requests.specs.declared.Answer.the-variants as answer
 use Rattle.opening.specs.AidOpened.{openedOf}
 use Rattle.opening.specs.declared.Opened.the-variants as opened
-use Rattle.opening.proofs.Opening.{judgedFor, opened-shut, opened-whole}
+use Rattle.opening.proofs.Opening.{opened-shut, opened-whole}
 use Rattle.register.specs.AidTold.{GivesIn}
 use Rattle.register.proofs.KeyFound.{there-readable, found-there, absent-there}
 
@@ -106,27 +105,27 @@ module _ (m : Measures) (n : ℕ) (area wanted out : List ℕ) where
       go true true h (found.Gap i t) e =
           ap (λ (rs : List (List ℕ)). handOut Absent rs out) (sym (absent-there m area wanted k (there-readable m n area o es wanted k h) i t e))
 
--- by the judgement of the four numbers
-module _ (k : Numbers) (area wanted out : List ℕ) where
-  pub get-outside : judgedFor k (length area) ≡ judged.Outside → Gives (getOf (k .size) (k .offset) (k .key) (k .most) area wanted out) Outside out
+-- by the judgement of the measures
+module _ (k : Measures) (area wanted out : List ℕ) where
+  pub get-outside : judgedOf k (length area) ≡ judged.Outside → Gives (getOf k area wanted out) Outside out
   unfolding getOf
   get-outside e = rw e (record { answers = refl; outputs = refl })
 
-  pub get-fine : (m : Measures) (n : ℕ) → judgedFor k (length area) ≡ judged.Fine m n → (a : Answer) (after : List ℕ) → Gives (getIn m n area wanted out) a after
-      → Gives (getOf (k .size) (k .offset) (k .key) (k .most) area wanted out) a after
+  pub get-fine : (m : Measures) (n : ℕ) → judgedOf k (length area) ≡ judged.Fine m n → (a : Answer) (after : List ℕ) → Gives (getIn m n area wanted out) a after
+      → Gives (getOf k area wanted out) a after
   unfolding getOf
   get-fine m n e a after g = rw e g
 
 -- ---- by what the area was opened as
 
-module _ (k : Numbers) (area : List ℕ) where
+module _ (k : Measures) (area : List ℕ) where
   -- a refusal is the answer, and the output stays
   module _ (a : Answer) (e : openedOf k area ≡ opened.Refused a) where
-    pub check-shut : a ≡ checkOf (k .size) (k .offset) (k .key) (k .most) area
+    pub check-shut : a ≡ checkOf k area
     unfolding checkOf
     check-shut = sym (rw (opened-shut k area a e))
 
-    pub get-at-shut : (address : ℕ) (out : List ℕ) → Gives (getAtOf (k .size) (k .offset) (k .key) (k .most) area address out) a out
+    pub get-at-shut : (address : ℕ) (out : List ℕ) → Gives (getAtOf k area address out) a out
     unfolding getAtOf
     get-at-shut address out = rw (opened-shut k area a e) (record { answers = refl; outputs = refl })
 
@@ -135,14 +134,14 @@ module _ (k : Numbers) (area : List ℕ) where
     pub whole-there : Fits m n (length area) × Whole m n area
     whole-there = let o = opened-whole k area m n records free e in (o .3, record { content = o .0; reads = o .2 })
 
-    pub check-whole : Intact records free ≡ checkOf (k .size) (k .offset) (k .key) (k .most) area
+    pub check-whole : Intact records free ≡ checkOf k area
     unfolding checkOf
     check-whole =
         let o = opened-whole k area m n records free e in
-        let z : checkOf (k .size) (k .offset) (k .key) (k .most) area ≡ Intact (length (recordsOf (o .0 .filled))) (length (o .0 .free)) = rw (o .1) in
+        let z : checkOf k area ≡ Intact (length (recordsOf (o .0 .filled))) (length (o .0 .free)) = rw (o .1) in
         cc (z, o .4, o .5)
 
     pub get-at-whole : (address : ℕ) (out : List ℕ) (a : Answer) (after : List ℕ) → GivesIn m n area (λ c. getAtIn m c address out) a after
-        → Gives (getAtOf (k .size) (k .offset) (k .key) (k .most) area address out) a after
+        → Gives (getAtOf k area address out) a after
     unfolding getAtOf
     get-at-whole address out a after g = let o = opened-whole k area m n records free e in rw (o .1) (g (o .0) (o .2))

@@ -4,7 +4,6 @@ use mathlib.Core.Path.{_≡_}
 use mathlib.Core.Bool.{true}
 use mathlib.Core.List.{List, []}
 use Rattle.measures.specs.declared.Measures.{Measures}
-use Rattle.measures.specs.declared.Numbers.{Numbers}
 use Rattle.interval.specs.declared.Found.{Found}
 use Rattle.interval.specs.declared.Found.the-variants.{At, Gap}
 use Rattle.area.specs.Content.{Content, recordsOf}
@@ -13,7 +12,7 @@ use Rattle.interval_edit.specs.declared.Site.{Site}
 use Rattle.change.specs.Plan.{planOf}
 use Rattle.requests.specs.Records.{withKey}
 use Rattle.requests.specs.Model.{Change, insert, update, erase}
-use Rattle.requests.specs.Changing.{Outcome, keyIn, lengthFine, editOf, carryOut, ifKeyed, changeOf}
+use Rattle.requests.specs.Changing.{Outcome, keyIn, lengthFine, editOf, carryOut, ifKeyed}
 use Rattle.requests.specs.declared.Answer.{Answer}
 use Rattle.requests.specs.declared.Answer.the-variants.{Present, Absent}
 use Rattle.register.specs.AidTold.{MakesIn}
@@ -71,7 +70,3 @@ aimOf kind spot = aimAt kind (spot .entry) (spot .number) (spot .found)
 -- what that is, in a sound area
 abbrev pub MakesKeyed : Measures → ℕ → List ℕ → Change → Answer → List ℕ → Type 0
 MakesKeyed m n area ch r after = MakesIn m n area (λ c. keyedIn m c area ch) r after
-
--- a change with the four numbers of a request
-abbrev pub changeBy : Numbers → List ℕ → Change → Outcome
-changeBy k area ch = changeOf (k .size) (k .offset) (k .key) (k .most) area ch

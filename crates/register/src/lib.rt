@@ -6,14 +6,14 @@ ghost use mathlib.Core.List.{[], _∷_};
 ghost use lib.ListN.{length};
 ghost use Rattle.fields.specs.Choice.{pick};
 ghost use Rattle.fields.specs.Bytes.{part};
-ghost use Rattle.measures.specs.Judgement.{Fits};
+ghost use Rattle.measures.specs.Judgement.{Fits, measures, asked};
 ghost use Rattle.area.specs.Leads.{indexSound};
 ghost use Rattle.area_find.specs.AidSought.{Whole};
 ghost use Rattle.requests.specs.Reading.{checkOf, getIn, getOf, getAtIn, getAtOf, handOut, Gives};
-ghost use Rattle.requests.specs.Changing.{changeIn, insertOf, updateOf, eraseOf, Makes};
+ghost use Rattle.requests.specs.Changing.{changeIn, changeOf, insertOf, updateOf, eraseOf, Makes};
 ghost use Rattle.requests.specs.declared.Answer.the-variants.{Absent, WrongLength, Damaged};
 ghost use Rattle.register.specs.AidTold.{answerFor, GivesIn, MakesIn};
-ghost use Rattle.register.specs.AidChange.{changeFor, changeAt, MakesKeyed, changeBy, aimOf, Asked};
+ghost use Rattle.register.specs.AidChange.{changeFor, changeAt, MakesKeyed, aimOf, Asked};
 use area_find::Lying;
 use area_find::Spot;
 use area_seek::Looked;
@@ -29,7 +29,7 @@ use requests::Answer;
 
 // Whether the area is sound, with how many records and free intervals it has: refusals 1 and 2.
 pub fn check(area: &[u8], size: usize, offset: usize, key: usize, most: usize) -> Answer
-    ensures { λ r. ⌜ r ≡ checkOf size offset key most (now (area .entry)) ⌝ }
+    ensures { λ r. ⌜ r ≡ checkOf (measures size offset key most) (now (area .entry)) ⌝ }
 {
     let numbers = Numbers {
         size,
@@ -103,7 +103,8 @@ pub fn get(
     wanted: &[u8],
     out: &mut [u8],
 ) -> Answer
-    ensures { λ r. ⌜ Gives (getOf size offset key most (now (area .entry)) (now (wanted .entry)) (now (out .entry))) r (now (out .exit)) ⌝ }
+    ensures { λ r. ⌜ Gives (getOf (measures size offset key most) (now (area .entry))
+        (now (wanted .entry)) (now (out .entry))) r (now (out .exit)) ⌝ }
 {
     let numbers = Numbers {
         size,
@@ -138,7 +139,8 @@ pub fn get_at(
     address: u64,
     out: &mut [u8],
 ) -> Answer
-    ensures { λ r. ⌜ Gives (getAtOf size offset key most (now (area .entry)) address (now (out .entry))) r (now (out .exit)) ⌝ }
+    ensures { λ r. ⌜ Gives (getAtOf (measures size offset key most) (now (area .entry))
+        address (now (out .entry))) r (now (out .exit)) ⌝ }
 {
     let numbers = Numbers {
         size,
@@ -270,7 +272,8 @@ pub(crate) fn change_in(area: &mut [u8], m: Measures, n: usize, kind: Kind, give
 
 // A change, of whichever kind.
 pub(crate) fn change(area: &mut [u8], numbers: Numbers, kind: Kind, given: &[u8]) -> Answer
-    ensures { λ r. ⌜ Makes (changeBy numbers (now (area .entry)) (changeFor kind (now (given .entry)))) r (now (area .exit)) ⌝ }
+    ensures { λ r. ⌜ Makes (changeOf (asked numbers) (now (area .entry)) (changeFor kind (now (given .entry))))
+        r (now (area .exit)) ⌝ }
 {
     match opening::open(area, numbers) {
         Opened::Refused { answer } => answer,
@@ -292,7 +295,8 @@ pub fn insert(
     most: usize,
     new: &[u8],
 ) -> Answer
-    ensures { λ r. ⌜ Makes (insertOf size offset key most (now (area .entry)) (now (new .entry))) r (now (area .exit)) ⌝ }
+    ensures { λ r. ⌜ Makes (insertOf (measures size offset key most) (now (area .entry)) (now (new .entry)))
+        r (now (area .exit)) ⌝ }
 {
     let numbers = Numbers {
         size,
@@ -312,7 +316,8 @@ pub fn update(
     most: usize,
     new: &[u8],
 ) -> Answer
-    ensures { λ r. ⌜ Makes (updateOf size offset key most (now (area .entry)) (now (new .entry))) r (now (area .exit)) ⌝ }
+    ensures { λ r. ⌜ Makes (updateOf (measures size offset key most) (now (area .entry)) (now (new .entry)))
+        r (now (area .exit)) ⌝ }
 {
     let numbers = Numbers {
         size,
@@ -332,7 +337,8 @@ pub fn erase(
     most: usize,
     wanted: &[u8],
 ) -> Answer
-    ensures { λ r. ⌜ Makes (eraseOf size offset key most (now (area .entry)) (now (wanted .entry))) r (now (area .exit)) ⌝ }
+    ensures { λ r. ⌜ Makes (eraseOf (measures size offset key most) (now (area .entry)) (now (wanted .entry)))
+        r (now (area .exit)) ⌝ }
 {
     let numbers = Numbers {
         size,

@@ -3,6 +3,7 @@ use Prim.Native.Nat.{ℕ, zero, suc, _+_, _*_, _≤_, _<_}
 use mathlib.Core.Path.{_≡_, refl, ap}
 use mathlib.Core.Bool.{Bool, true, false}
 use mathlib.Core.List.{List, [], _∷_, map}
+use mathlib.Core.Logic.{_⊎_, inl, inr}
 use lib.ListN.{length, length-append, getD}
 use lib.Dec.{eqb, leb, ltb}
 use native.Mathlib.Omega.{arith}
@@ -11,11 +12,10 @@ use Rattle.fields.specs.Choice.{pick}
 use Rattle.fields.specs.Table.{sameList}
 use Rattle.fields.specs.Lists.{every}
 use Rattle.fields.proofs.Choices.{both-split}
-use Rattle.measures.specs.Judgement.{Fits, limit, judgedOf, widthFor}
+use Rattle.measures.specs.Judgement.{Fits, limit, countOf, judgedOf, widthFor}
 use Rattle.measures.specs.declared.Measures.{Measures}
-use Rattle.measures.specs.declared.Judged.{Judged}
 use Rattle.measures.specs.declared.Judged.the-variants as judged
-use Rattle.measures.proofs.Fine.{accepted-fits, fits-small, fits-large}
+use Rattle.measures.proofs.Fine.{judged-either, accepted-fits, fits-small, fits-large}
 use Rattle.interval.specs.Records.{keyOf, within, lengthsFine}
 use Rattle.interval.specs.Reading.{recordsIn}
 use Rattle.interval.specs.Role.{soundUsed}
@@ -33,8 +33,8 @@ use Rattle.area.specs.Reading.{Reading, damaged, whole, readArea}
 use Rattle.area.proofs.Intervals.{used-apart}
 use Rattle.area.proofs.Places.{length-data}
 use Rattle.area.proofs.Sounding.{sound-apart, sound-rules, sound-filled, AllUsed}
-use Rattle.requests.specs.Opening.{openRead, openJudged}
-use Rattle.requests.specs.Reading.{checkOpened, checkOf, Given, handOut, getThere, getIn, getJudged, getOf}
+use Rattle.requests.specs.Opening.{openRead}
+use Rattle.requests.specs.Reading.{checkOpened, checkOf, Given, handOut, getThere, getIn, getOf}
 use Rattle.requests.specs.Records.{withKey}
 use Rattle.requests.specs.Words.{wordOf, Apart, Small}
 use Rattle.requests.specs.declared.Answer.{Answer}
@@ -105,17 +105,15 @@ module _ (m : Measures) (n : ℕ) (area : List ℕ) (o : Fits m n (length area))
       (record { few = omega arith; many = omega arith }))
       (damaged-small 0 (omega arith))
 
-get-judged-small : (size offset key most : ℕ) (area wanted out : List ℕ) (j : Judged) → judgedOf size offset key most (length area) ≡ j
-    → Small (getJudged j area wanted out .answer)
-get-judged-small size offset key most area wanted out judged.Outside e = record { few = omega arith; many = omega arith }
-get-judged-small size offset key most area wanted out (judged.Fine m n) e =
-    let f = accepted-fits size offset key most (length area) n m e in
-    in-small m n area (rw (f .0) (f .1)) wanted out
-
 -- Every answer of a get by key is small.
-pub get-small : (size offset key most : ℕ) (area wanted out : List ℕ) → Small (getOf size offset key most area wanted out .answer)
+pub get-small : (m : Measures) (area wanted out : List ℕ) → Small (getOf m area wanted out .answer)
 unfolding getOf
-get-small size offset key most area wanted out = get-judged-small size offset key most area wanted out (judgedOf size offset key most (length area)) refl
+get-small m area wanted out = go (judged-either m (length area))
+  where
+    go : (judgedOf m (length area) ≡ judged.Outside) ⊎ (judgedOf m (length area) ≡ judged.Fine m (countOf (m .size) (length area)))
+        → Small (getOf m area wanted out .answer)
+    go (inl j) = rw j (record { few = omega arith; many = omega arith })
+    go (inr j) = rw j (in-small m _ area (accepted-fits m (length area) _ j) wanted out)
 
 -- ---- a check
 
@@ -162,26 +160,22 @@ module _ (m : Measures) (n : ℕ) (area : List ℕ) (o : Fits m n (length area))
       damaged-small place (omega (arith, o .few, place-most (indexSound m n area) _ _ place _ (λ t. ltb-true _ n t) e))
   read-small (whole c) e = whole-small c e
 
-check-judged-small : (size offset key most : ℕ) (area : List ℕ) (j : Judged) → judgedOf size offset key most (length area) ≡ j
-    → Small (checkOpened (openJudged j area))
-check-judged-small size offset key most area judged.Outside e = record { few = omega arith; many = omega arith }
-check-judged-small size offset key most area (judged.Fine m n) e =
-    let f = accepted-fits size offset key most (length area) n m e in
-    read-small m n area (rw (f .0) (f .1)) (readArea m n area) refl
-
 -- Every answer of a check is small.
-pub check-small : (size offset key most : ℕ) (area : List ℕ) → Small (checkOf size offset key most area)
+pub check-small : (m : Measures) (area : List ℕ) → Small (checkOf m area)
 unfolding checkOf
-check-small size offset key most area = check-judged-small size offset key most area (judgedOf size offset key most (length area)) refl
+check-small m area = go (judged-either m (length area))
+  where
+    go : (judgedOf m (length area) ≡ judged.Outside) ⊎ (judgedOf m (length area) ≡ judged.Fine m (countOf (m .size) (length area))) → Small (checkOf m area)
+    go (inl j) = rw j (record { few = omega arith; many = omega arith })
+    go (inr j) = rw j (read-small m _ area (accepted-fits m (length area) _ j) _ refl)
 
 -- ---- so their words can be taken apart
 
 small-apart : (a : Answer) → Small a → Apart (wordOf a) a
 small-apart a s = word-apart a (omega (arith, s .few))
 
-pub check-word-apart : (size offset key most : ℕ) (area : List ℕ) → Apart (wordOf (checkOf size offset key most area)) (checkOf size offset key most area)
-check-word-apart size offset key most area = small-apart (checkOf size offset key most area) (check-small size offset key most area)
+pub check-word-apart : (m : Measures) (area : List ℕ) → Apart (wordOf (checkOf m area)) (checkOf m area)
+check-word-apart m area = small-apart (checkOf m area) (check-small m area)
 
-pub get-word-apart : (size offset key most : ℕ) (area wanted out : List ℕ)
-    → Apart (wordOf (getOf size offset key most area wanted out .answer)) (getOf size offset key most area wanted out .answer)
-get-word-apart size offset key most area wanted out = small-apart (getOf size offset key most area wanted out .answer) (get-small size offset key most area wanted out)
+pub get-word-apart : (m : Measures) (area wanted out : List ℕ) → Apart (wordOf (getOf m area wanted out .answer)) (getOf m area wanted out .answer)
+get-word-apart m area wanted out = small-apart (getOf m area wanted out .answer) (get-small m area wanted out)

@@ -156,33 +156,33 @@ finds-among m rs up key out =
 
 -- ---- the ways of a get by key
 
-module _ (size offset key most : ℕ) (area : List ℕ) (m : Measures) (n : ℕ) (j : judgedOf size offset key most (length area) ≡ Fine m n) (wanted out : List ℕ) where
+module _ (m : Measures) (area : List ℕ) (n : ℕ) (j : judgedOf m (length area) ≡ Fine m n) (wanted out : List ℕ) where
   -- 2 at place 0 where the index record is unsound, whatever the key,
-  pub get-index-damaged : indexSound m n area ≡ false → getOf size offset key most area wanted out ≡ refused (Damaged 0) out
+  pub get-index-damaged : indexSound m n area ≡ false → getOf m area wanted out ≡ refused (Damaged 0) out
   unfolding getOf getIn
   get-index-damaged i = rw (j, i)
 
   module _ (i : indexSound m n area ≡ true) where
     -- 3 where the key has not the length of a key, whatever the data intervals are,
-    pub get-length-wrong : (length wanted ≡ m .key → ⊥) → getOf size offset key most area wanted out ≡ refused WrongLength out
+    pub get-length-wrong : (length wanted ≡ m .key → ⊥) → getOf m area wanted out ≡ refused WrongLength out
     unfolding getOf getIn
     get-length-wrong l = rw (j, i, ne-eqb (length wanted) (m .key) l)
 
     module _ (l : length wanted ≡ m .key) where
       -- 2 at the key's interval where that is unsound, whatever the others are,
       pub get-there-damaged : soundFor m (entriesFor m n area) wanted (intervalFor m n area wanted) ≡ false
-          → getOf size offset key most area wanted out ≡ refused (Damaged (numberFor m n area wanted + 1)) out
+          → getOf m area wanted out ≡ refused (Damaged (numberFor m n area wanted + 1)) out
       unfolding getOf getIn getThere
       get-there-damaged d = rw (j, i, eq-eqb (length wanted) (m .key) l, d)
 
       there-handed : soundFor m (entriesFor m n area) wanted (intervalFor m n area wanted) ≡ true
-          → getOf size offset key most area wanted out ≡ handOut Absent (withKey m wanted (recordsIn (intervalFor m n area wanted))) out
+          → getOf m area wanted out ≡ handOut Absent (withKey m wanted (recordsIn (intervalFor m n area wanted))) out
       unfolding getOf getIn getThere
       there-handed d = rw (j, i, eq-eqb (length wanted) (m .key) l, d)
 
       -- and else exactly the record with the key among those of that interval.
       pub get-there-finds : soundFor m (entriesFor m n area) wanted (intervalFor m n area wanted) ≡ true
-          → Finds (Keyed m wanted (recordsIn (intervalFor m n area wanted))) Absent out (getOf size offset key most area wanted out)
+          → Finds (Keyed m wanted (recordsIn (intervalFor m n area wanted))) Absent out (getOf m area wanted out)
       get-there-finds d =
           rw (there-handed d)
           (finds-among m (recordsIn (intervalFor m n area wanted)) (there-apart m (entriesFor m n area) wanted (intervalFor m n area wanted) d .1) wanted out)
@@ -216,44 +216,43 @@ module _ (m : Measures) (n : ℕ) (area : List ℕ) (c : Content) (w : readArea 
       (λ (r : List ℕ) (l : Lies m (baseOf c) address (c .filled) r). lies-lying m (baseOf c) address some (c .filled) (whole-apart m n area c w) r l)
       (λ (x : List ℕ) (xs : List (List ℕ)) (e : lyingAt m (baseOf c) address (c .filled) ≡ x ∷ xs). lying-lies m (baseOf c) address some (c .filled) x xs e)
 
-module _ (size offset key most : ℕ) (area : List ℕ) (m : Measures) (n : ℕ) (c : Content) (j : judgedOf size offset key most (length area) ≡ Fine m n)
-    (w : readArea m n area ≡ whole c) where
+module _ (m : Measures) (area : List ℕ) (n : ℕ) (j : judgedOf m (length area) ≡ Fine m n) where
   -- Measures that are judged fine have a key of at least one byte,
   pub judged-key : 1 ≤ m .key
-  judged-key = let a = accepted-fits size offset key most (length area) n m j in rw (a .0) (a .1 .key-some)
+  judged-key = accepted-fits m (length area) n j .key-some
 
   -- which ends within the shortest record,
   pub judged-inside : m .offset + m .key ≤ m .least
-  judged-inside = let a = accepted-fits size offset key most (length area) n m j in rw (a .0) (omega arith)
+  judged-inside = accepted-fits m (length area) n j .key-inside
 
   -- so that no record is empty.
   pub judged-least : 1 ≤ m .least
   judged-least = omega (arith, judged-key, judged-inside)
 
+module _ (m : Measures) (area : List ℕ) (n : ℕ) (c : Content) (j : judgedOf m (length area) ≡ Fine m n) (w : readArea m n area ≡ whole c) where
   get-is : Octets area → (wanted out : List ℕ) → length wanted ≡ m .key
-      → getOf size offset key most area wanted out ≡ handOut Absent (withKey m wanted (recordsOf (c .filled))) out
+      → getOf m area wanted out ≡ handOut Absent (withKey m wanted (recordsOf (c .filled))) out
   unfolding getOf
-  get-is o wanted out l = rw j (get-same m n area c w wanted judged-key o out ∙ rw (eq-eqb (length wanted) (m .key) l))
+  get-is o wanted out l = rw j (get-same m n area c w wanted (judged-key m area n j) o out ∙ rw (eq-eqb (length wanted) (m .key) l))
 
-  get-at-is : (address : ℕ) (out : List ℕ) → getAtOf size offset key most area address out ≡ handOut NoRecord (lyingAt m (baseOf c) address (c .filled)) out
+  get-at-is : (address : ℕ) (out : List ℕ) → getAtOf m area address out ≡ handOut NoRecord (lyingAt m (baseOf c) address (c .filled)) out
   unfolding getAtOf
   get-at-is address out = rw (j, w)
 
   -- On a whole area, a get by a key of the right length finds exactly the record that has the key: it is handed out if the output is long enough, else its
   -- length is told, and where there is none that is told.
   pub get-finds : Octets area → (wanted out : List ℕ) → length wanted ≡ m .key
-      → Finds (Keyed m wanted (recordsOf (c .filled))) Absent out (getOf size offset key most area wanted out)
+      → Finds (Keyed m wanted (recordsOf (c .filled))) Absent out (getOf m area wanted out)
   get-finds o wanted out l = rw (get-is o wanted out l) (finds-key m n area c w wanted out)
 
   -- By a key of another length it is refused,
-  pub get-wrong-length : (wanted out : List ℕ) → (length wanted ≡ m .key → ⊥) → getOf size offset key most area wanted out ≡ refused WrongLength out
-  get-wrong-length wanted out l = get-length-wrong size offset key most area m n j wanted out (sound-apart m n area c w .index) l
+  pub get-wrong-length : (wanted out : List ℕ) → (length wanted ≡ m .key → ⊥) → getOf m area wanted out ≡ refused WrongLength out
+  get-wrong-length wanted out l = get-length-wrong m area n j wanted out (sound-apart m n area c w .index) l
 
   -- and no record has such a key.
   pub get-wrong-none : (wanted : List ℕ) → (length wanted ≡ m .key → ⊥) → (r : List ℕ) → Keyed m wanted (recordsOf (c .filled)) r → ⊥
-  get-wrong-none wanted l r k = l (keyed-long m n area c w judged-inside wanted r k)
+  get-wrong-none wanted l r k = l (keyed-long m n area c w (judged-inside m area n j) wanted r k)
 
   -- On a whole area, a get by address finds exactly the record of an interval in use whose first byte has the address.
-  pub get-at-finds : (address : ℕ) (out : List ℕ)
-      → Finds (Lies m (baseOf c) address (c .filled)) NoRecord out (getAtOf size offset key most area address out)
-  get-at-finds address out = rw (get-at-is address out) (finds-address m n area c w judged-least address out)
+  pub get-at-finds : (address : ℕ) (out : List ℕ) → Finds (Lies m (baseOf c) address (c .filled)) NoRecord out (getAtOf m area address out)
+  get-at-finds address out = rw (get-at-is address out) (finds-address m n area c w (judged-least m area n j) address out)

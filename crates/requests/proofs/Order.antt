@@ -19,29 +19,29 @@ use Rattle.requests.specs.Changing.{kept, carryOut, insertOf, changeOf}
 use Rattle.requests.specs.declared.Answer.the-variants.{Damaged, Present}
 use Rattle.requests.proofs.Gets.{get-index-damaged, get-there-damaged}
 
-module _ (size offset key most : ℕ) (area : List ℕ) (m : Measures) (n : ℕ) (j : judgedOf size offset key most (length area) ≡ Fine m n) (out : List ℕ) where
+module _ (m : Measures) (area : List ℕ) (n : ℕ) (j : judgedOf m (length area) ≡ Fine m n) (out : List ℕ) where
   -- For a get by key 2 at the index record comes before 3: whatever the key's length. 2 at the interval that the key leads to comes after it, and before 5 and 8.
   pub get-damaged : (wanted : List ℕ)
-      → (indexSound m n area ≡ false → getOf size offset key most area wanted out ≡ record { answer = Damaged 0; output = out })
+      → (indexSound m n area ≡ false → getOf m area wanted out ≡ record { answer = Damaged 0; output = out })
       × (indexSound m n area ≡ true → length wanted ≡ m .key → soundFor m (entriesFor m n area) wanted (intervalFor m n area wanted) ≡ false
-      → getOf size offset key most area wanted out ≡ record { answer = Damaged (numberFor m n area wanted + 1); output = out })
+      → getOf m area wanted out ≡ record { answer = Damaged (numberFor m n area wanted + 1); output = out })
   get-damaged wanted = (
-    get-index-damaged size offset key most area m n j wanted out,
-    get-there-damaged size offset key most area m n j wanted out,
+    get-index-damaged m area n j wanted out,
+    get-there-damaged m area n j wanted out,
   )
 
   -- For a get by address it comes before 9.
   pub get-at-damaged : (place : ℕ) → readArea m n area ≡ damaged place → (address : ℕ)
-      → getAtOf size offset key most area address out ≡ record { answer = Damaged place; output = out }
+      → getAtOf m area address out ≡ record { answer = Damaged place; output = out }
   unfolding getAtOf
   get-at-damaged place d address = rw (j, d) refl
 
 -- 4 comes before 6 and 7: a key that is present is told whatever room there is
-pub insert-present : (size offset key most : ℕ) (area : List ℕ) (m : Measures) (n : ℕ) → judgedOf size offset key most (length area) ≡ Fine m n
+pub insert-present : (m : Measures) (area : List ℕ) (n : ℕ) → judgedOf m (length area) ≡ Fine m n
     → (c : Content) → readArea m n area ≡ whole c → (r x : List ℕ) (xs : List (List ℕ)) → within (m .least) (m .most) (length r) ≡ true
-    → withKey m (keyOf m r) (recordsOf (c .filled)) ≡ x ∷ xs → insertOf size offset key most area r ≡ kept Present area
+    → withKey m (keyOf m r) (recordsOf (c .filled)) ≡ x ∷ xs → insertOf m area r ≡ kept Present area
 unfolding changeOf
-insert-present size offset key most area m n j c w r x xs l e = rw (j, w, l, e) refl
+insert-present m area n j c w r x xs l e = rw (j, w, l, e) refl
 
 -- a plan that refuses leaves the area
 pub refused-spares : (m : Measures) (area : List ℕ) (p : Plan) → (numberOf (carryOut m area p .answer) ≡ 0 → ⊥) → carryOut m area p .area ≡ area

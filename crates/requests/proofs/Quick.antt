@@ -16,7 +16,7 @@ use Rattle.fields.specs.Table.{sameList}
 use Rattle.fields.proofs.Choices.{false-true, same-means}
 use Rattle.fields.proofs.Lists.{concat-append}
 use Rattle.fields.proofs.Octets.{octets-nil, octets-append, octets-part}
-use Rattle.measures.specs.Judgement.{fine, judgedOf, measures, countOf, widthFor}
+use Rattle.measures.specs.Judgement.{fine, judgedOf, countOf, widthFor}
 use Rattle.measures.specs.declared.Measures.{Measures}
 use Rattle.measures.specs.declared.Judged.the-variants as judged
 use Rattle.interval.specs.Records.{keyOf, keysOf, ascending}
@@ -214,27 +214,24 @@ get-by-length m n area area' wanted out i h = rw (i, h)
 -- The same of the whole request: two equally long areas with the same index record, and the same bytes in the interval that the key leads to, are answered
 -- alike, whatever else they hold. That interval's bytes count only where the index record is sound and the key of the right length; else the same index
 -- record is enough.
-module _ (size offset key most : ℕ) (area area' wanted out : List ℕ) (long : length area' ≡ length area) where
-  abbrev m : Measures
-  m = measures size offset key most
-
+module _ (m : Measures) (area area' wanted out : List ℕ) (long : length area' ≡ length area) where
   abbrev n : ℕ
-  n = countOf size (length area)
+  n = countOf (m .size) (length area)
 
-  judged-alike : getIn m n area' wanted out ≡ getIn m n area wanted out → getOf size offset key most area' wanted out ≡ getOf size offset key most area wanted out
+  judged-alike : getIn m n area' wanted out ≡ getIn m n area wanted out → getOf m area' wanted out ≡ getOf m area wanted out
   unfolding getOf judgedOf
-  judged-alike e = rw long (go (fine size offset key most (length area)))
+  judged-alike e = rw long (go (fine m (length area)))
     where
       go : (t : Bool) → getJudged (pick t (judged.Fine m n) judged.Outside) area' wanted out ≡ getJudged (pick t (judged.Fine m n) judged.Outside) area wanted out
       go true = e
       go false = refl
 
   pub get-of-elsewhere : indexIn m area' ≡ indexIn m area
-      → (indexSound m n area ≡ true → length wanted ≡ key → dataIn m area' (numberFor m n area wanted) ≡ dataIn m area (numberFor m n area wanted))
-      → getOf size offset key most area' wanted out ≡ getOf size offset key most area wanted out
-  get-of-elsewhere i d = judged-alike (go (indexSound m n area) (eqb (length wanted) key) refl refl)
+      → (indexSound m n area ≡ true → length wanted ≡ m .key → dataIn m area' (numberFor m n area wanted) ≡ dataIn m area (numberFor m n area wanted))
+      → getOf m area' wanted out ≡ getOf m area wanted out
+  get-of-elsewhere i d = judged-alike (go (indexSound m n area) (eqb (length wanted) (m .key)) refl refl)
     where
-      go : (t u : Bool) → indexSound m n area ≡ t → eqb (length wanted) key ≡ u → getIn m n area' wanted out ≡ getIn m n area wanted out
+      go : (t u : Bool) → indexSound m n area ≡ t → eqb (length wanted) (m .key) ≡ u → getIn m n area' wanted out ≡ getIn m n area wanted out
       go false u h k = get-by-index m n area area' wanted out i h
       go true false h k = get-by-length m n area area' wanted out i k
-      go true true h k = get-elsewhere m n area area' wanted out i (d h (eqb-true (length wanted) key k))
+      go true true h k = get-elsewhere m n area area' wanted out i (d h (eqb-true (length wanted) (m .key) k))

@@ -413,10 +413,10 @@ pub walk-records : (m : Measures) (c : Content) → bytesIn (walkOf m true [] c)
 walk-records m c = ap bytesIn (walk-all m c) ∙ items-bytes m (c .filled)
 
 -- From an end a sound area is never refused, whatever it holds.
-pub walk-end-opens : (size offset key most : ℕ) (area : List ℕ) (forward : Bool) (m : Measures) (c : Content) → openingOf size offset key most area ≡ holding m c
-    → walkEndOf size offset key most area forward ≡ giving (walkOf m forward [] c)
+pub walk-end-opens : (m : Measures) (area : List ℕ) (forward : Bool) (c : Content) → openingOf m area ≡ holding m c
+    → walkEndOf m area forward ≡ giving (walkOf m forward [] c)
 unfolding walkEndOf
-walk-end-opens size offset key most area forward m c e = rw e
+walk-end-opens m area forward c e = rw e
 
 -- No record that comes is empty, so that the empty one says the end.
 among-at : (is : List Item) (k : ℕ) → k < length is → List·Memᴰ (getD is k none) is

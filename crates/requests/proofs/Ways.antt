@@ -61,11 +61,10 @@ legal-decided m (erase wanted) rs area made = keyed-decided (erase wanted) (with
 
 -- ---- on a whole area
 
-module _ (size offset key most : ℕ) (area : List ℕ) (m : Measures) (n : ℕ) (c : Content) (j : judgedOf size offset key most (length area) ≡ Fine m n)
-    (w : readArea m n area ≡ whole c) (ch : Change) where
+module _ (m : Measures) (area : List ℕ) (n : ℕ) (c : Content) (j : judgedOf m (length area) ≡ Fine m n) (w : readArea m n area ≡ whole c) (ch : Change) where
   -- what the change comes to
   abbrev outcome : Outcome
-  outcome = changeOf size offset key most area ch
+  outcome = changeOf m area ch
 
   -- that it may be made, and what comes of its plan
   abbrev Law : Type 0
@@ -100,7 +99,7 @@ module _ (size offset key most : ℕ) (area : List ℕ) (m : Measures) (n : ℕ)
     pub legal : Legal m ch (recordsOf (c .filled))
     pub ss : List Store
     pub planned : planOf m c (editOf m c ch) ≡ stores ss
-    pub leaves : changeOf size offset key most area ch ≡ carryOut m area (stores ss)
+    pub leaves : changeOf m area ch ≡ carryOut m area (stores ss)
 
   -- A change that is answered with the number 0 was carried out.
   pub carried : numberOf (outcome .answer) ≡ 0 → Carried

@@ -23,12 +23,11 @@ remade fs e = recordsOf (take (e .entry) fs) ++ (edited fs e ++ recordsOf (drop 
 
 -- An accepted change: the measures are fine, the area is whole, the change may be made in the plain list of its records; the edit is one that its interval
 -- can bear and makes that change; its stores were planned, and the area is left with them made.
-pub record Accepted (size offset key most : ℕ) (area : List ℕ) (ch : Change) (o : Outcome) : Type 0 where
-  pub m : Measures
+pub record Accepted (m : Measures) (area : List ℕ) (ch : Change) (o : Outcome) : Type 0 where
   pub n : ℕ
   pub c : Content
   pub ss : List Store
-  pub judges : judgedOf size offset key most (length area) ≡ judged.Fine m n
+  pub judges : judgedOf m (length area) ≡ judged.Fine m n
   pub reads : readArea m n area ≡ whole c
   pub legal : Legal m ch (recordsOf (c .filled))
   pub proper : Proper m (c .filled) (editOf m c ch)

@@ -3,6 +3,7 @@ use Prim.Native.Nat.{ℕ}
 use mathlib.Core.Path.{_≡_}
 use mathlib.Core.List.{List}
 use Rattle.fields.specs.Bytes.{Octets}
+use Rattle.measures.specs.declared.Measures.{Measures}
 use Rattle.requests.specs.Model.{Change, insert, update, erase}
 use Rattle.requests.specs.Reading.{checkOf, getOf, getAtOf, Gives}
 use Rattle.requests.specs.Changing.{insertOf, updateOf, eraseOf, Makes}
@@ -16,14 +17,14 @@ pub data Request : Type 0 where
   changes : Change → Request
 
 -- a result of a change that its contract allows; what is handed over are bytes
-abbrev pub ChangeAllowed : ℕ → ℕ → ℕ → ℕ → List ℕ → Change → Answer → List ℕ → Type 0
-ChangeAllowed size offset key most before (insert r) a after = Octets r × Makes (insertOf size offset key most before r) a after
-ChangeAllowed size offset key most before (update r) a after = Octets r × Makes (updateOf size offset key most before r) a after
-ChangeAllowed size offset key most before (erase wanted) a after = Octets wanted × Makes (eraseOf size offset key most before wanted) a after
+abbrev pub ChangeAllowed : Measures → List ℕ → Change → Answer → List ℕ → Type 0
+ChangeAllowed m before (insert r) a after = Octets r × Makes (insertOf m before r) a after
+ChangeAllowed m before (update r) a after = Octets r × Makes (updateOf m before r) a after
+ChangeAllowed m before (erase wanted) a after = Octets wanted × Makes (eraseOf m before wanted) a after
 
 -- a result of any request that its contract allows; a check and a get are lent no area to change
-abbrev pub Allowed : ℕ → ℕ → ℕ → ℕ → List ℕ → Request → Answer → List ℕ → List ℕ → Type 0
-Allowed size offset key most before check a after out = (after ≡ before) × (a ≡ checkOf size offset key most before)
-Allowed size offset key most before (get wanted lent) a after out = (after ≡ before) × Gives (getOf size offset key most before wanted lent) a out
-Allowed size offset key most before (getAt address lent) a after out = (after ≡ before) × Gives (getAtOf size offset key most before address lent) a out
-Allowed size offset key most before (changes ch) a after out = ChangeAllowed size offset key most before ch a after
+abbrev pub Allowed : Measures → List ℕ → Request → Answer → List ℕ → List ℕ → Type 0
+Allowed m before check a after out = (after ≡ before) × (a ≡ checkOf m before)
+Allowed m before (get wanted lent) a after out = (after ≡ before) × Gives (getOf m before wanted lent) a out
+Allowed m before (getAt address lent) a after out = (after ≡ before) × Gives (getAtOf m before address lent) a out
+Allowed m before (changes ch) a after out = ChangeAllowed m before ch a after

@@ -92,19 +92,19 @@ abbrev pub changeOpened : Opening → List ℕ → Change → Outcome
 changeOpened (shut a) area ch = kept a area
 changeOpened (holding m c) area ch = changeIn m c area ch
 
-unfoldable pub changeOf : ℕ → ℕ → ℕ → ℕ → List ℕ → Change → Outcome
-changeOf size offset key most area ch = changeOpened (openingOf size offset key most area) area ch
+unfoldable pub changeOf : Measures → List ℕ → Change → Outcome
+changeOf m area ch = changeOpened (openingOf m area) area ch
 
 -- ---- the three requests
 
-abbrev pub insertOf : ℕ → ℕ → ℕ → ℕ → List ℕ → List ℕ → Outcome
-insertOf size offset key most area r = changeOf size offset key most area (insert r)
+abbrev pub insertOf : Measures → List ℕ → List ℕ → Outcome
+insertOf m area r = changeOf m area (insert r)
 
-abbrev pub updateOf : ℕ → ℕ → ℕ → ℕ → List ℕ → List ℕ → Outcome
-updateOf size offset key most area r = changeOf size offset key most area (update r)
+abbrev pub updateOf : Measures → List ℕ → List ℕ → Outcome
+updateOf m area r = changeOf m area (update r)
 
-abbrev pub eraseOf : ℕ → ℕ → ℕ → ℕ → List ℕ → List ℕ → Outcome
-eraseOf size offset key most area wanted = changeOf size offset key most area (erase wanted)
+abbrev pub eraseOf : Measures → List ℕ → List ℕ → Outcome
+eraseOf m area wanted = changeOf m area (erase wanted)
 
 -- the contract of a change: the answer, and the whole area at exit
 pub record Makes (outcome : Outcome) (answer : Answer) (area : List ℕ) : Type 0 where

@@ -26,5 +26,5 @@ openJudged judged.Outside area = shut Outside
 openJudged (judged.Fine m n) area = openRead m (readArea m n area)
 
 -- 1 before 2
-abbrev pub openingOf : ℕ → ℕ → ℕ → ℕ → List ℕ → Opening
-openingOf size offset key most area = openJudged (judgedOf size offset key most (length area)) area
+abbrev pub openingOf : Measures → List ℕ → Opening
+openingOf m area = openJudged (judgedOf m (length area)) area

@@ -28,8 +28,8 @@ abbrev pub checkOpened : Opening → Answer
 checkOpened (shut a) = a
 checkOpened (holding m c) = Intact (length (recordsOf (c .filled))) (length (c .free))
 
-unfoldable pub checkOf : ℕ → ℕ → ℕ → ℕ → List ℕ → Answer
-checkOf size offset key most area = checkOpened (openingOf size offset key most area)
+unfoldable pub checkOf : Measures → List ℕ → Answer
+checkOf m area = checkOpened (openingOf m area)
 
 -- ---- the gets: an answer, and the output with the record at its front
 
@@ -66,8 +66,8 @@ getJudged judged.Outside area wanted out = refused Outside out
 getJudged (judged.Fine m n) area wanted out = getIn m n area wanted out
 
 -- 1 before all of them
-unfoldable pub getOf : ℕ → ℕ → ℕ → ℕ → List ℕ → List ℕ → List ℕ → Given
-getOf size offset key most area wanted out = getJudged (judgedOf size offset key most (length area)) area wanted out
+unfoldable pub getOf : Measures → List ℕ → List ℕ → List ℕ → Given
+getOf m area wanted out = getJudged (judgedOf m (length area)) area wanted out
 
 -- what that comes to on a sound area (proofs/Quick.antt, get-same): 3, 5 and 8 by all its records
 abbrev pub getWhole : Measures → Content → List ℕ → List ℕ → Given
@@ -82,8 +82,8 @@ abbrev pub getAtOpened : Opening → ℕ → List ℕ → Given
 getAtOpened (shut a) address out = refused a out
 getAtOpened (holding m c) address out = getAtIn m c address out
 
-unfoldable pub getAtOf : ℕ → ℕ → ℕ → ℕ → List ℕ → ℕ → List ℕ → Given
-getAtOf size offset key most area address out = getAtOpened (openingOf size offset key most area) address out
+unfoldable pub getAtOf : Measures → List ℕ → ℕ → List ℕ → Given
+getAtOf m area address out = getAtOpened (openingOf m area) address out
 
 -- the contract of a get: the answer, and the output at exit
 pub record Gives (given : Given) (answer : Answer) (output : List ℕ) : Type 0 where

@@ -73,12 +73,12 @@ abbrev pub fromOpened : Bool → List ℕ → Opening → Walk
 fromOpened forward given (shut a) = refusedWith a
 fromOpened forward given (holding m c) = pick (headFine m given) (ifSome (walkOf m forward given c)) (refusedWith WrongLength)
 
-unfoldable pub walkFromOf : ℕ → ℕ → ℕ → ℕ → List ℕ → Bool → List ℕ → Walk
-walkFromOf size offset key most area forward given = fromOpened forward given (openingOf size offset key most area)
+unfoldable pub walkFromOf : Measures → List ℕ → Bool → List ℕ → Walk
+walkFromOf m area forward given = fromOpened forward given (openingOf m area)
 
 abbrev pub endOpened : Bool → Opening → Walk
 endOpened forward (shut a) = refusedWith a
 endOpened forward (holding m c) = giving (walkOf m forward [] c)
 
-unfoldable pub walkEndOf : ℕ → ℕ → ℕ → ℕ → List ℕ → Bool → Walk
-walkEndOf size offset key most area forward = endOpened forward (openingOf size offset key most area)
+unfoldable pub walkEndOf : Measures → List ℕ → Bool → Walk
+walkEndOf m area forward = endOpened forward (openingOf m area)

@@ -29,19 +29,16 @@ use Rattle.scanner.proofs.Apart.{get-apart}
 
 -- ---- of any output, and of any word that can be taken apart
 
-module _ (size offset key most : ℕ) (area wanted lent : List ℕ) where
-  abbrev m : Measures
-  m = measures size offset key most
-
+module _ (m : Measures) (area wanted lent : List ℕ) where
   abbrev n : ℕ
-  n = countOf size (length area)
+  n = countOf (m .size) (length area)
 
   abbrev g : Given
-  g = getOf size offset key most area wanted lent
+  g = getOf m area wanted lent
 
   module _ (l : Lent m n area) (b : Octets wanted) (rs : List (List ℕ)) (h : FineHome m n area wanted rs) (out : List ℕ) (o : out ≡ g .output) where
     answer-finds : Finds (Keyed m wanted rs) Absent lent (record { answer = g .answer; output = out })
-    answer-finds = get-there-finds size offset key most area l wanted b rs h lent (g .answer) area out (refl, record { answers = refl; outputs = o })
+    answer-finds = get-there-finds m area l wanted b rs h lent (g .answer) area out (refl, record { answers = refl; outputs = o })
 
     module _ (word : ℕ) (t : Apart word (g .answer)) where
       -- number, length and output are those of any result that it is shown to be
@@ -69,7 +66,7 @@ module _ (size offset key most : ℕ) (area wanted lent : List ℕ) where
           ⊎ (((r : List ℕ) × Keyed m wanted rs r × (length lent < length r)) ⊎ ((r : List ℕ) → Keyed m wanted rs r → ⊥))
 
       one-of : OneOf
-      one-of = go (keyed-either size offset key most area wanted rs)
+      one-of = go (keyed-either m wanted rs)
         where
           room : (r : List ℕ) → Keyed m wanted rs r → (t : Bool) → leb (length r) (length lent) ≡ t → OneOf
           room r k true e = inl (r, k, leb-true (length r) (length lent) e)
@@ -128,8 +125,8 @@ module _ (κs : _) (args : _) (r : ℕ) (e : _) (p : get.Learnt κs args r e) wh
       (h : FineHome given (countOf (args .0) (length area)) area wanted rs) where
     -- The word tells an answer, and that answer with the output is exactly what a get finds among the records of the key's interval.
     pub get-there-finds-word : (a : Answer) × (r ≡ wordOf a) × Finds (Keyed given wanted rs) Absent lent (record { answer = a; output = out })
-    get-there-finds-word = (_, p .word-is, answer-finds (args .0) (args .1 .0) (args .1 .1 .0) (args .1 .1 .1 .0) area wanted lent l b rs h out (p .outputs))
+    get-there-finds-word = (_, p .word-is, answer-finds given area wanted lent l b rs h out (p .outputs))
 
     -- And number and length are taken from the word again.
     pub get-there-finds-apart : FindsWord (Keyed given wanted rs) lent r out
-    get-there-finds-apart = word-finds (args .0) (args .1 .0) (args .1 .1 .0) (args .1 .1 .1 .0) area wanted lent l b rs h out (p .outputs) r (get-apart κs args r e p)
+    get-there-finds-apart = word-finds given area wanted lent l b rs h out (p .outputs) r (get-apart κs args r e p)

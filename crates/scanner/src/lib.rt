@@ -1,7 +1,7 @@
 // The register for the scanners' program in C: check and get by key, on numbers and byte buffers. include/belquita.h is what that program sees of it.
 ghost use Prim.Native.Nat.{_+_, _*_, _≤_, _<_};
 ghost use mathlib.Core.Path.{_≡_};
-ghost use Rattle.measures.specs.Judgement.{limit};
+ghost use Rattle.measures.specs.Judgement.{limit, measures};
 ghost use Rattle.requests.specs.Reading.{checkOf, getOf};
 ghost use Rattle.requests.specs.Words.{wordOf, Small};
 ghost use Rattle.scanner.specs.Told.{GivesWord};
@@ -48,7 +48,8 @@ pub extern "C" fn belquita_get(
     wanted: &[u8],
     out: &mut [u8],
 ) -> u64
-    ensures { λ r. ⌜ GivesWord (getOf size offset key most (now (area .entry)) (now (wanted .entry)) (now (out .entry))) r (now (out .exit)) ⌝ }
+    ensures { λ r. ⌜ GivesWord (getOf (measures size offset key most) (now (area .entry))
+        (now (wanted .entry)) (now (out .entry))) r (now (out .exit)) ⌝ }
 {
     word(register::get(area, size, offset, key, most, wanted, out))
 }
@@ -62,7 +63,7 @@ pub extern "C" fn belquita_check(
     most: usize,
     area: &[u8],
 ) -> u64
-    ensures { λ r. ⌜ r ≡ wordOf (checkOf size offset key most (now (area .entry))) ⌝ }
+    ensures { λ r. ⌜ r ≡ wordOf (checkOf (measures size offset key most) (now (area .entry))) ⌝ }
 {
     word(register::check(area, size, offset, key, most))
 }

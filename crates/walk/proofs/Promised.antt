@@ -12,7 +12,7 @@ use borrow.Author.Tests.{ltb-false}
 use Rattle.fields.specs.Choice.{pick, either}
 use Rattle.fields.specs.Bytes.{part}
 use Rattle.fields.proofs.Splices.{length-mid}
-use Rattle.measures.specs.Judgement.{judgedOf}
+use Rattle.measures.specs.Judgement.{asked, judgedOf}
 use Rattle.measures.specs.declared.Measures.{Measures}
 use Rattle.measures.specs.declared.Judged.the-variants.{Fine}
 use Rattle.area.specs.Content.{Content}
@@ -33,7 +33,6 @@ use Rattle.walk.specs.Refusals.{numberIn, fromTable, endTable}
 use Rattle.walk.proofs.Refusals.{from-refusals, end-refusals}
 use contract.Lifetimes.{Lfts}
 use denote.Ref.{RefT, now}
-use Rattle.measures.specs.declared.Numbers.{Numbers}
 use Rattle.walk.proofs.walk_next.Reads as walk-next
 use Rattle.walk.proofs.walk_record.Reads as walk-record
 use Rattle.walk.proofs.walk_from.Reads as walk-from
@@ -64,10 +63,10 @@ record-part area p =
 -- ---- a walk, as its caller learns it
 
 -- A walk that began: from the bytes of a key, or from an end, where no bytes are given.
-pub data Began : RefT (List ℕ) → Numbers → Bool → List ℕ → Begun → Type 1 where
+pub data Began : RefT (List ℕ) → Measures → Bool → List ℕ → Begun → Type 1 where
   from-bytes : (κs : _) (args : _) (r : Begun) (e : _) → walk-from.Learnt κs args r e
-      → Began (args .0) (args .1 .0) (args .1 .1 .0) (now (args .1 .1 .1 .0)) r
-  from-end : (κs : _) (args : _) (r : Begun) (e : _) → walk-end.Learnt κs args r e → Began (args .0) (args .1 .0) (args .1 .1 .0) [] r
+      → Began (args .0) (asked (args .1 .0)) (args .1 .1 .0) (now (args .1 .1 .1 .0)) r
+  from-end : (κs : _) (args : _) (r : Begun) (e : _) → walk-end.Learnt κs args r e → Began (args .0) (asked (args .1 .0)) (args .1 .1 .0) [] r
 
 -- Places one after another, each of them what `walk_next` gave for the one before, and for each the part that `walk_record` gave.
 pub record Run (area : RefT (List ℕ)) (size : ℕ) (forward : Bool) (places : ℕ → Place) (parts : ℕ → RefT (List ℕ)) : Type 0 where
@@ -107,15 +106,16 @@ module _ (area : List ℕ) (size : ℕ) (forward : Bool) (r : Begun) (p : Place)
   picked-gives true (i ∷ items) b = placed-gives (i ∷ items) b
 
 -- From the place at which a walk began, the steps give the records of `walkOf`.
-began-gives : (area : RefT (List ℕ)) (numbers : Numbers) (forward : Bool) (given : List ℕ) (r : Begun) → Began area numbers forward given r → (p : Place) → r ≡ At p
-    → (m : Measures) (n : ℕ) (c : Content) → judgedOf (numbers .size) (numbers .offset) (numbers .key) (numbers .most) (length (now area)) ≡ Fine m n
-    → readArea m n (now area) ≡ whole c → Gives (now area) (numbers .size) forward (walkOf m forward given c) p
+began-gives : (area : RefT (List ℕ)) (m : Measures) (forward : Bool) (given : List ℕ) (r : Begun) → Began area m forward given r → (p : Place) → r ≡ At p
+    → (n : ℕ) (c : Content) → judgedOf m (length (now area)) ≡ Fine m n
+    → readArea m n (now area) ≡ whole c → Gives (now area) (m .size) forward (walkOf m forward given c) p
 unfolding walkFromOf walkEndOf
-began-gives _ _ _ _ _ (from-bytes κs args r e l) p at m n c j w =
-    picked-gives (now (args .0)) (args .1 .0 .size) (args .1 .1 .0) r p at (headFine m (now (args .1 .1 .1 .0))) (walkOf m (args .1 .1 .0) (now (args .1 .1 .1 .0)) c)
+began-gives _ _ _ _ _ (from-bytes κs args r e l) p at n c j w =
+    picked-gives (now (args .0)) (args .1 .0 .size) (args .1 .1 .0) r p at (headFine (asked (args .1 .0)) (now (args .1 .1 .1 .0)))
+    (walkOf (asked (args .1 .0)) (args .1 .1 .0) (now (args .1 .1 .1 .0)) c)
     (rw (j, w) at (l .0))
-began-gives _ _ _ _ _ (from-end κs args r e l) p at m n c j w =
-    placed-gives (now (args .0)) (args .1 .0 .size) (args .1 .1 .0) r p at (walkOf m (args .1 .1 .0) [] c) (rw (j, w) at (l .0))
+began-gives _ _ _ _ _ (from-end κs args r e l) p at n c j w =
+    placed-gives (now (args .0)) (args .1 .0 .size) (args .1 .1 .0) r p at (walkOf (asked (args .1 .0)) (args .1 .1 .0) [] c) (rw (j, w) at (l .0))
 
 -- ---- step by step
 
@@ -169,30 +169,30 @@ module _ (area : RefT (List ℕ)) (size : ℕ) (forward : Bool) (places : ℕ �
       ends k h = at k ∙ ap (recordOf (now area)) (run-steps k) ∙ g .ends k h .1
 
 -- A walk that began, its steps and its parts, whoever took them: the parts are those of `walkOf`.
-pub steps-give : (area : RefT (List ℕ)) (numbers : Numbers) (forward : Bool) (given : List ℕ) (r : Begun) → Began area numbers forward given r
-    → (places : ℕ → Place) (parts : ℕ → RefT (List ℕ)) → r ≡ At (places 0) → ((k : ℕ) → places (suc k) ≡ nextOf (now area) (numbers .size) forward (places k))
+pub steps-give : (area : RefT (List ℕ)) (m : Measures) (forward : Bool) (given : List ℕ) (r : Begun) → Began area m forward given r
+    → (places : ℕ → Place) (parts : ℕ → RefT (List ℕ)) → r ≡ At (places 0) → ((k : ℕ) → places (suc k) ≡ nextOf (now area) (m .size) forward (places k))
     → ((k : ℕ) → Shown area (places k) (parts k))
-    → (m : Measures) (n : ℕ) (c : Content) → judgedOf (numbers .size) (numbers .offset) (numbers .key) (numbers .most) (length (now area)) ≡ Fine m n
+    → (n : ℕ) (c : Content) → judgedOf m (length (now area)) ≡ Fine m n
     → readArea m n (now area) ≡ whole c → Given area (walkOf m forward given c) parts
-steps-give area numbers forward given r b places parts at next shows m n c j w =
-    let least = judged-least (numbers .size) (numbers .offset) (numbers .key) (numbers .most) (now area) m n c j w in
-    run-given area (numbers .size) forward places parts next shows (walkOf m forward given c) (walk-some m n (now area) c w least forward given)
-    (began-gives area numbers forward given r b (places 0) at m n c j w)
+steps-give area m forward given r b places parts at next shows n c j w =
+    let least = judged-least m (now area) n j in
+    run-given area (m .size) forward places parts next shows (walkOf m forward given c) (walk-some m n (now area) c w least forward given)
+    (began-gives area m forward given r b (places 0) at n c j w)
 
 -- THE WALK. On a sound area a walk that has begun gives the records of `walkOf`, each as its part of the area: whatever the bytes given, or from an end, in
 -- either direction. Said of what callers of `walk_from`, `walk_end`, `walk_next` and `walk_record` learn.
-pub walk-gives : (area : RefT (List ℕ)) (numbers : Numbers) (forward : Bool) (given : List ℕ) (r : Begun) → Began area numbers forward given r
-    → (places : ℕ → Place) (parts : ℕ → RefT (List ℕ)) → r ≡ At (places 0) → Run area (numbers .size) forward places parts
-    → (m : Measures) (n : ℕ) (c : Content) → judgedOf (numbers .size) (numbers .offset) (numbers .key) (numbers .most) (length (now area)) ≡ Fine m n
+pub walk-gives : (area : RefT (List ℕ)) (m : Measures) (forward : Bool) (given : List ℕ) (r : Begun) → Began area m forward given r
+    → (places : ℕ → Place) (parts : ℕ → RefT (List ℕ)) → r ≡ At (places 0) → Run area (m .size) forward places parts
+    → (n : ℕ) (c : Content) → judgedOf m (length (now area)) ≡ Fine m n
     → readArea m n (now area) ≡ whole c → Given area (walkOf m forward given c) parts
-walk-gives area numbers forward given r b places parts at run = steps-give area numbers forward given r b places parts at (run .next) (run .shows)
+walk-gives area m forward given r b places parts at run = steps-give area m forward given r b places parts at (run .next) (run .shows)
 
 -- THE REFUSALS. From the bytes of a key 1, 2, 3, 5, from an end 1 and 2: with the number of the first condition that holds, and none where a walk begins.
 pub walk-refusals : ((κs : _) (args : _) (r : Begun) (e : _) → walk-from.Learnt κs args r e
-    → First (fromTable (args .1 .0 .size) (args .1 .0 .offset) (args .1 .0 .key) (args .1 .0 .most) (now (args .0)) (args .1 .1 .0) (now (args .1 .1 .1 .0))) (numberIn r))
+    → First (fromTable (asked (args .1 .0)) (now (args .0)) (args .1 .1 .0) (now (args .1 .1 .1 .0))) (numberIn r))
     × ((κs : _) (args : _) (r : Begun) (e : _) → walk-end.Learnt κs args r e
-    → First (endTable (args .1 .0 .size) (args .1 .0 .offset) (args .1 .0 .key) (args .1 .0 .most) (now (args .0))) (numberIn r))
+    → First (endTable (asked (args .1 .0)) (now (args .0))) (numberIn r))
 walk-refusals = (
-  λ κs args r e l. from-refusals (args .1 .0 .size) (args .1 .0 .offset) (args .1 .0 .key) (args .1 .0 .most) (now (args .0)) (args .1 .1 .0) (now (args .1 .1 .1 .0)) r (l .0),
-  λ κs args r e l. end-refusals (args .1 .0 .size) (args .1 .0 .offset) (args .1 .0 .key) (args .1 .0 .most) (now (args .0)) (args .1 .1 .0) r (l .0),
+  λ κs args r e l. from-refusals (asked (args .1 .0)) (now (args .0)) (args .1 .1 .0) (now (args .1 .1 .1 .0)) r (l .0),
+  λ κs args r e l. end-refusals (asked (args .1 .0)) (now (args .0)) (args .1 .1 .0) r (l .0),
 )

@@ -10,7 +10,7 @@ use native.Mathlib.Omega.{arith}
 use borrow.Author.Tests.{ltb-true, ltb-false, leb-true, leb-false}
 use Rattle.fields.specs.Choice.{pick, both}
 use Rattle.fields.proofs.Choices.{false-true, off}
-use Rattle.measures.specs.Judgement.{judgedOf, measures, countOf}
+use Rattle.measures.specs.Judgement.{judgedOf, countOf}
 use Rattle.measures.specs.declared.Measures.{Measures}
 use Rattle.measures.specs.declared.Judged.the-variants.{Fine}
 use Rattle.measures.specs.declared.Judged.the-variants as judged
@@ -44,55 +44,52 @@ begins-values : (area : List ℕ) (size : ℕ) (forward : Bool) (x : Walk) (r : 
 begins-values area size forward (refusedWith a) r b = ap valuesIn b
 begins-values area size forward (giving is) r b = ap valuesIn (b .1)
 
-module _ (size offset key most : ℕ) (area : List ℕ) (forward : Bool) where
-  abbrev m : Measures
-  m = measures size offset key most
-
+module _ (m : Measures) (area : List ℕ) (forward : Bool) where
   abbrev n : ℕ
-  n = countOf size (length area)
+  n = countOf (m .size) (length area)
 
   -- FROM AN END: 1, 2 and no other.
-  pub end-refusals : (r : Begun) → Begins area size forward (walkEndOf size offset key most area forward) r → First (endTable size offset key most area) (numberIn r)
+  pub end-refusals : (r : Begun) → Begins area (m .size) forward (walkEndOf m area forward) r → First (endTable m area) (numberIn r)
   unfolding walkEndOf
   end-refusals r b =
-      let e : numberIn r ≡ numberFor (walkEndOf size offset key most area forward) = begins-number area size forward (walkEndOf size offset key most area forward) r b in
-      first-two size offset key most area done (numberIn r) (λ (o : judgedOf size offset key most (length area) ≡ judged.Outside). e ∙ rw o)
-      (λ (j : judgedOf size offset key most (length area) ≡ Fine m n) (p : ℕ) (d : readArea m n area ≡ damaged p). e ∙ rw (j, d))
-      (λ (j : judgedOf size offset key most (length area) ≡ Fine m n) (c : Content) (w : readArea m n area ≡ whole c). e ∙ rw (j, w))
+      let e : numberIn r ≡ numberFor (walkEndOf m area forward) = begins-number area (m .size) forward (walkEndOf m area forward) r b in
+      first-two m area done (numberIn r) (λ (o : judgedOf m (length area) ≡ judged.Outside). e ∙ rw o)
+      (λ (j : judgedOf m (length area) ≡ Fine m n) (p : ℕ) (d : readArea m n area ≡ damaged p). e ∙ rw (j, d))
+      (λ (j : judgedOf m (length area) ≡ Fine m n) (c : Content) (w : readArea m n area ≡ whole c). e ∙ rw (j, w))
 
   -- 2 with the place of the area's damage
-  module _ (j : judgedOf size offset key most (length area) ≡ Fine m n) (p : ℕ) (d : readArea m n area ≡ damaged p) (r : Begun) where
-    pub end-damaged : Begins area size forward (walkEndOf size offset key most area forward) r → valuesIn r ≡ p ∷ []
+  module _ (j : judgedOf m (length area) ≡ Fine m n) (p : ℕ) (d : readArea m n area ≡ damaged p) (r : Begun) where
+    pub end-damaged : Begins area (m .size) forward (walkEndOf m area forward) r → valuesIn r ≡ p ∷ []
     unfolding walkEndOf
-    end-damaged b = begins-values area size forward (walkEndOf size offset key most area forward) r b ∙ rw (j, d)
+    end-damaged b = begins-values area (m .size) forward (walkEndOf m area forward) r b ∙ rw (j, d)
 
-    pub from-damaged : (given : List ℕ) → Begins area size forward (walkFromOf size offset key most area forward given) r → valuesIn r ≡ p ∷ []
+    pub from-damaged : (given : List ℕ) → Begins area (m .size) forward (walkFromOf m area forward given) r → valuesIn r ≡ p ∷ []
     unfolding walkFromOf
-    from-damaged given b = begins-values area size forward (walkFromOf size offset key most area forward given) r b ∙ rw (j, d)
+    from-damaged given b = begins-values area (m .size) forward (walkFromOf m area forward given) r b ∙ rw (j, d)
 
   -- what the test of the bytes given says
-  bytes-wrong : (given : List ℕ) → headFine m given ≡ false → WrongBytes size offset key most area given
+  bytes-wrong : (given : List ℕ) → headFine m given ≡ false → WrongBytes m area given
   bytes-wrong given h = go (ltb 0 (length given)) refl h
     where
-      go : (t : Bool) → ltb 0 (length given) ≡ t → both t (leb (length given) key) ≡ false → WrongBytes size offset key most area given
-      go true e q = inr (leb-false (length given) key q)
+      go : (t : Bool) → ltb 0 (length given) ≡ t → both t (leb (length given) (m .key)) ≡ false → WrongBytes m area given
+      go true e q = inr (leb-false (length given) (m .key) q)
       go false e q = inl (omega (arith, ltb-false 0 (length given) e))
 
-  bytes-fine : (given : List ℕ) → headFine m given ≡ true → WrongBytes size offset key most area given → ⊥
+  bytes-fine : (given : List ℕ) → headFine m given ≡ true → WrongBytes m area given → ⊥
   bytes-fine given h = go (ltb 0 (length given)) refl h
     where
-      go : (t : Bool) → ltb 0 (length given) ≡ t → both t (leb (length given) key) ≡ true → WrongBytes size offset key most area given → ⊥
+      go : (t : Bool) → ltb 0 (length given) ≡ t → both t (leb (length given) (m .key)) ≡ true → WrongBytes m area given → ⊥
       go true e q (inl z) = omega (arith, ltb-true 0 (length given) e)
-      go true e q (inr z) = omega (arith, leb-true (length given) key q)
+      go true e q (inr z) = omega (arith, leb-true (length given) (m .key) q)
       go false e q z = false-true q
 
-  module _ (given : List ℕ) (r : Begun) (b : Begins area size forward (walkFromOf size offset key most area forward given) r) where
-    number-is : numberIn r ≡ numberFor (walkFromOf size offset key most area forward given)
-    number-is = begins-number area size forward (walkFromOf size offset key most area forward given) r b
+  module _ (given : List ℕ) (r : Begun) (b : Begins area (m .size) forward (walkFromOf m area forward given) r) where
+    number-is : numberIn r ≡ numberFor (walkFromOf m area forward given)
+    number-is = begins-number area (m .size) forward (walkFromOf m area forward given) r b
 
     -- the last two rows
     module _ (c : Content) (w : readArea m n area ≡ whole c) where
-      beyond-row : (is : List Item) → walkOf m forward given c ≡ is → numberIn r ≡ numberFor (ifSome is) → First (row 5 (NothingBeyond size offset key most area forward given) done) (numberIn r)
+      beyond-row : (is : List Item) → walkOf m forward given c ≡ is → numberIn r ≡ numberFor (ifSome is) → First (row 5 (NothingBeyond m area forward given) done) (numberIn r)
       beyond-row [] e k =
           inl (
             (
@@ -106,22 +103,22 @@ module _ (size offset key most : ℕ) (area : List ℕ) (forward : Bool) where
       beyond-row (x ∷ is) e k =
           let s = walk-among x m forward given c .0 (rw e (List·Memᴰ·head refl)) in
           inr (
-            λ (h : NothingBeyond size offset key most area forward given).
-                false-true (sym (held size offset key most area (λ (d : Content). (i : Item) → List·Memᴰ i (itemsOf m (d .filled)) → beyond m forward given i ≡ false) c w h x (s .0)) ∙ s .1),
+            λ (h : NothingBeyond m area forward given).
+                false-true (sym (held m area (λ (d : Content). (i : Item) → List·Memᴰ i (itemsOf m (d .filled)) → beyond m forward given i ≡ false) c w h x (s .0)) ∙ s .1),
             k,
           )
 
       length-row : (t : Bool) → headFine m given ≡ t → numberIn r ≡ numberFor (pick t (ifSome (walkOf m forward given c)) (refusedWith WrongLength))
-          → First (row 3 (WrongBytes size offset key most area given) (row 5 (NothingBeyond size offset key most area forward given) done)) (numberIn r)
+          → First (row 3 (WrongBytes m area given) (row 5 (NothingBeyond m area forward given) done)) (numberIn r)
       length-row true e k = inr (bytes-fine given e, beyond-row (walkOf m forward given c) refl k)
       length-row false e k = inl (bytes-wrong given e, k)
 
     -- FROM THE BYTES OF A KEY: 1, 2, 3 for none or more than K bytes, 5 where no record lies at or beyond them.
-    pub from-refusals : First (fromTable size offset key most area forward given) (numberIn r)
+    pub from-refusals : First (fromTable m area forward given) (numberIn r)
     unfolding walkFromOf
     from-refusals =
-        first-two size offset key most area (row 3 (WrongBytes size offset key most area given) (row 5 (NothingBeyond size offset key most area forward given) done)) (numberIn r)
-        (λ (o : judgedOf size offset key most (length area) ≡ judged.Outside). number-is ∙ rw o)
-        (λ (j : judgedOf size offset key most (length area) ≡ Fine m n) (p : ℕ) (d : readArea m n area ≡ damaged p). number-is ∙ rw (j, d))
-        (λ (j : judgedOf size offset key most (length area) ≡ Fine m n) (c : Content) (w : readArea m n area ≡ whole c).
+        first-two m area (row 3 (WrongBytes m area given) (row 5 (NothingBeyond m area forward given) done)) (numberIn r)
+        (λ (o : judgedOf m (length area) ≡ judged.Outside). number-is ∙ rw o)
+        (λ (j : judgedOf m (length area) ≡ Fine m n) (p : ℕ) (d : readArea m n area ≡ damaged p). number-is ∙ rw (j, d))
+        (λ (j : judgedOf m (length area) ≡ Fine m n) (c : Content) (w : readArea m n area ≡ whole c).
         length-row c w (headFine m given) refl (number-is ∙ rw (j, w)))

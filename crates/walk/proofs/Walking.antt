@@ -10,12 +10,11 @@ use native.Mathlib.Omega.{arith}
 use borrow.Author.Tests.{lt-ltb, le-ltb, lt-leb, le-leb}
 use Rattle.fields.specs.Bytes.{Octets}
 use Rattle.fields.proofs.Choices.{agree, false-true, both-false}
-use Rattle.measures.specs.Judgement.{Fits, measures, judgedOf}
+use Rattle.measures.specs.Judgement.{Fits, judgedOf}
 use Rattle.measures.specs.declared.Measures.{Measures}
-use Rattle.measures.specs.declared.Numbers.{Numbers}
 use Rattle.measures.specs.declared.Judged.{Judged}
 use Rattle.measures.specs.declared.Judged.the-variants as judged
-use Rattle.measures.proofs.Fine.{accepted-fits, fits-large}
+use Rattle.measures.proofs.Fine.{judged-same, fits-large}
 use Rattle.interval.specs.Search.{lower}
 use Rattle.index.specs.Rules.{closed}
 use Rattle.index.proofs.Naming.{free-and-used}
@@ -46,11 +45,11 @@ use Rattle.walk.proofs.Holdings.{before-zero, before-all}
 use Rattle.walk.proofs.Standing.{ahead-stood, behind-stood}
 use Rattle.walk.proofs.Giving.{gives-up, gives-down, stood-same}
 
--- ---- what a caller of `open` needs besides: the measures are those of the numbers
+-- ---- what a caller of `open` needs besides: the measures are those that were asked with
 
-pub opened-judged : (k : Numbers) (area : List ℕ) (m : Measures) (n records free : ℕ) → openedOf k area ≡ opened.Whole m n records free
-    → (judgedOf (k .size) (k .offset) (k .key) (k .most) (length area) ≡ judged.Fine m n) × (m ≡ measures (k .size) (k .offset) (k .key) (k .most))
-opened-judged k area m n records free = by-judged (judgedOf (k .size) (k .offset) (k .key) (k .most) (length area)) refl
+pub opened-judged : (k : Measures) (area : List ℕ) (m : Measures) (n records free : ℕ) → openedOf k area ≡ opened.Whole m n records free
+    → (judgedOf k (length area) ≡ judged.Fine m n) × (m ≡ k)
+opened-judged k area m n records free = by-judged (judgedOf k (length area)) refl
   where
     by-read : (p : Measures) (q : ℕ) (x : Reading) → openedRead p q x ≡ opened.Whole m n records free → judged.Fine p q ≡ judged.Fine m n
     by-read p q (damaged place) e = absurd (let z : _≡_ {A = ℕ} 0 1 = cc in omega arith)
@@ -59,12 +58,12 @@ opened-judged k area m n records free = by-judged (judgedOf (k .size) (k .offset
         let z : q ≡ n = cc in
         cc
 
-    by-judged : (j : Judged) → judgedOf (k .size) (k .offset) (k .key) (k .most) (length area) ≡ j → openedJudged j area ≡ opened.Whole m n records free
-        → (judgedOf (k .size) (k .offset) (k .key) (k .most) (length area) ≡ judged.Fine m n) × (m ≡ measures (k .size) (k .offset) (k .key) (k .most))
+    by-judged : (j : Judged) → judgedOf k (length area) ≡ j → openedJudged j area ≡ opened.Whole m n records free
+        → (judgedOf k (length area) ≡ judged.Fine m n) × (m ≡ k)
     by-judged judged.Outside g e = absurd (let z : _≡_ {A = ℕ} 0 1 = cc in omega arith)
     by-judged (judged.Fine p q) g e =
-        let f : judgedOf (k .size) (k .offset) (k .key) (k .most) (length area) ≡ judged.Fine m n = g ∙ by-read p q (readArea p q area) e in
-        (f, accepted-fits (k .size) (k .offset) (k .key) (k .most) (length area) n m f .0)
+        let f : judgedOf k (length area) ≡ judged.Fine m n = g ∙ by-read p q (readArea p q area) e in
+        (f, sym (judged-same k m (length area) n f))
 
 -- ---- from what the steps give to how the walk begins
 
@@ -137,29 +136,28 @@ at-at p q e = cc
 refused-at : (a : Answer) (p : Place) → Refused a ≡ At p → ⊥
 refused-at a p e = let z : _≡_ {A = ℕ} 0 1 = cc in omega arith
 
-module _ (k : Numbers) (area : List ℕ) (forward : Bool) where
+module _ (k : Measures) (area : List ℕ) (forward : Bool) where
   -- an area that is not opened
   module _ (a : Answer) (e : openedOf k area ≡ opened.Refused a) where
-    shut-is : openingOf (k .size) (k .offset) (k .key) (k .most) area ≡ shut a
+    shut-is : openingOf k area ≡ shut a
     shut-is = opened-shut k area a e
 
-    pub end-refused : Begins area (k .size) forward (walkEndOf (k .size) (k .offset) (k .key) (k .most) area forward) (Refused a) × (Refused a ≡ endedBy area forward (openedOf k area))
+    pub end-refused : Begins area (k .size) forward (walkEndOf k area forward) (Refused a) × (Refused a ≡ endedBy area forward (openedOf k area))
     unfolding walkEndOf
     end-refused = (rw shut-is, rw e)
 
-    pub from-refused : (given : List ℕ) → Begins area (k .size) forward (walkFromOf (k .size) (k .offset) (k .key) (k .most) area forward given) (Refused a) × BeginsAt k area forward given (Refused a)
+    pub from-refused : (given : List ℕ) → Begins area (k .size) forward (walkFromOf k area forward given) (Refused a) × BeginsAt k area forward given (Refused a)
     unfolding walkFromOf
     from-refused given = (
       rw shut-is,
-      λ (p : Place) (q : Refused a ≡ At p) (m : Measures) (n : ℕ) (j : judgedOf (k .size) (k .offset) (k .key) (k .most) (length area) ≡ judged.Fine m n) (c : Content) (w : readArea m n area ≡ whole c).
-          absurd (refused-at a p q),
+      λ (p : Place) (q : Refused a ≡ At p) (n : ℕ) (j : judgedOf k (length area) ≡ judged.Fine k n) (c : Content) (w : readArea k n area ≡ whole c). absurd (refused-at a p q),
     )
 
   -- one that is
   module _ (m : Measures) (n records free : ℕ) (e : openedOf k area ≡ opened.Whole m n records free) where
     there :
         (c : Content)
-        × (openingOf (k .size) (k .offset) (k .key) (k .most) area ≡ holding m c)
+        × (openingOf k area ≡ holding m c)
         × (readArea m n area ≡ whole c)
         × Fits m n (length area)
         × (records ≡ length (recordsOf (c .filled)))
@@ -193,7 +191,7 @@ module _ (k : Numbers) (area : List ℕ) (forward : Bool) where
         go false = gives-all-down m n area (there .3) (there .0) (there .2) free (there .5)
 
     pub end-begins : (p : Place) → p ≡ endIn area (m .size) n free forward
-        → Begins area (k .size) forward (walkEndOf (k .size) (k .offset) (k .key) (k .most) area forward) (At p) × (At p ≡ endedBy area forward (openedOf k area))
+        → Begins area (k .size) forward (walkEndOf k area forward) (At p) × (At p ≡ endedBy area forward (openedOf k area))
     unfolding walkEndOf
     end-begins p q =
         let g : Gives area (k .size) forward (walkOf m forward [] (there .0)) p = gives-sized area (m .size) forward p (k .size) (walkOf m forward [] (there .0)) size-is (end-gives p q) in
@@ -201,19 +199,19 @@ module _ (k : Numbers) (area : List ℕ) (forward : Bool) where
 
     -- From the bytes of a key: none of them or too many,
     module _ (given : List ℕ) where
-      wrong-bytes : headFine m given ≡ false → Begins area (k .size) forward (walkFromOf (k .size) (k .offset) (k .key) (k .most) area forward given) (Refused WrongLength)
+      wrong-bytes : headFine m given ≡ false → Begins area (k .size) forward (walkFromOf k area forward given) (Refused WrongLength)
       unfolding walkFromOf
       wrong-bytes f = rw (there .1, f)
 
       nowhere-at : (a : Answer) → BeginsAt k area forward given (Refused a)
-      nowhere-at a p q m' n' j c w = absurd (refused-at a p q)
+      nowhere-at a p q n' j c w = absurd (refused-at a p q)
 
       pub from-nothing : length given ≡ 0
-          → Begins area (k .size) forward (walkFromOf (k .size) (k .offset) (k .key) (k .most) area forward given) (Refused WrongLength) × BeginsAt k area forward given (Refused WrongLength)
+          → Begins area (k .size) forward (walkFromOf k area forward given) (Refused WrongLength) × BeginsAt k area forward given (Refused WrongLength)
       from-nothing z = (wrong-bytes (rw (le-ltb 0 (length given) (omega arith))), nowhere-at WrongLength)
 
       pub from-too-many : m .key < length given
-          → Begins area (k .size) forward (walkFromOf (k .size) (k .offset) (k .key) (k .most) area forward given) (Refused WrongLength) × BeginsAt k area forward given (Refused WrongLength)
+          → Begins area (k .size) forward (walkFromOf k area forward given) (Refused WrongLength) × BeginsAt k area forward given (Refused WrongLength)
       from-too-many l = (wrong-bytes (rw (lt-leb (length given) (m .key) l) (both-false (ltb 0 (length given)))), nowhere-at WrongLength)
 
       -- or so many as a key has at most: where the walk stands, if it stands anywhere.
@@ -222,7 +220,7 @@ module _ (k : Numbers) (area : List ℕ) (forward : Bool) where
         fine : headFine m given ≡ true
         fine = rw (lt-ltb 0 (length given) (omega (arith, some))) (le-leb (length given) (m .key) short)
 
-        given-is : walkFromOf (k .size) (k .offset) (k .key) (k .most) area forward given ≡ ifSome (walkOf m forward given (there .0))
+        given-is : walkFromOf k area forward given ≡ ifSome (walkOf m forward given (there .0))
         unfolding walkFromOf
         given-is = rw (there .1, fine)
 
@@ -232,25 +230,24 @@ module _ (k : Numbers) (area : List ℕ) (forward : Bool) where
             (gives-from m n area (there .3) (there .0) (there .2) forward given p short o (t (there .0) (there .2)))
 
         pub from-absent : p .length ≡ 0
-            → Begins area (k .size) forward (walkFromOf (k .size) (k .offset) (k .key) (k .most) area forward given) (Refused Absent) × BeginsAt k area forward given (Refused Absent)
+            → Begins area (k .size) forward (walkFromOf k area forward given) (Refused Absent) × BeginsAt k area forward given (Refused Absent)
         from-absent z = (rw given-is (begun-none area (k .size) forward p (walkOf m forward given (there .0)) gives z), nowhere-at Absent)
 
-        pub from-present : (p .length ≡ 0 → ⊥)
-            → Begins area (k .size) forward (walkFromOf (k .size) (k .offset) (k .key) (k .most) area forward given) (At p) × BeginsAt k area forward given (At p)
+        pub from-present : (p .length ≡ 0 → ⊥) → Begins area (k .size) forward (walkFromOf k area forward given) (At p) × BeginsAt k area forward given (At p)
         from-present d = (rw given-is (begun-some area (k .size) forward p (walkOf m forward given (there .0)) gives (omega (arith, d))), stands)
           where
             stands : BeginsAt k area forward given (At p)
-            stands q r m' n' j c w =
+            stands q r n' j c w =
                 let x : p ≡ q = at-at p q r in
-                let v : judged.Fine m n ≡ judged.Fine m' n' = sym (opened-judged k area m n records free e .0) ∙ j in
-                let y : m ≡ m' = cc in
+                let v : judged.Fine m n ≡ judged.Fine k n' = sym (opened-judged k area m n records free e .0) ∙ j in
+                let y : m ≡ k = cc in
                 let z : n ≡ n' = cc in
-                let s : StoodIn m' n' area forward (λ (c' : Content). beginsFrom m' forward given (recordsOf (c' .filled))) q = rw (y, z, x) at t in
+                let s : StoodIn k n' area forward (λ (c' : Content). beginsFrom k forward given (recordsOf (c' .filled))) q = rw (y, z, x) at t in
                 s c w
 
   -- Where a walk from the bytes of a key begins is fixed.
-  module _ (given : List ℕ) (r s : Begun) (b : Begins area (k .size) forward (walkFromOf (k .size) (k .offset) (k .key) (k .most) area forward given) r) (t : BeginsAt k area forward given r)
-      (d : Begins area (k .size) forward (walkFromOf (k .size) (k .offset) (k .key) (k .most) area forward given) s) (u : BeginsAt k area forward given s) where
+  module _ (given : List ℕ) (r s : Begun) (b : Begins area (k .size) forward (walkFromOf k area forward given) r) (t : BeginsAt k area forward given r)
+      (d : Begins area (k .size) forward (walkFromOf k area forward given) s) (u : BeginsAt k area forward given s) where
     same-place : (p q : Place) → r ≡ At p → s ≡ At q → p ≡ q
     unfolding walkFromOf
     same-place p q x y = go (openedOf k area) refl
@@ -260,12 +257,13 @@ module _ (k : Numbers) (area : List ℕ) (forward : Bool) where
             let z : r ≡ Refused a = rw (opened-shut k area a e) at b in
             absurd (refused-at a p (sym z ∙ x))
         go (opened.Whole m n records free) e =
-            let w = opened-whole k area m n records free e in
-            let j = opened-judged k area m n records free e .0 in
-            stood-same m n area (w .3) (w .0) (w .2) forward (beginsFrom m forward given (recordsOf (w .0 .filled))) p q (t p x m n j (w .0) (w .2)) (u q y m n j (w .0) (w .2))
+            let i = opened-judged k area m n records free e in
+            let j : judgedOf k (length area) ≡ judged.Fine k n = rw (i .1) at (i .0) in
+            let w = opened-whole k area k n records free (rw (i .1) at e) in
+            stood-same k n area (w .3) (w .0) (w .2) forward (beginsFrom k forward given (recordsOf (w .0 .filled))) p q (t p x n j (w .0) (w .2)) (u q y n j (w .0) (w .2))
 
     pub from-same : r ≡ s
-    from-same = go (walkFromOf (k .size) (k .offset) (k .key) (k .most) area forward given) b d
+    from-same = go (walkFromOf k area forward given) b d
       where
         go : (x : Walk) → Begins area (k .size) forward x r → Begins area (k .size) forward x s → r ≡ s
         go (refusedWith a) b' d' = agree b' d'

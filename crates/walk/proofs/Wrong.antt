@@ -92,14 +92,14 @@ gapped-fits =
       few = omega arith;
     }
 
-gapped-judged : judgedOf 512 0 8 60 (length gappedBytes) ≡ Fine depot 3
-gapped-judged = accepted 512 0 8 60 (length gappedBytes) 3 gapped-fits
+gapped-judged : judgedOf depot (length gappedBytes) ≡ Fine depot 3
+gapped-judged = accepted depot (length gappedBytes) 3 gapped-fits
 
-end-gives : (forward : Bool) → walkEndOf 512 0 8 60 gappedBytes forward ≡ giving (walkOf depot forward [] gapped)
+end-gives : (forward : Bool) → walkEndOf depot gappedBytes forward ≡ giving (walkOf depot forward [] gapped)
 unfolding walkEndOf
 end-gives forward = rw (gapped-judged, gapped-sound)
 
-from-gives : walkFromOf 512 0 8 60 gappedBytes false (0x41 ∷ []) ≡ giving (walkOf depot false (0x41 ∷ []) gapped)
+from-gives : walkFromOf depot gappedBytes false (0x41 ∷ []) ≡ giving (walkOf depot false (0x41 ∷ []) gapped)
 unfolding walkFromOf kept itemsOf itemsFrom backwards orderOf
 from-gives = rw (gapped-judged, gapped-sound)
 
@@ -110,7 +110,7 @@ begun-gives forward is p b = let e : p ≡ b .0 = let a : At p ≡ At (b .0) = b
 -- ---- the three walkers
 
 -- One that stops at an interval without records misses those behind it.
-pub stopping-wrong : (p : Place) → Begins gappedBytes 512 true (walkEndOf 512 0 8 60 gappedBytes true) (At p) → Gives gappedBytes 512 true (stopping depot (gapped .filled)) p → ⊥
+pub stopping-wrong : (p : Place) → Begins gappedBytes 512 true (walkEndOf depot gappedBytes true) (At p) → Gives gappedBytes 512 true (stopping depot (gapped .filled)) p → ⊥
 unfolding stopping kept itemsOf itemsFrom orderOf
 stopping-wrong p b g =
     let is : List Item = walkOf depot true [] gapped in
@@ -119,7 +119,7 @@ stopping-wrong p b g =
     omega arith
 
 -- One that goes downwards from the first record that begins with the bytes given misses the others that do.
-pub from-first-wrong : (p : Place) → Begins gappedBytes 512 false (walkFromOf 512 0 8 60 gappedBytes false (0x41 ∷ [])) (At p)
+pub from-first-wrong : (p : Place) → Begins gappedBytes 512 false (walkFromOf depot gappedBytes false (0x41 ∷ [])) (At p)
     → Gives gappedBytes 512 false (fromFirst depot (0x41 ∷ []) gapped) p → ⊥
 unfolding lower recordsOf kept itemsOf itemsFrom backwards orderOf
 from-first-wrong p b g =
@@ -129,7 +129,7 @@ from-first-wrong p b g =
     omega arith
 
 -- One that gives the first record twice gives one too many.
-pub twice-wrong : (p : Place) → Begins gappedBytes 512 true (walkEndOf 512 0 8 60 gappedBytes true) (At p) → Gives gappedBytes 512 true (twice (walkOf depot true [] gapped)) p → ⊥
+pub twice-wrong : (p : Place) → Begins gappedBytes 512 true (walkEndOf depot gappedBytes true) (At p) → Gives gappedBytes 512 true (twice (walkOf depot true [] gapped)) p → ⊥
 unfolding kept itemsOf itemsFrom orderOf
 twice-wrong p b g =
     let is : List Item = walkOf depot true [] gapped in

@@ -7,7 +7,6 @@ use lib.ListN.{length, getD, take}
 use Rattle.fields.specs.Choice.{pick}
 use Rattle.measures.specs.Judgement.{widthFor, judgedOf}
 use Rattle.measures.specs.declared.Measures.{Measures}
-use Rattle.measures.specs.declared.Numbers.{Numbers}
 use Rattle.measures.specs.declared.Judged.the-variants.{Fine}
 use Rattle.interval.specs.Reading.{recordsIn, displacement}
 use Rattle.interval.specs.Search.{lower, Within}
@@ -98,9 +97,9 @@ beginsFrom m true given rs = lower m (pad (m .key) 0 given) rs
 beginsFrom m false given rs = reached m (pad (m .key) 255 given) rs
 
 -- A walk that begins at a place begins at the one for that.
-abbrev pub BeginsAt : Numbers → List ℕ → Bool → List ℕ → Begun → Type 0
-BeginsAt k area forward given r =
-    (p : Place) → r ≡ At p → (m : Measures) (n : ℕ) → judgedOf (k .size) (k .offset) (k .key) (k .most) (length area) ≡ Fine m n
+abbrev pub BeginsAt : Measures → List ℕ → Bool → List ℕ → Begun → Type 0
+BeginsAt m area forward given r =
+    (p : Place) → r ≡ At p → (n : ℕ) → judgedOf m (length area) ≡ Fine m n
     → StoodIn m n area forward (λ (c : Content). beginsFrom m forward given (recordsOf (c .filled))) p
 
 -- what a walk from an end begins with, by how the area was opened

@@ -6,7 +6,7 @@ use mathlib.Core.Bool.{Bool, false}
 use mathlib.Core.List.{List, [], List·Memᴰ}
 use mathlib.Core.Logic.{_⊎_}
 use lib.ListN.{length}
-use Rattle.measures.specs.Judgement.{measures}
+use Rattle.measures.specs.declared.Measures.{Measures}
 use Rattle.area.specs.Content.{Content}
 use Rattle.requests.specs.Answers.{numberOf, valuesOf}
 use Rattle.requests.specs.Walks.{Item, itemsOf, beyond}
@@ -24,23 +24,23 @@ abbrev pub valuesIn : Begun → List ℕ
 valuesIn (At p) = []
 valuesIn (Refused a) = valuesOf a
 
-module _ (size offset key most : ℕ) (area : List ℕ) where
+module _ (m : Measures) (area : List ℕ) where
   -- 3: no bytes are given, or more than a key has
   abbrev pub WrongBytes : List ℕ → Type 0
-  WrongBytes given = (length given ≡ 0) ⊎ (key < length given)
+  WrongBytes given = (length given ≡ 0) ⊎ (m .key < length given)
 
   -- 5: no record lies at or beyond the bytes in the direction
   abbrev pub NothingBeyond : Bool → List ℕ → Type 0
   NothingBeyond forward given =
-      Holding size offset key most area
-      (λ (c : Content). (i : Item) → List·Memᴰ i (itemsOf (measures size offset key most) (c .filled)) → beyond (measures size offset key most) forward given i ≡ false)
+      Holding m area
+      (λ (c : Content). (i : Item) → List·Memᴰ i (itemsOf m (c .filled)) → beyond m forward given i ≡ false)
 
   -- from the bytes of a key: 1, 2, 3, 5
   abbrev pub fromTable : Bool → List ℕ → Table
   fromTable forward given =
-      row 1 (OutsideLimits size offset key most area)
-      (row 2 (DamagedSomewhere size offset key most area) (row 3 (WrongBytes given) (row 5 (NothingBeyond forward given) done)))
+      row 1 (OutsideLimits m area)
+      (row 2 (DamagedSomewhere m area) (row 3 (WrongBytes given) (row 5 (NothingBeyond forward given) done)))
 
   -- from an end: 1, 2
   abbrev pub endTable : Table
-  endTable = row 1 (OutsideLimits size offset key most area) (row 2 (DamagedSomewhere size offset key most area) done)
+  endTable = row 1 (OutsideLimits m area) (row 2 (DamagedSomewhere m area) done)

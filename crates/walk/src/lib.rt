@@ -6,7 +6,7 @@ ghost use Prim.Native.Nat.{_+_, _-_, _*_, _^_, _≤_, _<_};
 ghost use mathlib.Core.Path.{_≡_};
 ghost use mathlib.Core.Bool.{true, false};
 ghost use lib.ListN.{length};
-ghost use Rattle.measures.specs.Judgement.{Fits, widthFor};
+ghost use Rattle.measures.specs.Judgement.{Fits, asked, widthFor};
 ghost use Rattle.interval.specs.Reading.{recordsIn, Readable};
 ghost use Rattle.area.specs.Content.{recordsOf};
 ghost use Rattle.area_find.specs.AidSought.{Whole};
@@ -396,8 +396,9 @@ pub(crate) fn begin_at(area: &[u8], m: Measures, n: usize, forward: bool, given:
 
 // A walk from the bytes of a key, or from its first ones: refusals 1, 2, 3 for none or more than K bytes, 5 if nothing lies at or beyond them.
 pub fn walk_from(area: &[u8], numbers: Numbers, forward: bool, given: &[u8]) -> Begun
-    ensures begins { λ r. ⌜ Begins (now (area .entry)) (numbers .size) forward (walkFromOf (numbers .size) (numbers .offset) (numbers .key) (numbers .most) (now (area .entry)) forward (now (given .entry))) r ⌝ }
-    ensures there { λ r. ⌜ BeginsAt numbers (now (area .entry)) forward (now (given .entry)) r ⌝ }
+    ensures begins { λ r. ⌜ Begins (now (area .entry)) (numbers .size) forward
+        (walkFromOf (asked numbers) (now (area .entry)) forward (now (given .entry))) r ⌝ }
+    ensures there { λ r. ⌜ BeginsAt (asked numbers) (now (area .entry)) forward (now (given .entry)) r ⌝ }
 {
     match opening::open(area, numbers) {
         Opened::Refused { answer } => Begun::Refused(answer),
@@ -434,8 +435,9 @@ pub(crate) fn end_in(area: &[u8], m: Measures, n: usize, free: usize, forward: b
 
 // A walk from an end: refusals 1 and 2; an empty register opens at the end.
 pub fn walk_end(area: &[u8], numbers: Numbers, forward: bool) -> Begun
-    ensures begins { λ r. ⌜ Begins (now (area .entry)) (numbers .size) forward (walkEndOf (numbers .size) (numbers .offset) (numbers .key) (numbers .most) (now (area .entry)) forward) r ⌝ }
-    ensures is { λ r. ⌜ r ≡ endedBy (now (area .entry)) forward (openedOf numbers (now (area .entry))) ⌝ }
+    ensures begins { λ r. ⌜ Begins (now (area .entry)) (numbers .size) forward
+        (walkEndOf (asked numbers) (now (area .entry)) forward) r ⌝ }
+    ensures is { λ r. ⌜ r ≡ endedBy (now (area .entry)) forward (openedOf (asked numbers) (now (area .entry))) ⌝ }
 {
     match opening::open(area, numbers) {
         Opened::Refused { answer } => Begun::Refused(answer),

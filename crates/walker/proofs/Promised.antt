@@ -8,7 +8,6 @@ use contract.Lifetimes.{Lfts}
 use denote.Ref.{RefT, now}
 use Rattle.measures.specs.Judgement.{judgedOf}
 use Rattle.measures.specs.declared.Measures.{Measures}
-use Rattle.measures.specs.declared.Numbers.{Numbers}
 use Rattle.measures.specs.declared.Judged.the-variants.{Fine}
 use Rattle.area.specs.Content.{Content}
 use Rattle.area.specs.Reading.{readArea, whole}
@@ -51,10 +50,10 @@ module _ (area : RefT (List ℕ)) (size : ℕ) (forward : Bool) (place : Place) 
 
 -- THE WALKER. On a sound area it gives the records of the walk that began at its place, each as its part of the area, and then the empty part for ever. Said of what
 -- callers of `walk_from`, `walk_end`, `begun`, `next` and `seen` learn.
-pub walker-gives : (area : RefT (List ℕ)) (numbers : Numbers) (forward : Bool) (given : List ℕ) (r : Begun) → Began area numbers forward given r
-    → (place : Place) → r ≡ At place → (walkers : ℕ → Walker) (parts : ℕ → RefT (List ℕ)) → Walking area (numbers .size) forward place walkers parts
-    → (m : Measures) (n : ℕ) (c : Content) → judgedOf (numbers .size) (numbers .offset) (numbers .key) (numbers .most) (length (now area)) ≡ Fine m n
+pub walker-gives : (area : RefT (List ℕ)) (m : Measures) (forward : Bool) (given : List ℕ) (r : Begun) → Began area m forward given r
+    → (place : Place) → r ≡ At place → (walkers : ℕ → Walker) (parts : ℕ → RefT (List ℕ)) → Walking area (m .size) forward place walkers parts
+    → (n : ℕ) (c : Content) → judgedOf m (length (now area)) ≡ Fine m n
     → readArea m n (now area) ≡ whole c → Given area (walkOf m forward given c) parts
-walker-gives area numbers forward given r b place at walkers parts w =
-    steps-give area numbers forward given r b (λ (k : ℕ). walkers k .place) parts (at ∙ ap (λ (x : Walker). At (x .place)) (sym (w .first)))
-    (goes area (numbers .size) forward place walkers parts w) (sees area (numbers .size) forward place walkers parts w)
+walker-gives area m forward given r b place at walkers parts w =
+    steps-give area m forward given r b (λ (k : ℕ). walkers k .place) parts (at ∙ ap (λ (x : Walker). At (x .place)) (sym (w .first)))
+    (goes area (m .size) forward place walkers parts w) (sees area (m .size) forward place walkers parts w)

@@ -9,7 +9,7 @@ use borrow.Author.Tests.{not-true, not-false}
 use borrow.Author.Needs.{needs}
 use Rattle.fields.proofs.Choices.{false-true}
 use Rattle.measures.specs.Sizes.{permittedSize}
-use Rattle.measures.specs.Judgement.{Fits, countOf, measures, judgedOf}
+use Rattle.measures.specs.Judgement.{Fits, asked, countOf, judgedOf}
 use Rattle.measures.specs.declared.Numbers.{Numbers}
 use Rattle.measures.specs.declared.Judged.the-variants.{Outside}
 use Rattle.measures.proofs.Sizes.{permitted-range}
@@ -26,10 +26,10 @@ else1-from-else7 k = k .before .before .before .before .before .before
 
 -- what fits, of the four numbers and a length; and what does not is outside
 abbrev FitsAsked : Numbers → ℕ → Type 0
-FitsAsked k length = Fits (measures (k .size) (k .offset) (k .key) (k .most)) (countOf (k .size) length) length
+FitsAsked k length = Fits (asked k) (countOf (k .size) length) length
 
-outside : (k : Numbers) (length : ℕ) → (FitsAsked k length → ⊥) → Outside ≡ judgedOf (k .size) (k .offset) (k .key) (k .most) length
-outside k length f = sym (refused (k .size) (k .offset) (k .key) (k .most) length f)
+outside : (k : Numbers) (length : ℕ) → (FitsAsked k length → ⊥) → Outside ≡ judgedOf (asked k) length
+outside k length f = sym (refused (asked k) length f)
 
 size-fine : (c : tie.Else1) → permittedSize (c .before .before .args .numbers .size) ≡ true
 size-fine c = sym (c .before .permitted .ensures) ∙ not-false (c .before .permitted .result) (c .if1 .left)
@@ -107,7 +107,7 @@ returns-10 c =
     let a = start-from-else5 (c .before .before .before .before) .args in
     let e : a .length % a .numbers .size ≡ 0 = c .before .before .if7 .left in
     sym
-    (accepted (a .numbers .size) (a .numbers .offset) (a .numbers .key) (a .numbers .most) (a .length) (countOf (a .numbers .size) (a .length))
+    (accepted (asked (a .numbers)) (a .length) (countOf (a .numbers .size) (a .length))
     (record {
       permitted = size-fine (else1-from-else7 (c .before .before));
       key-some = omega arith;

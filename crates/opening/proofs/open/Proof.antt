@@ -3,9 +3,10 @@
 use mathlib.Core.Path.{_≡_, _∙_, sym}
 use lib.ListN.{length}
 use borrow.Author.Needs.{needs}
+use Rattle.measures.specs.Judgement.{asked, judgedOf}
 use Rattle.measures.specs.declared.Judged.the-variants.{Fine}
 use Rattle.area.specs.declared.Checked.the-variants.{Intact, Damaged}
-use Rattle.opening.proofs.Opening.{judgedFor, fits-lent, open-outside, open-told}
+use Rattle.opening.proofs.Opening.{fits-lent, open-outside, open-told}
 use Rattle.opening.proofs.open.Statement.{statement}
 use Rattle.opening.proofs.open.Tie as tie
 
@@ -13,7 +14,7 @@ use Rattle.opening.proofs.open.Tie as tie
 abbrev start : tie.After-known-told → tie.Start
 start k = k .before .before .before .before .before
 
-fine : (k : tie.After-known-told) → judgedFor (start k .args .numbers) (length (start k .args .area .now)) ≡ Fine (k .before .measures .given .0 .0) (k .before .measures .given .0 .1 .0)
+fine : (k : tie.After-known-told) → judgedOf (asked (start k .args .numbers)) (length (start k .args .area .now)) ≡ Fine (k .before .measures .given .0 .0) (k .before .measures .given .0 .1 .0)
 fine k = sym (k .before .before .before .judge .ensures) ∙ k .before .measures .given .1
 
 judge-requires : tie.Need-judge-requires
@@ -28,12 +29,12 @@ enum-told c = search needs
 returns : tie.Need-returns
 returns c =
     let a = c .before .before .before .before .args in
-    open-outside (a .numbers) (a .area .now) (sym (c .before .before .judge .ensures) ∙ c .enum-told .given .1)
+    open-outside (asked (a .numbers)) (a .area .now) (sym (c .before .before .judge .ensures) ∙ c .enum-told .given .1)
 
 check-requires : tie.Need-check-requires
 check-requires c κs =
     let a = start c .args in
-    fits-lent (a .numbers) (a .area .now) (c .before .measures .given .0 .0) (c .before .measures .given .0 .1 .0) (fine c)
+    fits-lent (asked (a .numbers)) (a .area .now) (c .before .measures .given .0 .0) (c .before .measures .given .0 .1 .0) (fine c)
 
 enum-known-records : tie.Need-enum-known-records
 enum-known-records c = search needs
@@ -45,14 +46,14 @@ returns-2 : tie.Need-returns-2
 returns-2 c =
     let k = c .before .before .before .before in
     let g = c .before .records .given in
-    open-told (start k .args .numbers) (start k .args .area .now) (k .before .measures .given .0 .0) (k .before .measures .given .0 .1 .0) (fine k)
+    open-told (asked (start k .args .numbers)) (start k .args .area .now) (k .before .measures .given .0 .0) (k .before .measures .given .0 .1 .0) (fine k)
     (Intact (g .0 .0) (g .0 .1 .0)) (sym (g .1) ∙ c .before .before .before .check .ensures)
 
 returns-3 : tie.Need-returns-3
 returns-3 c =
     let k = c .before .before .before .before in
     let g = c .before .place .given in
-    open-told (start k .args .numbers) (start k .args .area .now) (k .before .measures .given .0 .0) (k .before .measures .given .0 .1 .0) (fine k)
+    open-told (asked (start k .args .numbers)) (start k .args .area .now) (k .before .measures .given .0 .0) (k .before .measures .given .0 .1 .0) (fine k)
     (Damaged (g .0 .0)) (sym (g .1) ∙ c .before .before .before .check .ensures)
 
 pub open-spec : {M : Type 1} → statement M

@@ -1,5 +1,6 @@
 -- No loop. A refusal is told on and leaves the area (change-shut); of a whole area change_in says the rest (change-whole), which may be asked there (whole-there).
 use mathlib.Core.Path.{_≡_, _∙_, sym}
+use Rattle.measures.specs.Judgement.{asked}
 use Rattle.opening.specs.AidOpened.{openedOf}
 use Rattle.opening.specs.declared.Opened.the-variants.{Whole}
 use Rattle.register.specs.AidChange.{changeFor}
@@ -17,7 +18,7 @@ abbrev opened : tie.After-known-told2 → tie.After-open
 opened q = q .before .before .before
 
 is-whole : (q : tie.After-known-told2)
-    → openedOf (start (opened q) .args .numbers) (start (opened q) .args .area .now) ≡ Whole (q .before .measures .given .0 .0) (q .before .measures .given .0 .1 .0)
+    → openedOf (asked (start (opened q) .args .numbers)) (start (opened q) .args .area .now) ≡ Whole (q .before .measures .given .0 .0) (q .before .measures .given .0 .1 .0)
     (q .before .measures .given .0 .1 .1 .0) (q .before .measures .given .0 .1 .1 .1 .0)
 is-whole q = sym (opened q .open .ensures) ∙ q .before .measures .given .1
 
@@ -34,7 +35,7 @@ change-in-requires : tie.Need-change-in-requires
 change-in-requires c κs =
     let q = c .before in
     let g = q .before .measures .given in
-    whole-there (start (opened q) .args .numbers) (start (opened q) .args .area .now) (g .0 .0) (g .0 .1 .0) (g .0 .1 .1 .0) (g .0 .1 .1 .1 .0) (is-whole q)
+    whole-there (asked (start (opened q) .args .numbers)) (start (opened q) .args .area .now) (g .0 .0) (g .0 .1 .0) (g .0 .1 .1 .0) (g .0 .1 .1 .1 .0) (is-whole q)
 
 same-length : tie.Need-same-length
 same-length c = search needs
@@ -44,7 +45,7 @@ returns c =
     let k = c .before .before .before in
     let a = start k .args in
     let g = c .before .answer .given in
-    change-shut (a .numbers) (a .area .now) (changeFor (a .kind) (a .given .now)) (g .0 .0) (sym (k .open .ensures) ∙ g .1)
+    change-shut (asked (a .numbers)) (a .area .now) (changeFor (a .kind) (a .given .now)) (g .0 .0) (sym (k .open .ensures) ∙ g .1)
 
 same-length-2 : tie.Need-same-length-2
 same-length-2 c = search needs
@@ -55,7 +56,7 @@ returns-2 c =
     let q = i .before .before in
     let a = start (opened q) .args in
     let g = q .before .measures .given in
-    change-whole (a .numbers) (a .area .now) (changeFor (a .kind) (a .given .now)) (g .0 .0) (g .0 .1 .0) (g .0 .1 .1 .0) (g .0 .1 .1 .1 .0) (is-whole q)
+    change-whole (asked (a .numbers)) (a .area .now) (changeFor (a .kind) (a .given .now)) (g .0 .0) (g .0 .1 .0) (g .0 .1 .1 .0) (g .0 .1 .1 .1 .0) (is-whole q)
     (i .change-in .result) (i .change-in .last .0) (i .change-in .ensures)
 
 pub change-spec : {M : Type 1} → statement M

@@ -1,7 +1,8 @@
 -- No loop. What the area was opened as says it all: a refusal is told on (check-shut), and of a whole area its two counts (check-whole).
 use mathlib.Core.Path.{_∙_, sym}
 use borrow.Author.Needs.{needs}
-use Rattle.measures.specs.declared.Numbers.{Numbers}
+use Rattle.measures.specs.Judgement.{measures}
+use Rattle.measures.specs.declared.Measures.{Measures}
 use Rattle.register.proofs.Reading.{check-shut, check-whole}
 use Rattle.register.proofs.check.Statement.{statement}
 use Rattle.register.proofs.check.Tie as tie
@@ -9,8 +10,8 @@ use Rattle.register.proofs.check.Tie as tie
 abbrev start : tie.After-open → tie.Start
 start k = k .before .before
 
-abbrev asked : tie.After-open → Numbers
-asked k = let a = start k .args in record { size = a .size; offset = a .offset; key = a .key; most = a .most }
+abbrev asked : tie.After-open → Measures
+asked k = let a = start k .args in measures (a .size) (a .offset) (a .key) (a .most)
 
 open-requires : tie.Need-open-requires
 open-requires c κs = search needs

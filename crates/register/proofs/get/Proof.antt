@@ -4,9 +4,10 @@ use mathlib.Core.Path.{_≡_, _∙_, sym}
 use lib.ListN.{length}
 use denote.Ref.{now}
 use borrow.Author.Needs.{needs}
-use Rattle.measures.specs.declared.Numbers.{Numbers}
+use Rattle.measures.specs.Judgement.{judgedOf, measures}
+use Rattle.measures.specs.declared.Measures.{Measures}
 use Rattle.measures.specs.declared.Judged.the-variants.{Fine}
-use Rattle.opening.proofs.Opening.{judgedFor, fits-lent}
+use Rattle.opening.proofs.Opening.{fits-lent}
 use Rattle.register.proofs.Reading.{get-outside, get-fine}
 use Rattle.register.proofs.get.Statement.{statement}
 use Rattle.register.proofs.get.Tie as tie
@@ -14,15 +15,15 @@ use Rattle.register.proofs.get.Tie as tie
 abbrev start : tie.After-judge → tie.Start
 start k = k .before .before .before .before
 
-abbrev asked : tie.After-judge → Numbers
-asked k = let a = start k .args in record { size = a .size; offset = a .offset; key = a .key; most = a .most }
+abbrev asked : tie.After-judge → Measures
+asked k = let a = start k .args in measures (a .size) (a .offset) (a .key) (a .most)
 
 -- the numbers are fine
 abbrev judged : tie.After-known-told → tie.After-judge
 judged q = q .before .before .before
 
 fine : (q : tie.After-known-told)
-    → judgedFor (asked (judged q)) (length (now (start (judged q) .args .area))) ≡ Fine (q .before .measures .given .0 .0) (q .before .measures .given .0 .1 .0)
+    → judgedOf (asked (judged q)) (length (now (start (judged q) .args .area))) ≡ Fine (q .before .measures .given .0 .0) (q .before .measures .given .0 .1 .0)
 fine q = sym (judged q .judge .ensures) ∙ q .before .measures .given .1
 
 judge-requires : tie.Need-judge-requires

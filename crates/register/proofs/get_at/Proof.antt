@@ -1,7 +1,8 @@
 -- No loop. A refusal is told on and leaves the output (get-at-shut); of a whole area get_at_in says the rest (get-at-whole), which may be asked there (whole-there).
 use mathlib.Core.Path.{_≡_, _∙_, sym}
 use borrow.Author.Needs.{needs}
-use Rattle.measures.specs.declared.Numbers.{Numbers}
+use Rattle.measures.specs.Judgement.{measures}
+use Rattle.measures.specs.declared.Measures.{Measures}
 use Rattle.opening.specs.AidOpened.{openedOf}
 use Rattle.opening.specs.declared.Opened.the-variants.{Whole}
 use Rattle.register.proofs.Reading.{get-at-shut, whole-there, get-at-whole}
@@ -11,8 +12,8 @@ use Rattle.register.proofs.get_at.Tie as tie
 abbrev start : tie.After-open → tie.Start
 start k = k .before .before .before
 
-abbrev asked : tie.After-open → Numbers
-asked k = let a = start k .args in record { size = a .size; offset = a .offset; key = a .key; most = a .most }
+abbrev asked : tie.After-open → Measures
+asked k = let a = start k .args in measures (a .size) (a .offset) (a .key) (a .most)
 
 -- the area is whole
 abbrev opened : tie.After-known-told2 → tie.After-open

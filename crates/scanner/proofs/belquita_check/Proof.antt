@@ -10,7 +10,7 @@ check-requires : tie.Need-check-requires
 check-requires c κs = search needs
 
 word-requires : tie.Need-word-requires
-word-requires c κs = subst Small (sym (c .check .ensures)) (check-small _ _ _ _ _)
+word-requires c κs = subst Small (sym (c .check .ensures)) (check-small _ _)
 
 returns : tie.Need-returns
 returns c = c .word .ensures ∙ ap wordOf (c .before .check .ensures)

@@ -10,7 +10,7 @@ get-requires : tie.Need-get-requires
 get-requires c κs = search needs
 
 word-requires : tie.Need-word-requires
-word-requires c κs = subst Small (sym (c .before .before .get .ensures .answers)) (get-small _ _ _ _ _ _ _)
+word-requires c κs = subst Small (sym (c .before .before .get .ensures .answers)) (get-small _ _ _ _)
 
 same-length : tie.Need-same-length
 same-length c = search needs

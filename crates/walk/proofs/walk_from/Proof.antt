@@ -5,6 +5,7 @@ use mathlib.Core.Logic.{⊎-elim}
 use native.Mathlib.Omega.{arith}
 use borrow.Author.Tests.{ltb-true, ltb-false}
 use borrow.Author.Needs.{needs}
+use Rattle.measures.specs.Judgement.{asked}
 use Rattle.opening.specs.AidOpened.{openedOf}
 use Rattle.opening.specs.declared.Opened.the-variants.{Whole}
 use Rattle.walk.proofs.Walking.{opened-fits, opened-reads, from-refused, from-nothing, from-too-many, from-absent, from-present}
@@ -17,7 +18,7 @@ start-of k = k .before .before .before .before .before .before
 
 -- what the area was opened as
 opened-told : (k : tie.After-known-told2)
-    → openedOf (start-of k .args .numbers) (start-of k .args .area .now)
+    → openedOf (asked (start-of k .args .numbers)) (start-of k .args .area .now)
     ≡ Whole (k .before .measures .given .0 .0) (k .before .measures .given .0 .1 .0) (k .before .measures .given .0 .1 .1 .0) (k .before .measures .given .0 .1 .1 .1 .0)
 opened-told k = sym (k .before .before .before .open .ensures) ∙ k .before .measures .given .1
 
@@ -36,8 +37,8 @@ returns c =
     let a = start-of k .args in
     let f = k .before .measures .given .0 in
     let e = opened-told k in
-    ⊎-elim (λ x. from-nothing (a .numbers) (a .area .now) (a .forward) (f .0) (f .1 .0) (f .1 .1 .0) (f .1 .1 .1 .0) e (a .given .now) (x .taken))
-    (λ x. from-too-many (a .numbers) (a .area .now) (a .forward) (f .0) (f .1 .0) (f .1 .1 .0) (f .1 .1 .1 .0) e (a .given .now) (ltb-true _ _ (x .2 .taken)))
+    ⊎-elim (λ x. from-nothing (asked (a .numbers)) (a .area .now) (a .forward) (f .0) (f .1 .0) (f .1 .1 .0) (f .1 .1 .1 .0) e (a .given .now) (x .taken))
+    (λ x. from-too-many (asked (a .numbers)) (a .area .now) (a .forward) (f .0) (f .1 .0) (f .1 .1 .0) (f .1 .1 .1 .0) e (a .given .now) (ltb-true _ _ (x .2 .taken)))
     (c .if1 .came)
 
 begin-at-requires : tie.Need-begin-at-requires
@@ -46,8 +47,8 @@ begin-at-requires c κs =
     let a = start-of k .args in
     let f = k .before .measures .given .0 in
     let e = opened-told k in (
-      opened-fits (a .numbers) (a .area .now) (a .forward) (f .0) (f .1 .0) (f .1 .1 .0) (f .1 .1 .1 .0) e,
-      opened-reads (a .numbers) (a .area .now) (a .forward) (f .0) (f .1 .0) (f .1 .1 .0) (f .1 .1 .1 .0) e,
+      opened-fits (asked (a .numbers)) (a .area .now) (a .forward) (f .0) (f .1 .0) (f .1 .1 .0) (f .1 .1 .1 .0) e,
+      opened-reads (asked (a .numbers)) (a .area .now) (a .forward) (f .0) (f .1 .0) (f .1 .1 .0) (f .1 .1 .1 .0) e,
       ltb-false _ _ (c .if2 .left),
     )
 
@@ -57,7 +58,7 @@ returns-2 c =
     let k = b .before .before .before .before in
     let a = start-of k .args in
     let f = k .before .measures .given .0 in
-    from-absent (a .numbers) (a .area .now) (a .forward) (f .0) (f .1 .0) (f .1 .1 .0) (f .1 .1 .1 .0) (opened-told k) (a .given .now)
+    from-absent (asked (a .numbers)) (a .area .now) (a .forward) (f .0) (f .1 .0) (f .1 .1 .0) (f .1 .1 .1 .0) (opened-told k) (a .given .now)
     (λ i. omega (arith, k .before .before .before .before .before .shared-slice-known .given i)) (b .before .before .before .if1 .left) (ltb-false _ _ (b .before .if2 .left)) (b .begin-at .result)
     (b .begin-at .ensures) (c .if3 .taken)
 
@@ -65,7 +66,7 @@ returns-3 : tie.Need-returns-3
 returns-3 c =
     let a = c .before .before .before .before .before .before .args in
     let f = c .before .answer .given in
-    from-refused (a .numbers) (a .area .now) (a .forward) (f .0 .0) (sym (c .before .before .before .open .ensures) ∙ f .1) (a .given .now)
+    from-refused (asked (a .numbers)) (a .area .now) (a .forward) (f .0 .0) (sym (c .before .before .before .open .ensures) ∙ f .1) (a .given .now)
 
 returns-4 : tie.Need-returns-4
 returns-4 c =
@@ -73,7 +74,7 @@ returns-4 c =
     let k = b .before .before .before .before in
     let a = start-of k .args in
     let f = k .before .measures .given .0 in
-    from-present (a .numbers) (a .area .now) (a .forward) (f .0) (f .1 .0) (f .1 .1 .0) (f .1 .1 .1 .0) (opened-told k) (a .given .now)
+    from-present (asked (a .numbers)) (a .area .now) (a .forward) (f .0) (f .1 .0) (f .1 .1 .0) (f .1 .1 .1 .0) (opened-told k) (a .given .now)
     (λ i. omega (arith, k .before .before .before .before .before .shared-slice-known .given i)) (b .before .before .before .if1 .left) (ltb-false _ _ (b .before .if2 .left)) (b .begin-at .result)
     (b .begin-at .ensures) (c .if3 .left)
 
