@@ -8,8 +8,8 @@ use lib.ListN.{length}
 use native.Mathlib.Omega.{arith}
 use Rattle.measures.specs.Judgement.{Fits, widthFor}
 use Rattle.measures.specs.declared.Measures.{Measures}
-use Rattle.measures.proofs.Fine.{fits-small, fits-large}
 use Rattle.interval.specs.Reading.{sound, Readable}
+use Rattle.interval.proofs.Readable.{fits-checkable, checked-readable}
 use Rattle.index.specs.Bounds.{bound}
 use Rattle.index.specs.Meaning.{Entry, numbers, named}
 use Rattle.index.proofs.Counting.{count-among}
@@ -47,14 +47,7 @@ each-sound m n area c r k h =
 
 pub readable : (m : Measures) (n : ℕ) (area : List ℕ) → Fits m n (length area) → Whole m n area → (k : ℕ) → k < n → Readable m (dataIn m area k)
 readable m n area o w k h =
-    let l = length-data m n area o k h in
-    record {
-      sized = omega (arith, fits-large o);
-      small = omega (arith, fits-small o);
-      keyed = o .key-some;
-      inside = o .key-inside;
-      stands = each-sound m n area (w .content) (w .reads) k h;
-    }
+    checked-readable (fits-checkable o (dataIn m area k) (length-data m n area o k h)) (each-sound m n area (w .content) (w .reads) k h)
 
 pub index-readable : (m : Measures) (n : ℕ) (area : List ℕ) → Whole m n area → soundIndex (widthFor n) (m .key) n [] [] (indexIn m area) ≡ true
 index-readable m n area w = sound-apart m n area (w .content) (w .reads) .index

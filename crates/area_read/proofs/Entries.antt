@@ -12,12 +12,11 @@ use Rattle.fields.specs.Choice.{pick, both}
 use Rattle.fields.proofs.Choices.{both-split, false-true}
 use Rattle.measures.specs.Judgement.{Fits, widthFor}
 use Rattle.measures.specs.declared.Measures.{Measures}
-use Rattle.measures.proofs.Fine.{fits-small, fits-large}
 use Rattle.measures.proofs.Width.{width-most}
 use Rattle.interval.specs.Records.{keysOf, above, upTo}
-use Rattle.interval.specs.Reading.{recordsIn, sound}
+use Rattle.interval.specs.Reading.{recordsIn, sound, Checkable}
 use Rattle.interval.specs.Role.{soundUsed}
-use Rattle.interval.proofs.Readable.{records-few}
+use Rattle.interval.proofs.Readable.{fits-checkable, checked-readable, records-few}
 use Rattle.interval_read.specs.Verdict.{lastStart}
 use Rattle.interval_read.specs.AidOpened.{openedOf}
 use Rattle.interval_read.specs.declared.Opened.{Opened}
@@ -41,7 +40,7 @@ use Rattle.area_read.proofs.Lows.{lowest-met}
 
 -- ---- one interval
 
-module _ (m : Measures) (ci low high : List ℕ) (small : length ci ≤ 32768) (sized : 4 ≤ length ci) (some : 1 ≤ m .key) (inside : m .offset + m .key ≤ m .least) where
+module _ (m : Measures) (ci low high : List ℕ) (lent : Checkable m ci) where
   by-bound : (b : Bool) (o : Opened) → both (sound m ci) (above low (keysOf m (recordsIn ci))) ≡ b
       → o ≡ pick b (opened.Sound (length (recordsIn ci)) (lastStart (map length (recordsIn ci)))) opened.Bad → (r : Seen) → Closed m ci high o r
       → (r .ok ≡ soundUsed m low high ci) × ((r .ok ≡ true → r .count ≡ length (recordsIn ci)) × (r .count ≤ 32768))
@@ -49,7 +48,7 @@ module _ (m : Measures) (ci low high : List ℕ) (small : length ci ≤ 32768) (
   by-bound true o h e r k =
       let s = both-split (sound m ci) (above low (keysOf m (recordsIn ci))) h in
       let c : Closed m ci high (opened.Sound (length (recordsIn ci)) (lastStart (map length (recordsIn ci)))) r = rw e at k in
-      let f = records-few m ci (record { sized = sized; small = small; keyed = some; inside = inside; stands = s .0 }) in
+      let f = records-few m ci (checked-readable lent (s .0)) in
       (rw (s .0, s .1) (c .0), ((λ (z : r .ok ≡ true). c .1), omega (arith, c .1, f)))
   by-bound false o h e r k =
       let c : Closed m ci high opened.Bad r = rw e at k in
@@ -206,8 +205,7 @@ module _ (m : Measures) (n : ℕ) (area ib : List ℕ) (worst : ℕ) where
           seen =
               let z = length-data m n area f num (step .within) in
               seen-is m (dataIn m area num) (boundBefore (m .key) [] (take i es)) (bound (m .key) sep)
-              (omega (arith, z, fits-small f)) (omega (arith, z, fits-large f)) (f .key-some) (f .key-inside) o
-              (rw (low-held, num-is) at opens) r (rw (on .ref, num-is) at closes)
+              (fits-checkable f (dataIn m area num) z) o (rw (low-held, num-is) at opens) r (rw (on .ref, num-is) at closes)
 
           pub seen-few : r .count ≤ 32768
           seen-few = seen .1 .1

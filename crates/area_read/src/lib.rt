@@ -7,6 +7,7 @@ ghost use lib.ListN.{length};
 ghost use Rattle.fields.specs.Choice.{pick};
 ghost use Rattle.measures.specs.Judgement.{Fits, widthFor};
 ghost use Rattle.interval.specs.Bounds.{bound};
+ghost use Rattle.interval.specs.Reading.{Checkable};
 ghost use Rattle.interval_read.specs.AidOpened.{Inside};
 ghost use Rattle.index.specs.Meaning.{below};
 ghost use Rattle.index.specs.Reading.{numbersAt};
@@ -65,7 +66,7 @@ pub(crate) fn free_worst(area: &[u8], ib: &[u8], m: Measures, n: usize, free: us
 
 // The second half of an entry's judgement: its own bound.
 pub(crate) fn closed(ci: &[u8], m: Measures, opened: Opened, high: &[u8]) -> Seen
-    requires { ⌜ (length (now ci) ≤ 32768) × (1 ≤ m .key) × (m .offset + m .key ≤ m .least) × Inside m (now ci) opened × (length (now high) ≤ m .key) ⌝ }
+    requires { ⌜ Checkable m (now ci) × Inside m (now ci) opened × (length (now high) ≤ m .key) ⌝ }
     ensures { λ r. ⌜ Closed m (now (ci .entry)) (bound (m .key) (now (high .entry))) opened r ⌝ }
 {
     match opened {

@@ -12,14 +12,13 @@ use Rattle.fields.specs.Order.{less}
 use Rattle.fields.proofs.Choices.{both-split, false-true, pick-true, pick-false}
 use Rattle.measures.specs.Judgement.{Fits}
 use Rattle.measures.specs.declared.Measures.{Measures}
-use Rattle.measures.proofs.Fine.{fits-small, fits-large}
 use Rattle.interval.specs.Records.{keysOf, above, upTo}
 use Rattle.interval.specs.Reading.{recordsIn, sound, displacement, Readable}
 use Rattle.interval.specs.Role.{soundUsed}
 use Rattle.interval.specs.Search.{placeOf, Within}
 use Rattle.interval.specs.declared.Found.{Found}
 use Rattle.interval.specs.declared.Found.the-variants.{At, Gap}
-use Rattle.interval.proofs.Readable.{readable-rdfs}
+use Rattle.interval.proofs.Readable.{fits-checkable, checked-readable, readable-rdfs}
 use Rattle.interval_read.specs.Verdict.{lastStart}
 use Rattle.interval_read.specs.AidOpened.{openedOf, Inside as Told}
 use Rattle.interval_read.specs.declared.Opened.{Opened}
@@ -157,7 +156,7 @@ module _ (m : Measures) (n : ℕ) (area key : List ℕ) (h : indexSound m n area
       lent-readable =
           let es = entriesFor m n area in
           let u = used-apart m (boundBefore (m .key) [] (take (leadsTo key es) es)) (bound (m .key) (entryFor key es .sep)) (intervalFor m n area key) t in
-          record { sized = omega (arith, size-is, fits-large o); small = omega (arith, size-is, fits-small o); keyed = o .key-some; inside = o .key-inside; stands = rw (lent, number) (u .0) }
+          checked-readable (fits-checkable o ci size-is) (rw (lent, number) (u .0))
 
       -- a record that was found ends within it, and so within the area
       pub record-inside : (f : Found) (i start len : ℕ) → f ≡ At i start len → Within (length (recordsIn ci)) (displacement ci) f

@@ -6,6 +6,7 @@ ghost use lib.ListN.{length};
 ghost use Rattle.fields.specs.Choice.{pick};
 ghost use Rattle.measures.specs.Judgement.{Fits};
 ghost use Rattle.interval.specs.Bounds.{bound};
+ghost use Rattle.interval.specs.Reading.{Checkable};
 ghost use Rattle.interval.specs.Role.{soundUsed};
 ghost use Rattle.area_seek.specs.AidLooked.{lookedOf, Inside};
 use index_read::Sought;
@@ -25,7 +26,7 @@ pub enum Looked {
 
 // Whether an interval in use is sound between two bounds, whose separators are lent; the first entry has no bound before.
 pub(crate) fn sound_between(ci: &[u8], m: Measures, first: bool, low: &[u8], high: &[u8]) -> bool
-    requires { ⌜ (4 ≤ length (now ci)) × (length (now ci) ≤ 32768) × (1 ≤ m .key) × (m .offset + m .key ≤ m .least) × (length (now low) ≤ m .key) × (length (now high) ≤ m .key) ⌝ }
+    requires { ⌜ Checkable m (now ci) × (length (now low) ≤ m .key) × (length (now high) ≤ m .key) ⌝ }
     ensures { λ r. ⌜ r ≡ soundUsed m (pick first [] (bound (m .key) (now (low .entry)))) (bound (m .key) (now (high .entry))) (now (ci .entry)) ⌝ }
 {
     match interval_read::opens(ci, m, first, low) {

@@ -10,10 +10,21 @@ use borrow.Author.Tests.{leb-true}
 use Rattle.fields.specs.Lists.{sum, concat, every}
 use Rattle.fields.proofs.Choices.{both-split}
 use Rattle.fields.proofs.Lists.{sum-lengths}
+use Rattle.measures.specs.Judgement.{Fits}
 use Rattle.measures.specs.declared.Measures.{Measures}
+use Rattle.measures.proofs.Fine.{fits-small, fits-large}
 use Rattle.interval.specs.Records.{keysOf, within, allWithin, ascending}
-use Rattle.interval.specs.Reading.{displacement, rdfsAt, rdfsMany, rdfs, rdfsIn, wellFormed, recordsIn, formSound, Readable}
+use Rattle.interval.specs.Reading.{displacement, rdfsAt, rdfsMany, rdfs, rdfsIn, wellFormed, recordsIn, formSound, sound, Checkable, Readable}
 use Rattle.interval.proofs.Backward.{Tests, form-tests, read-lengths-fine, form-and-keys, read-bytes}
+
+-- An interval of measures that are fine can be checked, whatever its bytes are,
+pub fits-checkable : {m : Measures} {n long : ℕ} → Fits m n long → (ci : List ℕ) → length ci ≡ m .size → Checkable m ci
+fits-checkable o ci e =
+    record { sized = omega (arith, fits-large o); small = omega (arith, fits-small o); keyed = o .key-some; inside = o .key-inside }
+
+-- and read where it is sound.
+pub checked-readable : {m : Measures} {ci : List ℕ} → Checkable m ci → sound m ci ≡ true → Readable m ci
+checked-readable k s = record { sized = k .sized; small = k .small; keyed = k .keyed; inside = k .inside; stands = s }
 
 -- What the readers of a sound interval know of it.
 module _ (m : Measures) (ci : List ℕ) (r : Readable m ci) where

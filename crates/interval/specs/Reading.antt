@@ -90,6 +90,13 @@ formSound m ci =
 unfoldable pub sound : Measures → List ℕ → Bool
 sound m ci = both (formSound m ci) (ascending (keysOf m (recordsIn ci)))
 
+-- what is asked of an interval's length and of the measures before its bytes are judged, whatever these are
+pub record Checkable (m : Measures) (ci : List ℕ) : Type 0 where
+  pub sized : 4 ≤ length ci
+  pub small : length ci ≤ 32768
+  pub keyed : 1 ≤ m .key
+  pub inside : m .offset + m .key ≤ m .least
+
 -- what the readers of a sound interval ask of it
 pub record Readable (m : Measures) (ci : List ℕ) : Type 0 where
   pub sized : 4 ≤ length ci

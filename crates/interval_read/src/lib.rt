@@ -9,7 +9,7 @@ ghost use Rattle.fields.specs.Choice.{pick};
 ghost use Rattle.fields.specs.Bytes.{part};
 ghost use Rattle.fields.specs.Order.{less};
 ghost use Rattle.interval.specs.Records.{ascendFrom, keysOf, upTo};
-ghost use Rattle.interval.specs.Reading.{rdfs, recordsIn};
+ghost use Rattle.interval.specs.Reading.{rdfs, recordsIn, Checkable};
 ghost use Rattle.interval.specs.Role.{soundFree};
 ghost use Rattle.interval.specs.Bounds.{bound};
 ghost use Rattle.interval_read.specs.Verdict.{verdictOf};
@@ -182,7 +182,7 @@ pub(crate) fn run_rises(
 // The walk over the `many` RDFs from place p on and over the records that they describe, which must have `bytes` bytes. The RDFs end
 // where the CIDF begins, so the first of them is read without waiting for what the CIDF says.
 pub(crate) fn walk(ci: &[u8], m: Measures, bytes: usize, p: usize, many: usize) -> Verdict
-    requires { ⌜ (p + 3 * many + 4 ≡ length (now ci)) × (bytes ≤ length (now ci)) × (length (now ci) ≤ 32768) × (1 ≤ m .key) × (m .offset + m .key ≤ m .least) ⌝ }
+    requires { ⌜ (p + 3 * many + 4 ≡ length (now ci)) × (bytes ≤ length (now ci)) × Checkable m (now ci) ⌝ }
     ensures { λ r. ⌜ r ≡ walked m (now (ci .entry)) bytes many (rdfs (now (ci .entry)) p many) ⌝ }
 {
     let offset = m.offset;
@@ -225,7 +225,7 @@ pub(crate) fn walk(ci: &[u8], m: Measures, bytes: usize, p: usize, many: usize) 
 
 // The verdict on an interval, whatever its bytes are.
 pub fn check(ci: &[u8], m: Measures) -> Verdict
-    requires { ⌜ (4 ≤ length (now ci)) × (length (now ci) ≤ 32768) × (1 ≤ m .key) × (m .offset + m .key ≤ m .least) ⌝ }
+    requires { ⌜ Checkable m (now ci) ⌝ }
     ensures { λ r. ⌜ r ≡ verdictOf m (now (ci .entry)) ⌝ }
 {
     let Tail::Of { bytes, at, many } = read_tail(ci) else {
@@ -236,7 +236,7 @@ pub fn check(ci: &[u8], m: Measures) -> Verdict
 
 // Whether a free interval is as it must be: sound, and with no record.
 pub fn free_sound(ci: &[u8], m: Measures) -> bool
-    requires { ⌜ (4 ≤ length (now ci)) × (length (now ci) ≤ 32768) × (1 ≤ m .key) × (m .offset + m .key ≤ m .least) ⌝ }
+    requires { ⌜ Checkable m (now ci) ⌝ }
     ensures { λ r. ⌜ r ≡ soundFree m (now (ci .entry)) ⌝ }
 {
     let Verdict::Sound {
@@ -260,7 +260,7 @@ pub enum Opened {
 // The interval judged by itself and against the bound before, whose separator is lent; the first entry has none. Keys ascend, so the first
 // key decides, and of that as many bytes as the separator has: nothing has to be filled up.
 pub fn opens(ci: &[u8], m: Measures, first: bool, low: &[u8]) -> Opened
-    requires { ⌜ (4 ≤ length (now ci)) × (length (now ci) ≤ 32768) × (1 ≤ m .key) × (m .offset + m .key ≤ m .least) × (length (now low) ≤ m .key) ⌝ }
+    requires { ⌜ Checkable m (now ci) × (length (now low) ≤ m .key) ⌝ }
     ensures is { λ r. ⌜ r ≡ openedOf m (pick first [] (bound (m .key) (now (low .entry)))) (now (ci .entry)) ⌝ }
     ensures inside { λ r. ⌜ Inside m (now (ci .entry)) r ⌝ }
 {

@@ -4,8 +4,8 @@ use mathlib.Core.Path.{_≡_, refl}
 use mathlib.Core.Bool.{true}
 use Rattle.measures.specs.Sizes.{anyBelow, permittedSize}
 use Rattle.measures.specs.Judgement.{fine}
-use Rattle.measures.specs.Edges.{area, edges}
+use Rattle.measures.specs.Edges.{area, lengths, edges}
 
 pub both-sides : edges ≡ true
-unfolding edges area fine permittedSize anyBelow
+unfolding edges area lengths fine permittedSize anyBelow
 both-sides = refl

@@ -10,6 +10,10 @@ use Rattle.measures.specs.Judgement.{fine, measures}
 unfoldable pub area : ℕ → ℕ → ℕ → Bool
 area size most n = fine (measures size 0 8 most) (size * (n + 1))
 
+-- one data interval of 512 bytes, key of 8 bytes at the offset, records from the least to the most
+unfoldable pub lengths : ℕ → ℕ → ℕ → Bool
+lengths offset least most = fine (record { size = 512; offset = offset; key = 8; least = least; most = most }) 1024
+
 -- largest numbers of a request
 abbrev largest : ℕ
 largest = 18446744073709551615
@@ -49,4 +53,14 @@ edges =
     ∷ no (fine (measures 512 0 8 largest) 1024)
     ∷ no (fine (measures largest 0 8 60) 1024)
     ∷ no (fine (measures 512 0 8 60) largest)
+    ∷ lengths 0 8 60
+    ∷ no (lengths 0 7 60)
+    ∷ lengths 4 12 60
+    ∷ no (lengths 4 11 60)
+    ∷ no (lengths (largest - 7) 12 60)
+    ∷ lengths 0 60 60
+    ∷ no (lengths 0 61 60)
+    ∷ lengths 0 505 505
+    ∷ no (lengths 0 506 505)
+    ∷ no (lengths 0 largest 60)
     ∷ [])

@@ -85,15 +85,17 @@ pub fn permitted(size: usize) -> bool
     false
 }
 
-// Refusal 1: whether the four measures and the buffer's length are what document 01 allows, with the number of data intervals.
-// The size is judged before anything is divided by it, and sums are taken only of what is known to be small.
-pub fn judge(numbers: Numbers, length: usize) -> Judged
-    ensures { λ r. ⌜ r ≡ judgedOf (asked numbers) length ⌝ }
+// Refusal 1, of the measures as one value: whether they and the buffer's length are what document 01 allows, and the
+// shortest record holds its key and is no longer than the longest; with the number of data intervals.
+// The size is judged before anything is divided by it.
+pub fn judge_measures(m: Measures, length: usize) -> Judged
+    ensures { λ r. ⌜ r ≡ judgedOf m length ⌝ }
 {
-    let size = numbers.size;
-    let offset = numbers.offset;
-    let key = numbers.key;
-    let most = numbers.most;
+    let size = m.size;
+    let offset = m.offset;
+    let key = m.key;
+    let least = m.least;
+    let most = m.most;
     if !permitted(size) {
         return Judged::Outside;
     }
@@ -106,10 +108,13 @@ pub fn judge(numbers: Numbers, length: usize) -> Judged
     if size - 7 < most {
         return Judged::Outside;
     }
-    if most < key {
+    if most < least {
         return Judged::Outside;
     }
-    if most - key < offset {
+    if least < key {
+        return Judged::Outside;
+    }
+    if least - key < offset {
         return Judged::Outside;
     }
     if length % size != 0 {
@@ -123,13 +128,32 @@ pub fn judge(numbers: Numbers, length: usize) -> Judged
         return Judged::Outside;
     }
     Judged::Fine {
-        measures: Measures {
-            size,
-            offset,
-            key,
-            least: offset + key,
-            most,
-        },
+        measures: m,
         count: whole - 1,
     }
+}
+
+// Refusal 1, of the four numbers of a request: the shortest record ends with its key. The sum is taken only of what is
+// known to be small.
+pub fn judge(numbers: Numbers, length: usize) -> Judged
+    ensures { λ r. ⌜ r ≡ judgedOf (asked numbers) length ⌝ }
+{
+    let size = numbers.size;
+    let offset = numbers.offset;
+    let key = numbers.key;
+    let most = numbers.most;
+    if most < key {
+        return Judged::Outside;
+    }
+    if most - key < offset {
+        return Judged::Outside;
+    }
+    let m = Measures {
+        size,
+        offset,
+        key,
+        least: offset + key,
+        most,
+    };
+    judge_measures(m, length)
 }

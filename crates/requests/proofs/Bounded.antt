@@ -15,13 +15,13 @@ use Rattle.fields.proofs.Choices.{both-split}
 use Rattle.measures.specs.Judgement.{Fits, limit, countOf, judgedOf, widthFor}
 use Rattle.measures.specs.declared.Measures.{Measures}
 use Rattle.measures.specs.declared.Judged.the-variants as judged
-use Rattle.measures.proofs.Fine.{judged-either, accepted-fits, fits-small, fits-large}
+use Rattle.measures.proofs.Fine.{judged-either, accepted-fits, fits-small}
 use Rattle.interval.specs.Records.{keyOf, within, lengthsFine}
 use Rattle.interval.specs.Reading.{recordsIn}
 use Rattle.interval.specs.Role.{soundUsed}
 use Rattle.interval.proofs.Backward.{form-and-keys, read-lengths-fine}
 use Rattle.interval.proofs.Lengths.{within-high}
-use Rattle.interval.proofs.Readable.{records-few}
+use Rattle.interval.proofs.Readable.{fits-checkable, checked-readable, records-few}
 use Rattle.index.specs.Bounds.{bound}
 use Rattle.index.specs.Meaning.{Entry, entry, numbers, below}
 use Rattle.index.specs.Search.{leadsTo, entryFor}
@@ -122,14 +122,7 @@ module _ (m : Measures) (n : ℕ) (area : List ℕ) (o : Fits m n (length area))
   interval-records : (low high : List ℕ) (k : ℕ) → k < n → soundUsed m low high (dataIn m area k) ≡ true → length (recordsIn (dataIn m area k)) < 32768
   interval-records low high k b s =
       let l : length (dataIn m area k) ≡ m .size = length-data m n area o k b in
-      let f = records-few m (dataIn m area k)
-      record {
-        sized = omega (arith, fits-large o);
-        small = omega (arith, fits-small o);
-        keyed = o .key-some;
-        inside = o .key-inside;
-        stands = used-apart m low high (dataIn m area k) s .0;
-      } in
+      let f = records-few m (dataIn m area k) (checked-readable (fits-checkable o (dataIn m area k) l) (used-apart m low high (dataIn m area k) s .0)) in
       omega (arith, fits-small o)
 
   records-most : (low : List ℕ) (es : List Entry) → below n (numbers es) ≡ true → AllUsed m area low es → length (recordsOf (fill m area es)) ≤ length es * 32767

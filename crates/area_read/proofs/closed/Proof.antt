@@ -12,8 +12,8 @@ enum-known-opened c = search needs
 closes-requires : tie.Need-closes-requires
 closes-requires c κs =
     let s = c .before .before .before .before .before in
-    let f = rw (c .before .opened .given .1) at (s .pre .3) in
-    ((omega arith, omega arith, omega arith, f .0, f .1, f .2), s .pre .4)
+    let f = rw (c .before .opened .given .1) at (s .pre .1) in
+    ((omega arith, omega arith, omega arith, f .0, f .1, f .2), s .pre .2)
 
 enum-told : tie.Need-enum-told
 enum-told c = search needs
@@ -21,7 +21,7 @@ enum-told c = search needs
 returns : tie.Need-returns
 returns c =
     let s = c .before .before .before .before .before .before in
-    let f = rw (c .before .before .opened .given .1) at (s .pre .3) in
+    let f = rw (c .before .before .opened .given .1) at (s .pre .1) in
     rw (c .before .before .opened .given .1) (c .closes .ensures, f .1)
 
 returns-2 : tie.Need-returns-2

@@ -8,7 +8,8 @@ use native.Mathlib.Omega.{arith}
 use borrow.Author.Needs.{needs}
 use Rattle.fields.specs.Bytes.{number}
 use Rattle.measures.specs.Judgement.{widthFor}
-use Rattle.measures.proofs.Fine.{fits-small, fits-large}
+use Rattle.measures.proofs.Fine.{fits-small}
+use Rattle.interval.proofs.Readable.{fits-checkable}
 use Rattle.measures.proofs.Width.{width-most}
 use Rattle.interval.specs.Role.{soundFree}
 use Rattle.area.proofs.Places.{data-ends, data-small, length-lent, lent-data}
@@ -107,7 +108,7 @@ free-sound-requires c κs =
     let s = start-of (loop-of k) in
     let a = s .args in
     let z = length-lent (a .m) (a .n) (a .area .now) (s .pre .0) (k .read-pointer .result) (inside k) in
-    (omega (arith, z, fits-large (s .pre .0)), omega (arith, z, fits-small (s .pre .0)), s .pre .0 .key-some, s .pre .0 .key-inside)
+    fits-checkable (s .pre .0) _ z
 
 noted-requires : tie.Need-noted-requires Inv-loop μ-loop
 noted-requires c κs = search needs

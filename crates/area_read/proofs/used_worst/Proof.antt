@@ -13,6 +13,7 @@ use borrow.Author.Needs.{needs}
 use Rattle.fields.specs.Choice.{pick}
 use Rattle.measures.specs.Judgement.{widthFor}
 use Rattle.measures.proofs.Fine.{fits-small, fits-large}
+use Rattle.interval.proofs.Readable.{fits-checkable}
 use Rattle.interval_read.specs.AidOpened.{openedOf}
 use Rattle.index.specs.Bounds.{bound}
 use Rattle.sections.specs.Reading.{readIndex}
@@ -198,7 +199,7 @@ opens-requires c κs =
     let a = s .args in
     let o = k .before .before .loop in
     let z = length-lent (a .m) (a .n) (a .area .now) (s .pre .0) (k .entry-at .result .number) (inside k) in
-    (omega (arith, z, fits-large (s .pre .0)), omega (arith, z, fits-small (s .pre .0)), s .pre .0 .key-some, s .pre .0 .key-inside, before-short (a .m) (a .n) (a .area .now) (a .ib .now) (a .worst) (o .buf) (o .high) (o .p) (o .i) (o .lowest) (o .records) (o .inv) (more (k .before)))
+    (fits-checkable (s .pre .0) _ z, before-short (a .m) (a .n) (a .area .now) (a .ib .now) (a .worst) (o .buf) (o .high) (o .p) (o .i) (o .lowest) (o .records) (o .inv) (more (k .before)))
 
 slice-aggregate-renew : tie.Need-slice-aggregate-renew Inv-loop μ-loop
 slice-aggregate-renew c = sym (entered-opens (c .before) .before .before .loop .inv .whole)
@@ -261,9 +262,7 @@ closed-requires c κs =
     let a = s .args in
     let o = k .before .before .loop in
     let z = length-lent (a .m) (a .n) (a .area .now) (s .pre .0) (k .entry-at .result .number) (inside k) in (
-      omega (arith, z, fits-small (s .pre .0)),
-      s .pre .0 .key-some,
-      s .pre .0 .key-inside,
+      fits-checkable (s .pre .0) _ z,
       opened-of x .opens .ensures .1,
       own-short (a .m) (a .n) (a .area .now) (a .ib .now) (a .worst) (o .buf) (o .high) (o .p) (o .i) (o .lowest) (o .records) (o .inv) (more (k .before)) (k .entry-at .result) (stepped k)
           (x .renew .last .0) (x .renew .last .1 .0) (y .past .result) (x .renew .ensures) (y .past .ensures) (whole-own x),

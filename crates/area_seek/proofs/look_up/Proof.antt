@@ -12,6 +12,7 @@ use denote.Ref.{now}
 use borrow.Author.Needs.{needs}
 use borrow.Author.Tests.{not-true, not-false}
 use Rattle.measures.proofs.Fine.{fits-small, fits-large}
+use Rattle.interval.proofs.Readable.{fits-checkable}
 use Rattle.index_read.proofs.Answers.{Led, answer-led, answer-not-led}
 use Rattle.area.specs.Content.{indexIn}
 use Rattle.area.specs.Leads.{indexSound, entriesFor, numberFor, intervalFor, soundFor}
@@ -209,7 +210,7 @@ sound-between-requires c κs =
     let o = s .pre .0 in
     let w = within k in
     let z = length-lent (a .m) (a .n) (now (a .area)) o (k .before .spot .given .0 .0 .number) (w .0) in
-    (omega (arith, z, fits-large o), omega (arith, z, fits-small o), o .key-some, o .key-inside, omega (arith, low-long k, w .1, s .pre .1), omega (arith, high-long k, w .2, s .pre .1))
+    (fits-checkable o _ z, omega (arith, low-long k, w .1, s .pre .1), omega (arith, high-long k, w .2, s .pre .1))
 
 add-t33 : tie.Need-add-t33
 add-t33 c = let k = known-from-own (c .before .before .before) in omega (arith, within k .0, start-from-known k .pre .0 .few)

@@ -30,7 +30,7 @@ closes-requires c κs =
     let s = start-from-opens (opens-from-known c) in
     let g = c .before .count .given in
     let f = opened-told (s .args .m) (now (s .args .ci)) (x .result) (g .0 .0) (g .0 .1 .0) (g .1) (x .ensures .1) in
-    ((s .pre .1, s .pre .2, s .pre .3, f .0, f .1, f .2), omega arith)
+    ((s .pre .0 .small, s .pre .0 .keyed, s .pre .0 .inside, f .0, f .1, f .2), omega arith)
 
 enum-told : tie.Need-enum-told
 enum-told c = search needs

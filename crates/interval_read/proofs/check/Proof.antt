@@ -24,7 +24,7 @@ returns c =
 walk-requires : tie.Need-walk-requires
 walk-requires c κs =
     let f = rw (c .before .bytes .given .1) at (c .before .before .before .read-tail .ensures .1) in
-    (f .1, f .0, omega arith, omega arith, omega arith)
+    (f .1, f .0, c .before .before .before .before .before .pre)
 
 returns-2 : tie.Need-returns-2
 returns-2 c =

@@ -1,143 +1,33 @@
--- Each test that refuses denies one field of Fits, so by refused the judgement is Outside. At the end all fields hold, and accepted gives Fine.
--- permitted-range: a permitted size is at least 512, so size - 7 does not fall below zero.
--- uneven and even: with no remainder, and only then, the length is a whole number of intervals.
-use Prim.Native.Nat.{ℕ, _%_}
-use mathlib.Core.Path.{_≡_, _∙_, sym}
-use mathlib.Core.Bool.{true}
+-- No loop. Each of the two tests denies that the key ends within the longest record, so by refused the judgement is Outside; the rest is judged over the value
+-- that the four numbers make.
+use mathlib.Core.Path.{sym}
 use native.Mathlib.Omega.{arith}
-use borrow.Author.Tests.{not-true, not-false}
 use borrow.Author.Needs.{needs}
-use Rattle.fields.proofs.Choices.{false-true}
-use Rattle.measures.specs.Sizes.{permittedSize}
-use Rattle.measures.specs.Judgement.{Fits, asked, countOf, judgedOf}
-use Rattle.measures.specs.declared.Numbers.{Numbers}
-use Rattle.measures.specs.declared.Judged.the-variants.{Outside}
-use Rattle.measures.proofs.Sizes.{permitted-range}
-use Rattle.measures.proofs.Fine.{refused, accepted, no-remainder, whole-number}
+use Rattle.measures.specs.Judgement.{Fits, asked, countOf}
+use Rattle.measures.proofs.Fine.{refused}
 use Rattle.measures.proofs.judge.Statement.{statement}
 use Rattle.measures.proofs.judge.Tie as tie
 
--- The states that the proof looks back to, by their names.
-abbrev start-from-else5 : tie.Else5 → tie.Start
-start-from-else5 k = k .before .before .before .before .before .before
-
-abbrev else1-from-else7 : tie.Else7 → tie.Else1
-else1-from-else7 k = k .before .before .before .before .before .before
-
--- what fits, of the four numbers and a length; and what does not is outside
-abbrev FitsAsked : Numbers → ℕ → Type 0
-FitsAsked k length = Fits (asked k) (countOf (k .size) length) length
-
-outside : (k : Numbers) (length : ℕ) → (FitsAsked k length → ⊥) → Outside ≡ judgedOf (asked k) length
-outside k length f = sym (refused (asked k) length f)
-
-size-fine : (c : tie.Else1) → permittedSize (c .before .before .args .numbers .size) ≡ true
-size-fine c = sym (c .before .permitted .ensures) ∙ not-false (c .before .permitted .result) (c .if1 .left)
-
-permitted-requires : tie.Need-permitted-requires
-permitted-requires c κs = search needs
-
 returns : tie.Need-returns
 returns c =
-    let a = c .before .before .args in
-    outside (a .numbers) (a .length) (λ (f : FitsAsked (a .numbers) (a .length)). false-true
-    (sym (not-true (c .before .permitted .result) (c .if1 .taken)) ∙ c .before .permitted .ensures ∙ f .permitted))
+    let a = c .before .args in
+    sym (refused (asked (a .numbers)) (a .length)
+    (λ (f : Fits (asked (a .numbers)) (countOf (a .numbers .size) (a .length)) (a .length)). omega (arith, f .least-inside)))
 
 returns-2 : tie.Need-returns-2
 returns-2 c =
-    let a = c .before .before .before .args in
-    outside (a .numbers) (a .length) (λ (f : FitsAsked (a .numbers) (a .length)). omega (arith, f .key-some))
+    let a = c .before .before .args in
+    sym (refused (asked (a .numbers)) (a .length)
+    (λ (f : Fits (asked (a .numbers)) (countOf (a .numbers .size) (a .length)) (a .length)). omega (arith, f .least-inside)))
+
+add-t9 : tie.Need-add-t9
+add-t9 c = search needs
+
+judge-measures-requires : tie.Need-judge-measures-requires
+judge-measures-requires c κs = search needs
 
 returns-3 : tie.Need-returns-3
-returns-3 c =
-    let a = c .before .before .before .before .args in
-    outside (a .numbers) (a .length) (λ (f : FitsAsked (a .numbers) (a .length)). omega (arith, f .key-most))
-
-sub-if4 : tie.Need-sub-if4
-sub-if4 c = omega (arith, permitted-range (c .before .before .before .before .args .numbers .size) (size-fine (c .before .before)) .0)
-
-returns-4 : tie.Need-returns-4
-returns-4 c =
-    let a = c .before .before .before .before .before .args in
-    outside (a .numbers) (a .length) (λ (f : FitsAsked (a .numbers) (a .length)). omega (arith, f .most-inside))
-
-returns-5 : tie.Need-returns-5
-returns-5 c =
-    let a = c .before .before .before .before .before .before .args in
-    outside (a .numbers) (a .length) (λ (f : FitsAsked (a .numbers) (a .length)). omega (arith, f .least-inside))
-
-returns-6 : tie.Need-returns-6
-returns-6 c =
-    let a = start-from-else5 (c .before) .args in
-    outside (a .numbers) (a .length) (λ (f : FitsAsked (a .numbers) (a .length)). omega (arith, f .least-inside))
-
-rem-if7 : tie.Need-rem-if7
-rem-if7 c = search needs
-
-returns-7 : tie.Need-returns-7
-returns-7 c =
-    let a = start-from-else5 (c .before .before) .args in
-    outside (a .numbers) (a .length) (λ (f : FitsAsked (a .numbers) (a .length)). c .if7 .taken
-    (no-remainder (a .numbers .size) (a .length) (countOf (a .numbers .size) (a .length)) (omega (arith, f .most-inside)) (f .bytes)))
-
-div-whole : tie.Need-div-whole
-div-whole c = search needs
-
-returns-8 : tie.Need-returns-8
-returns-8 c =
-    let a = start-from-else5 (c .before .before .before) .args in
-    outside (a .numbers) (a .length) (λ (f : FitsAsked (a .numbers) (a .length)). omega (arith, f .some))
-
-add-if9 : tie.Need-add-if9
-add-if9 c = search needs
-
-returns-9 : tie.Need-returns-9
-returns-9 c =
-    let a = start-from-else5 (c .before .before .before .before) .args in
-    outside (a .numbers) (a .length) (λ (f : FitsAsked (a .numbers) (a .length)). omega (arith, f .few))
-
-add-t10 : tie.Need-add-t10
-add-t10 c = search needs
-
-sub-t12 : tie.Need-sub-t12
-sub-t12 c = search needs
-
-returns-10 : tie.Need-returns-10
-returns-10 c =
-    let a = start-from-else5 (c .before .before .before .before) .args in
-    let e : a .length % a .numbers .size ≡ 0 = c .before .before .if7 .left in
-    sym
-    (accepted (asked (a .numbers)) (a .length) (countOf (a .numbers .size) (a .length))
-    (record {
-      permitted = size-fine (else1-from-else7 (c .before .before));
-      key-some = omega arith;
-      key-most = omega arith;
-      key-inside = omega arith;
-      least-inside = omega arith;
-      most-inside = omega (arith, permitted-range (a .numbers .size) (size-fine (else1-from-else7 (c .before .before))) .0);
-      bytes = whole-number (a .numbers .size) (a .length) e (omega arith);
-      some = omega arith;
-      few = omega arith;
-    }))
+returns-3 c = search needs
 
 pub judge-spec : {M : Type 1} → statement M
-judge-spec =
-    tie.close
-    (tie.spec
-    permitted-requires
-    returns
-    returns-2
-    returns-3
-    sub-if4
-    returns-4
-    returns-5
-    returns-6
-    rem-if7
-    returns-7
-    div-whole
-    returns-8
-    add-if9
-    returns-9
-    add-t10
-    sub-t12
-    returns-10)
+judge-spec = tie.close (tie.spec returns returns-2 add-t9 judge-measures-requires returns-3)
