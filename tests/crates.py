@@ -1,8 +1,9 @@
 #!/usr/bin/env python3
 """crates.txt, made of what each crate itself names: crates.py [--check].
 
-A crate's line lists the crates that its own sources, definitions and proofs name: a library of the kit as well, if its code calls it. What those crates need in turn is theirs to
-list. Lines stand in an order in which each crate comes after all that it names. Without a word the file is written; with --check only the difference is told.
+A crate's line lists the crates that its own sources, definitions and proofs name, a library of the kit as well if its code calls it; and those that declare a type which a type of
+a crate that its code names holds, since the prover must be able to name it. What those crates need in turn is theirs to list. Lines stand in an order in which each crate comes
+after all that it names. Without a word the file is written; with --check only the difference is told.
 """
 import glob
 import os
@@ -19,14 +20,36 @@ def text(path):
         return file.read()
 
 
-def named(crate, crates):
-    """The other crates that the files of this one name."""
+def sources(crate):
+    return [re.sub(r"//[^\n]*", "", text(path)) for path in glob.glob(f"crates/{crate}/src/**/*.rt", recursive=True)]
+
+
+def called(crate):
+    """What stands before `::` in its code, crates among it."""
+    return {name for source in sources(crate) for name in re.findall(r"(?<![\w:])(\w+)::", source)}
+
+
+def held(crate, crates):
+    """The crates whose types the structs and enums of this one hold, or those of these crates."""
     found = set()
+    for source in sources(crate):
+        bodies = " ".join(re.findall(r"^pub (?:struct|enum) \w+[^{;]*\{(.*?)^\}", source, re.M | re.S))
+        for other, name in re.findall(r"^use (\w+)::(?:\w+::)*(\w+)", source, re.M):
+            if other in crates and re.search(rf"\b{name}\b", bodies):
+                found |= {other} | held(other, crates)
+        found |= {other for other in re.findall(r"\b(\w+)::", bodies) if other in crates}
+    return found
+
+
+def named(crate, crates):
+    """The other crates that the files of this one name, and those whose types are reached through theirs."""
+    found = called(crate)
+    for other in found & crates:
+        found = found | held(other, crates)
     for path in glob.glob(f"crates/{crate}/**/*.antt", recursive=True):
         found |= set(re.findall(r"Rattle·(\w+)", text(path)))
-    for path in glob.glob(f"crates/{crate}/src/**/*.rt", recursive=True):
-        source = re.sub(r"//[^\n]*", "", text(path))
-        found |= set(re.findall(r"Rattle·(\w+)", source)) | set(re.findall(r"(?<![\w:])(\w+)::", source))
+    for source in sources(crate):
+        found |= set(re.findall(r"Rattle·(\w+)", source))
     return found & (crates | KIT) - {crate}
 
 
