@@ -326,13 +326,21 @@ pub(crate) fn reach_of(key: &[u8], front: usize, chars: &[u8]) -> usize
     front + same + 1
 }
 
-// The reach of a key past the next entry, no section's highest, whose F is below the reach before it. Of an entry that is wrong nothing is told: it ends the walk.
-pub(crate) fn look(key: &[u8], ib: &[u8], p: PassPlace, by: Limits, reach: usize) -> usize
+// The reach of a key past the next entry, whose F is below the reach before it; `top` says whether it is its section's
+// highest. Of an entry that is wrong nothing is told: it ends the walk.
+pub(crate) fn look(
+    key: &[u8],
+    ib: &[u8],
+    p: PassPlace,
+    by: Limits,
+    top: bool,
+    reach: usize,
+) -> usize
     requires { ⌜ (1 ≤ by .width) × (by .width ≤ 4) × (p .right ≤ length (now ib)) × (by .width + 2 ≤ p .right) × (by .edge < 65536) × (length (now key) ≡ by .key) ⌝ }
-    requires which { ⌜ closesAt (by .width) p ≡ false ⌝ }
+    requires which { ⌜ closesAt (by .width) p ≡ top ⌝ }
     ensures { λ r. ⌜ r ≡ lookOf (now (ib .entry)) p by (now (key .entry)) reach ⌝ }
 {
-    let Parsed::Of(s) = piece_at(ib, p, by, false) else {
+    let Parsed::Of(s) = piece_at(ib, p, by, top) else {
         return reach;
     };
     let a = s.at;
@@ -356,12 +364,7 @@ pub(crate) fn aimed(key: &[u8], ib: &[u8], p: PassPlace, by: Limits, reach: usiz
     if reach <= fields::wide(ib[c]) {
         return reach;
     }
-    let Parsed::Of(s) = piece_at(ib, p, by, true) else {
-        return reach;
-    };
-    let a = s.at;
-    let z = a + s.len;
-    reach_of(key, s.front, &ib[a..z])
+    look(key, ib, p, by, true, reach)
 }
 
 // Where the key's entry is met: the first `len` bytes of buf, at the front of another buffer. Behind them may stand anything.
@@ -454,7 +457,7 @@ pub(crate) fn walk_inner(
             return Stop::Wrong;
         }
         if fields::wide(ib[c]) < reach {
-            reach = look(key, ib, p, by, reach);
+            reach = look(key, ib, p, by, false, reach);
             if reach == 0 {
                 if left == 1 {
                     return Stop::Wrong;
