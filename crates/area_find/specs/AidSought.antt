@@ -18,7 +18,7 @@ use Rattle.index.specs.Search.{leadsTo}
 use Rattle.sections.specs.Reading.{readIndex}
 use Rattle.area.specs.Content.{Content, indexIn, dataIn}
 use Rattle.area.specs.Reading.{readArea, whole}
-use Rattle.area_find.specs.declared.Spot.{Spot}
+use Rattle.area_find.specs.declared.KeyPlace.{KeyPlace}
 use Rattle.area_find.specs.declared.Lying.{Lying}
 use Rattle.area_find.specs.declared.Lying.the-variants.{Here, Nowhere}
 
@@ -28,7 +28,7 @@ pub record Whole (m : Measures) (n : ℕ) (area : List ℕ) : Type 0 where
   pub reads : readArea m n area ≡ whole content
 
 -- the entry that a key leads to, the number it names, and the key's place in that interval
-pub record Sought (m : Measures) (n : ℕ) (area key : List ℕ) (r : Spot) : Type 0 where
+pub record Sought (m : Measures) (n : ℕ) (area key : List ℕ) (r : KeyPlace) : Type 0 where
   pub entry : r .entry ≡ leadsTo key (readIndex (widthFor n) n (indexIn m area) .entries)
   pub number : r .number ≡ getD (numbers (readIndex (widthFor n) n (indexIn m area) .entries)) (leadsTo key (readIndex (widthFor n) n (indexIn m area) .entries)) 0
   pub inside : r .entry < length (readIndex (widthFor n) n (indexIn m area) .entries)

@@ -9,14 +9,14 @@ use interval::Started;
 use measures::Measures;
 
 // Where a key belongs: the entry that it leads to, that entry's interval, and the key's place among the records there.
-pub struct Spot {
+pub struct KeyPlace {
     pub entry: usize,
     pub number: usize,
     pub found: Found,
 }
 
 // The place of a key: the index record leads to one interval, and only that one is searched.
-pub fn find(area: &[u8], m: Measures, n: usize, key: &[u8]) -> Spot
+pub fn find(area: &[u8], m: Measures, n: usize, key: &[u8]) -> KeyPlace
     requires { ⌜ Fits m n (length (now area)) × Whole m n (now area) × (length (now key) ≡ m .key) ⌝ }
     ensures { λ r. ⌜ Sought m n (now (area .entry)) (now (key .entry)) r ⌝ }
 {
@@ -26,7 +26,7 @@ pub fn find(area: &[u8], m: Measures, n: usize, key: &[u8]) -> Spot
     let a = (number + 1) * size;
     let e = a + size;
     let found = interval_find::find(&area[a..e], m, key);
-    Spot {
+    KeyPlace {
         entry: located.ordinal,
         number,
         found,

@@ -26,8 +26,8 @@ use Rattle.index.specs.Meaning.{Entry}
 use Rattle.index.specs.Rules.{boundBefore}
 use Rattle.sections.specs.Reading.{readIndex, soundIndex}
 use Rattle.index_step.specs.declared.Step.{Step}
-use Rattle.index_step.specs.declared.Place.{Place}
-use Rattle.index_step.specs.AidStep.{stepAt, placeStart, placePast, Lies, reach, Renewed}
+use Rattle.index_step.specs.declared.PassPlace.{PassPlace}
+use Rattle.index_step.specs.AidStep.{stepAt, placeStart, placePast, EntryEnds, reach, Renewed}
 use Rattle.index_step.specs.AidEntries.{Here, hereFirst, partHere, sepHere, entryHere, hereNext, Held}
 use Rattle.index_step.proofs.Passing.{held-lies, held-step, step-past, step-renews, held-on}
 use Rattle.index_step.proofs.Stepping.{Standing, Stepped, standing-start, standing-step, held-start}
@@ -89,7 +89,7 @@ pick-none false k ks e = absurd (let z : _≡_ {A = ℕ} 0 1 = cc in omega arith
 -- How far it has come: it stands before entry i, as place and buffers say. The lowest of `worst` and the unsound numbers of all entries
 -- is the lowest of `low` and those of the entries from i on. Where all intervals in use are sound, `records` and the records of the entries from i on
 -- make up all of them. At most 32768 records were counted for each entry passed.
-pub record Going (m : Measures) (n : ℕ) (area ib : List ℕ) (worst : ℕ) (buf high : List ℕ) (p : Place) (i low records : ℕ) : Type 0 where
+pub record Going (m : Measures) (n : ℕ) (area ib : List ℕ) (worst : ℕ) (buf high : List ℕ) (p : PassPlace) (i low records : ℕ) : Type 0 where
   pub here : Here
   pub standing : Standing (widthFor n) (m .key) n ib i here
   pub held : Held here p buf high
@@ -110,7 +110,7 @@ module _ (m : Measures) (n : ℕ) (area ib : List ℕ) (worst : ℕ) where
   abbrev es : List Entry
   es = readIndex (widthFor n) n ib .entries
 
-  pub setting-out : (p : Place) → 7 ≤ length ib → m .key ≤ 255 → soundIndex (widthFor n) (m .key) n [] [] ib ≡ true → p ≡ placeStart ib
+  pub setting-out : (p : PassPlace) → 7 ≤ length ib → m .key ≤ 255 → soundIndex (widthFor n) (m .key) n [] [] ib ≡ true → p ≡ placeStart ib
       → Going m n area ib worst (replicate 263 0) (replicate 263 0) p 0 worst 0
   unfolding boundBefore
   setting-out p large k h is =
@@ -128,14 +128,14 @@ module _ (m : Measures) (n : ℕ) (area ib : List ℕ) (worst : ℕ) where
       }
 
   -- all entries seen
-  pub arrived : (buf high : List ℕ) (p : Place) (i low records : ℕ) → Going m n area ib worst buf high p i low records → length es ≤ i
+  pub arrived : (buf high : List ℕ) (p : PassPlace) (i low records : ℕ) → Going m n area ib worst buf high p i low records → length es ≤ i
       → (low ≡ lowest worst (unsoundUsed m area [] es)) × Counted m area [] es records
   unfolding unsoundUsed lowest recordsOf
   arrived buf high p i low records g h =
       (sym (g .lowers ∙ rw (drop-of-length-le es)), λ (z : unsoundUsed m area [] es ≡ []). sym (g .counts z ∙ rw (drop-of-length-le es) (omega arith)))
 
   -- one entry more
-  module _ (buf high : List ℕ) (p : Place) (i low records : ℕ) (g : Going m n area ib worst buf high p i low records) (more : i < length es) where
+  module _ (buf high : List ℕ) (p : PassPlace) (i low records : ℕ) (g : Going m n area ib worst buf high p i low records) (more : i < length es) where
     abbrev h : Here
     h = g .here
 
@@ -149,7 +149,7 @@ module _ (m : Measures) (n : ℕ) (area ib : List ℕ) (worst : ℕ) where
     sep = sepHere (widthFor n) ib h
 
     -- for the call that takes it apart
-    pub entry-lies : Lies (widthFor n) ib (p .right)
+    pub entry-lies : EntryEnds (widthFor n) ib (p .right)
     entry-lies = held-lies w ib h p buf high (g .held) (g .standing .inside) (step .lies) (width-most n)
 
     -- the separator before, as it is lent
@@ -182,7 +182,7 @@ module _ (m : Measures) (n : ℕ) (area ib : List ℕ) (worst : ℕ) where
       pub past-fits : (s .front + s .len ≤ 510) × (s .at ≤ length ib) × (pick (s .closes) 2 0 ≤ s .at)
       past-fits = step-past w ib h p buf high (g .held) (g .standing .inside) (step .lies) s is
 
-      module _ (buf' high' : List ℕ) (q : Place) (new : Renewed ib s buf high buf' high') (past : q ≡ placePast ib s p) (wh : length buf' ≡ 263) where
+      module _ (buf' high' : List ℕ) (q : PassPlace) (new : Renewed ib s buf high buf' high') (past : q ≡ placePast ib s p) (wh : length buf' ≡ 263) where
         on : Held (hereNext w ib h) q buf' high'
         on = rw past (held-on w ib h p buf high (g .held) (g .standing .inside) (step .lies) s is buf' high' new)
 

@@ -27,8 +27,8 @@ use Rattle.index.specs.Bounds.{bound}
 use Rattle.index.specs.Meaning.{Entry, separatorBefore}
 use Rattle.index.specs.Rules.{boundBefore}
 use Rattle.index.specs.Search.{leadsTo, entryFor}
-use Rattle.index_read.specs.Check.{soundWith, SpotWithin}
-use Rattle.index_read.specs.declared.Spot.{Spot}
+use Rattle.index_read.specs.Check.{soundWith, LeadWithin}
+use Rattle.index_read.specs.declared.Lead.{Lead}
 use Rattle.index_read.specs.declared.Sought.{Sought}
 use Rattle.index_read.specs.declared.Sought.the-variants as sought
 use Rattle.index_read.proofs.Answers.{Led}
@@ -97,7 +97,7 @@ leads-most key (e ∷ es) = go (less (e .sep) (take (length (e .sep)) key)) (lea
 -- ---- what the index record told
 
 -- what was found lies within its limits
-pub spot-within : (n K : ℕ) (r : Sought) (spot : Spot) → r ≡ sought.At spot → SpotWithin n K r → (spot .number < n) × (spot .before ≤ K) × (spot .own ≤ K)
+pub spot-within : (n K : ℕ) (r : Sought) (spot : Lead) → r ≡ sought.At spot → LeadWithin n K r → (spot .number < n) × (spot .before ≤ K) × (spot .own ≤ K)
 spot-within n K r spot e w = rw e at w
 
 -- the index record is unsound
@@ -106,12 +106,12 @@ unfolding lookedOf
 way-unsound m n area key long h = let t : indexSound m n area ≡ false = rw long at h in sym (rw t)
 
 -- it is sound and leads the key to an entry
-module _ (m : Measures) (n : ℕ) (area key : List ℕ) (spot : Spot) (before own : List ℕ) (long : length key ≡ m .key) (l : Led n (indexIn m area) key spot before own) where
+module _ (m : Measures) (n : ℕ) (area key : List ℕ) (spot : Lead) (before own : List ℕ) (long : length key ≡ m .key) (l : Led n (indexIn m area) key spot before own) where
   pub index-stands : indexSound m n area ≡ true
   index-stands = rw long at (l .sound)
 
   pub number-is : spot .number ≡ numberFor m n area key
-  number-is = ap (λ (x : Spot). x .number) (l .spot)
+  number-is = ap (λ (x : Lead). x .number) (l .spot)
 
   bounds-are : soundUsed m (pick (eqb (spot .ordinal) 0) [] (bound (m .key) (take (spot .before) before))) (bound (m .key) (take (spot .own) own)) (dataIn m area (spot .number))
       ≡ soundFor m (entriesFor m n area) key (intervalFor m n area key)

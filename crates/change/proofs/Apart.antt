@@ -7,12 +7,12 @@ use native.Mathlib.Omega.{arith}
 use Rattle.index.specs.Meaning.{count, once, namedOnce}
 use Rattle.index.proofs.Naming.{named-below, named-each}
 use Rattle.index.proofs.Counting.{count-same, count-append, count-more, count-some, below-among}
-use Rattle.change.specs.Places.{Apart}
+use Rattle.change.specs.Places.{Distinct}
 
 -- ---- counts
 
 -- numbers each of which is counted at most once are apart
-pub apart-counts : (xs : List ℕ) → ((k : ℕ) → List·Memᴰ k xs → count k xs ≤ 1) → Apart xs
+pub apart-counts : (xs : List ℕ) → ((k : ℕ) → List·Memᴰ k xs → count k xs ≤ 1) → Distinct xs
 apart-counts [] h = tt
 apart-counts (x ∷ xs) h = (
   λ (i : List·Memᴰ x xs). omega (arith, h x (List·Memᴰ·head refl), count-same x x xs refl, count-some x xs i),
@@ -35,7 +35,7 @@ module _ (n : ℕ) (free pre ks post : List ℕ) (once : namedOnce n (free ++ (p
       (arith, named-each n (free ++ (pre ++ (ks ++ post))) k once (these-below k i), count-append k free (pre ++ (ks ++ post)), count-append k pre (ks ++ post), count-append k ks post)
 
   -- no two of them are the same,
-  pub these-apart : Apart ks
+  pub these-apart : Distinct ks
   these-apart = apart-counts ks (λ (k : ℕ) (i : List·Memᴰ k ks). omega (arith, counted k i))
 
   -- and none is among the free ones, or among the others.

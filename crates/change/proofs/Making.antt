@@ -31,7 +31,7 @@ use Rattle.change.specs.Stores.{Store, stored}
 use Rattle.change.specs.Parts.{entryAt, taken}
 use Rattle.change.specs.Plan.{takenStores}
 use Rattle.change.specs.Content.{partedAt}
-use Rattle.change.specs.Places.{placesOf, Apart, AllThere, AllWritten, nexts}
+use Rattle.change.specs.Places.{placesOf, Distinct, AllThere, AllWritten, nexts}
 use Rattle.change.proofs.Apart.{these-below, these-apart}
 use Rattle.change.proofs.Storing.{Sized, AllSized, sized-append, there-append, stored-other, stored-there}
 use Rattle.change.proofs.Parting.{Ordered}
@@ -42,7 +42,7 @@ use Rattle.change.proofs.Taking.{places-append, taken-places, not-first
 -- What stores must be so that they leave the area laid out as the content with these parts.
 pub record Making (m : Measures) (n : ℕ) (area : List ℕ) (c : Content) (i : ℕ) (p : List (List ℕ)) (ps : List (List (List ℕ))) (ss : List Store) : Type 0 where
   pub sized : AllSized (m .size) n ss
-  pub apart : Apart (placesOf ss)
+  pub apart : Distinct (placesOf ss)
   pub index : LaidOut (widthFor n) (m .size) (meaningOf (partedAt m c i (p ∷ ps))) (indexIn m (stored (m .size) area ss))
   pub written : AllWritten m (stored (m .size) area ss) (entryAt (c .filled) i .num ∷ taken (length ps) (c .free)) (p ∷ ps)
   pub others : (k : ℕ) → (List·Memᴰ k (entryAt (c .filled) i .num ∷ taken (length ps) (c .free)) → ⊥)
@@ -93,7 +93,7 @@ module _ (m : Measures) (n : ℕ) (area : List ℕ) (lent : Lent m n area) (c : 
     pub parts-below : (k : ℕ) → List·Memᴰ k these → k < n
     parts-below = these-below n left before these after (parts-named m n c i p ps parted-rules)
 
-    pub parts-apart : Apart these
+    pub parts-apart : Distinct these
     parts-apart = these-apart n left before these after (parts-named m n c i p ps parted-rules)
 
     all-bytes : AllBytes (p ∷ ps)
@@ -175,7 +175,7 @@ module _ (m : Measures) (n : ℕ) (area : List ℕ) (lent : Lent m n area) (c : 
         (taken-sized (m .size) n ks ps (λ (k : ℕ) (j : List·Memᴰ k ks). parts-below p ps enough o k (List·Memᴰ·tail j)) (o .held .1) (all-bytes p ps enough o .1))
         (index-sized p ps enough o ix means room, (first-sized p ps enough o, tt))
 
-    more-apart : Apart (placesOf moreStores)
+    more-apart : Distinct (placesOf moreStores)
     more-apart = rw more-places (places-apart (old .num) ks (parts-apart p ps enough o))
 
     abbrev area' : List ℕ

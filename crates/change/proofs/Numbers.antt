@@ -11,7 +11,7 @@ use borrow.Author.Tests.{eqb-true, eqb-false, ltb-true, ltb-false, lt-ltb, le-lt
 use Rattle.fields.specs.Choice.{pick}
 use Rattle.fields.specs.Bytes.{part}
 use Rattle.change.specs.Stores.{Store, stored}
-use Rattle.change.specs.Places.{placesOf, Apart}
+use Rattle.change.specs.Places.{placesOf, Distinct}
 use Rattle.change.specs.Written.{among, inOrder, storedNumbers, Ascend, carrying, numbersOf}
 use Rattle.change.proofs.Storing.{AllSized, stored-other}
 
@@ -115,7 +115,7 @@ order-ascends [] = tt
 order-ascends (k ∷ ks) = among-ascends k (inOrder ks) (order-ascends ks)
 
 -- and are as many, where no two of those are the same.
-pub order-long : (ks : List ℕ) → Apart ks → length (inOrder ks) ≡ length ks
+pub order-long : (ks : List ℕ) → Distinct ks → length (inOrder ks) ≡ length ks
 unfolding inOrder
 order-long [] a = refl
 order-long (k ∷ ks) a =

@@ -16,7 +16,7 @@ use Rattle.measures.specs.declared.Measures.{Measures}
 use Rattle.area.specs.Layout.{Lent}
 use Rattle.area.proofs.Parts.{lent-other}
 use Rattle.change.specs.Stores.{Store, stored}
-use Rattle.change.specs.Places.{placesOf, Apart, AllThere}
+use Rattle.change.specs.Places.{placesOf, Distinct, AllThere}
 
 -- a store of one of the intervals 0 to n, with as many bytes as an interval has
 pub record Sized (S n : ℕ) (s : Store) : Type 0 where
@@ -95,7 +95,7 @@ module _ (S n : ℕ) where
       ∙ store-other S n area l s (z .0) j (λ (e : j ≡ s .at). d (List·Memᴰ·head e))
 
   -- Where no interval is stored twice, each store is there at the end.
-  pub stored-there : (area : List ℕ) (ss : List Store) → length area ≡ (n + 1) * S → AllSized S n ss → Apart (placesOf ss) → AllThere S (stored S area ss) ss
+  pub stored-there : (area : List ℕ) (ss : List Store) → length area ≡ (n + 1) * S → AllSized S n ss → Distinct (placesOf ss) → AllThere S (stored S area ss) ss
   unfolding stored
   stored-there area [] l z a = tt
   stored-there area (s ∷ ss) l z a =

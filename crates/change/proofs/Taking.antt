@@ -19,7 +19,7 @@ use Rattle.division.specs.Fewest.{Held, AllHeld}
 use Rattle.division.proofs.Intervals.{held-need}
 use Rattle.change.specs.Stores.{Store}
 use Rattle.change.specs.Plan.{takenStores}
-use Rattle.change.specs.Places.{placesOf, Apart, AllThere, AllWritten, nexts}
+use Rattle.change.specs.Places.{placesOf, Distinct, AllThere, AllWritten, nexts}
 use Rattle.change.specs.Parts.{taken}
 use Rattle.change.proofs.Between.{concat-octets}
 use Rattle.change.proofs.Storing.{Sized, AllSized}
@@ -77,7 +77,7 @@ among-places k num (x ∷ ks) i =
     over j = ⊎-elim (λ (e : k ≡ num). List·Memᴰ·head e) (λ (l : List·Memᴰ k ks). List·Memᴰ·tail (List·Memᴰ·tail l)) (List·Memᴰ·cases-cons j)
 
 -- No two of these are the same.
-pub places-apart : (num : ℕ) (ks : List ℕ) → Apart (num ∷ ks) → Apart (nexts ks ++ (0 ∷ (num + 1) ∷ []))
+pub places-apart : (num : ℕ) (ks : List ℕ) → Distinct (num ∷ ks) → Distinct (nexts ks ++ (0 ∷ (num + 1) ∷ []))
 places-apart num [] a = (λ (i : List·Memᴰ 0 ((num + 1) ∷ [])). not-first num i, (λ (i : List·Memᴰ (num + 1) []). List·Memᴰ·not-nil i, tt))
 places-apart num (k ∷ ks) a = (away, places-apart num ks (λ (i : List·Memᴰ num ks). a .0 (List·Memᴰ·tail i), a .1 .1))
   where

@@ -22,9 +22,9 @@ abbrev pub placesOf : List Store → List ℕ
 placesOf ss = map (λ (s : Store). s .at) ss
 
 -- no number of the list stands in it twice
-abbrev pub Apart : List ℕ → Type 0
-Apart [] = Unit {0}
-Apart (k ∷ ks) = (List·Memᴰ k ks → ⊥) × Apart ks
+abbrev pub Distinct : List ℕ → Type 0
+Distinct [] = Unit {0}
+Distinct (k ∷ ks) = (List·Memᴰ k ks → ⊥) × Distinct ks
 
 -- each of these stores lies in the area; S is the size of an interval
 abbrev pub AllThere : ℕ → List ℕ → List Store → Type 0
@@ -54,7 +54,7 @@ namedFor c i parts =
 pub record OnlyNamed (S n : ℕ) (before : List ℕ) (ss : List Store) (after places : List ℕ) : Type 0 where
   pub named : placesOf ss ≡ places
   pub inside : (j : ℕ) → List·Memᴰ j places → j ≤ n
-  pub apart : Apart places
+  pub apart : Distinct places
   pub there : AllThere S after ss
   pub others : (j : ℕ) → (List·Memᴰ j places → ⊥) → part after (j * S) S ≡ part before (j * S) S
 

@@ -45,7 +45,7 @@ use Rattle.change_plan.proofs.Dividing.{divided-many, cuts-are, index-new, widt
 use Rattle.change_plan.proofs.Planning.{taken-one, taken-two}
 use Rattle.change_plan.proofs.Telling.{twoAt, threeAt, many-told, told-seen, parts-stay, parts-two, parts-three, two-inside, three-inside, stays-fits, two-fits, three-fits}
 use Rattle.change_write.specs.AidStored.{AllFit, Takes, takenLeft, indexLeft, Parted, partsLeft}
-use Rattle.change_write.specs.AidCarried.{Carries, Applied, Apart, numbersFor, writtenFor}
+use Rattle.change_write.specs.AidCarried.{Carries, Applied, SpreadApart, numbersFor, writtenFor}
 use Rattle.change_write.specs.declared.Made.the-variants.{Done}
 use Rattle.change_write.proofs.Naming.{free-other, free-below, free-apart}
 
@@ -140,7 +140,7 @@ module _ (m : Measures) (n : ℕ) (area new lens : List ℕ) (s : Spread) (t : T
   pub one-fits : s .parts .many ≡ 1 → (length lens ≤ length lens) × (need (take (length lens) lens) ≤ m .size)
   one-fits h = (omega arith, rw take-length (stays-fits m n area site new lens t (stays h)))
 
-  pub one-apart : s .parts .many ≡ 1 → Apart s
+  pub one-apart : s .parts .many ≡ 1 → SpreadApart s
   one-apart h =
       record {
         some = omega (arith, h);
@@ -292,7 +292,7 @@ module _ (m : Measures) (n : ℕ) (area new lens : List ℕ) (s : Spread) (t : T
     parts-applied after a written b d v = rw (same d v, a, b) (left-by (threeOf (s .parts)) refl q)
 
     -- The intervals taken are others than the old one and than each other.
-    parts-apart : Apart s
+    parts-apart : SpreadApart s
     parts-apart =
         let o = t .edits .entered .fits in
         record {
@@ -332,7 +332,7 @@ module _ (m : Measures) (n : ℕ) (area new lens : List ℕ) (s : Spread) (t : T
     pub several-parted : Parted m n area new lens s
     several-parted = parted (cut-so .0) (cut-so .1) (cut-so .2)
 
-    pub several-apart : Apart s
+    pub several-apart : SpreadApart s
     several-apart = parts-apart (cut-so .0) (cut-so .1) (cut-so .2)
 
     -- and is, when they are stored.

@@ -44,7 +44,7 @@ abbrev pub Applied : Measures → ℕ → List ℕ → Edit → Written → List
 Applied m n area e written after = MadeEdit m n area e (Done written) after
 
 -- There are one to three parts; their intervals are the old one and those taken, which are others than the old one and than each other.
-pub record Apart (s : Spread) : Type 0 where
+pub record SpreadApart (s : Spread) : Type 0 where
   pub some : 1 ≤ s .parts .many
   pub few : s .parts .many ≤ 3
   pub old-below : s .site .number < limit

@@ -14,7 +14,7 @@ ghost use Rattle.change_plan.specs.AidPlanned.{PlannedAs};
 ghost use Rattle.change_plan.specs.declared.Planned.the-variants.{Ready};
 ghost use Rattle.change_write.specs.AidStored.{Layable, laidAt, Rewritable, rewritten, Storable, storedAt};
 ghost use Rattle.change_write.specs.AidStored.{ownStored, Countable, Takes, takenLeft, Parted, partsLeft};
-ghost use Rattle.change_write.specs.AidCarried.{Apart, writtenFor, Applied, MadeEdit};
+ghost use Rattle.change_write.specs.AidCarried.{SpreadApart, writtenFor, Applied, MadeEdit};
 use change::Written;
 use change_plan::Planned;
 use change_plan::Spread;
@@ -217,7 +217,7 @@ pub(crate) fn three_written(x: usize, y: usize, z: usize) -> Written
 
 // Which intervals the parts were stored in.
 pub(crate) fn written_by(spread: Spread) -> Written
-    requires { ⌜ Apart spread ⌝ }
+    requires { ⌜ SpreadApart spread ⌝ }
     ensures { λ r. ⌜ r ≡ writtenFor spread ⌝ }
 {
     let old = spread.site.number + 1;

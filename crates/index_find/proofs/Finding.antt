@@ -19,8 +19,8 @@ use Rattle.index.proofs.Leading.{lead-base, belongs-inside}
 use Rattle.sections.specs.Reading.{readIndex}
 use Rattle.sections.proofs.Sounding.{sound-apart}
 use Rattle.index_step.specs.declared.Step.{Step}
-use Rattle.index_step.specs.declared.Place.{Place}
-use Rattle.index_step.specs.AidStep.{stepAt, placeStart, placePast, Lies, reach, Renewed}
+use Rattle.index_step.specs.declared.PassPlace.{PassPlace}
+use Rattle.index_step.specs.AidStep.{stepAt, placeStart, placePast, EntryEnds, reach, Renewed}
 use Rattle.index_step.specs.AidEntries.{Here, hereFirst, sepHere, entryHere, hereNext, Held}
 use Rattle.index_step.proofs.Passing.{held-lies, held-step, step-few, step-long, step-past, step-renews, held-on}
 use Rattle.index_step.proofs.Stepping.{Standing, Stepped, standing-start, standing-step, held-start, entries-count}
@@ -39,7 +39,7 @@ leads-inside ib n key g o =
     belongs-inside (length key) [] key es (leadsTo key es) (lead-base (length key) key refl o es (g .some) (k .rising) (k .closing))
 
 -- How far the search has come: it stands before entry i, and the buffers begin with the separator before and the highest of the section before.
-pub record State (ib : List ℕ) (n : ℕ) (key buf high : List ℕ) (p : Place) (i : ℕ) : Type 0 where
+pub record State (ib : List ℕ) (n : ℕ) (key buf high : List ℕ) (p : PassPlace) (i : ℕ) : Type 0 where
   pub here : Here
   pub standing : Standing (widthFor n) (length key) n ib i here
   pub held : Held here p buf high
@@ -47,7 +47,7 @@ pub record State (ib : List ℕ) (n : ℕ) (key buf high : List ℕ) (p : Place)
   pub whole' : length high ≡ 263
   pub same : leadsTo key (readIndex (widthFor n) n ib .entries) ≡ i + leadsTo key (drop i (readIndex (widthFor n) n ib .entries))
 
-pub start : (ib : List ℕ) (n : ℕ) (key : List ℕ) (p : Place) → Searchable ib n key → p ≡ placeStart ib → State ib n key (replicate 263 0) (replicate 263 0) p 0
+pub start : (ib : List ℕ) (n : ℕ) (key : List ℕ) (p : PassPlace) → Searchable ib n key → p ≡ placeStart ib → State ib n key (replicate 263 0) (replicate 263 0) p 0
 start ib n key p g is =
     let z : length {A = ℕ} (replicate 263 0) ≡ 263 = length-replicate {A = ℕ} 263 0 in
     record {
@@ -65,7 +65,7 @@ number-there [] (suc i) x ys h = absurd (let z : _≡_ {A = ℕ} 0 1 = cc in ome
 number-there (e ∷ es) zero x ys h = let a : e ≡ x = cc in rw a
 number-there (e ∷ es) (suc i) x ys h = number-there es i x ys h
 
-module _ (ib : List ℕ) (n : ℕ) (key buf high : List ℕ) (p : Place) (i : ℕ) (g : Searchable ib n key) (o : Octets key) (st : State ib n key buf high p i) where
+module _ (ib : List ℕ) (n : ℕ) (key buf high : List ℕ) (p : PassPlace) (i : ℕ) (g : Searchable ib n key) (o : Octets key) (st : State ib n key buf high p i) where
   abbrev w : ℕ
   w = widthFor n
 
@@ -86,7 +86,7 @@ module _ (ib : List ℕ) (n : ℕ) (key buf high : List ℕ) (p : Place) (i : �
   step = standing-step w (length key) n ib i h (st .standing) more
 
   -- for the calls
-  pub entry-lies : Lies (widthFor n) ib (p .right)
+  pub entry-lies : EntryEnds (widthFor n) ib (p .right)
   entry-lies = held-lies w ib h p buf high (st .held) (st .standing .inside) (step .lies) (width-most n)
 
   module _ (s : Step) (e : s ≡ stepAt (widthFor n) ib (p .right) (p .end)) where
@@ -134,7 +134,7 @@ module _ (ib : List ℕ) (n : ℕ) (key buf high : List ℕ) (p : Place) (i : �
             within = step .within;
           })
 
-      pub onward : true ≡ less (take (s .front + s .len) buf') (take (s .front + s .len) key) → (q : Place) → q ≡ placePast ib s p
+      pub onward : true ≡ less (take (s .front + s .len) buf') (take (s .front + s .len) key) → (q : PassPlace) → q ≡ placePast ib s p
           → length buf' ≡ 263 → length high' ≡ 263 → State ib n key buf' high' q (i + 1)
       onward f q e' wh wh' =
           rw (e', add-one i)

@@ -13,7 +13,7 @@ use Rattle.index.specs.Search.{entryFor}
 use Rattle.sections.specs.Reading.{readIndex, soundIndex}
 use Rattle.index_read.specs.Check.{indexBy, indexOf, soundWith, entriesIn, lowFor, spotOf, soughtOf, Seeks}
 use Rattle.index_read.specs.declared.Index.the-variants.{Sound, Unsound}
-use Rattle.index_read.specs.declared.Spot.{Spot}
+use Rattle.index_read.specs.declared.Lead.{Lead}
 use Rattle.index_read.specs.declared.Sought.{Sought}
 use Rattle.index_read.specs.declared.Sought.the-variants as sought
 
@@ -45,14 +45,14 @@ answer-unsound K n ib = go (soundIndex (widthFor n) K n [] [] ib)
 -- ---- with a key
 
 -- the record is sound, the entry is the one that the key leads to, and both buffers begin with the separators
-pub record Led (n : ℕ) (ib key : List ℕ) (s : Spot) (before own : List ℕ) : Type 0 where
+pub record Led (n : ℕ) (ib key : List ℕ) (s : Lead) (before own : List ℕ) : Type 0 where
   pub sound : soundWith n ib key ≡ true
   pub spot : s ≡ spotOf n ib key
   pub low : take (s .before) before ≡ lowFor n ib key
   pub high : take (s .own) own ≡ entryFor key (entriesIn n ib) .sep
 
 module _ (n : ℕ) (ib key before own : List ℕ) (r : Sought) (before' own' : List ℕ) (k : Seeks n ib key before own r before' own') where
-  pub answer-led : (s : Spot) → r ≡ sought.At s → Led n ib key s before' own'
+  pub answer-led : (s : Lead) → r ≡ sought.At s → Led n ib key s before' own'
   unfolding soughtOf
   answer-led s e = go (soundWith n ib key) refl (sym e ∙ k .answers) (k .low) (k .high)
     where
@@ -63,8 +63,8 @@ module _ (n : ℕ) (ib key before own : List ℕ) (r : Sought) (before' own' : L
           record {
             sound = t;
             spot = m;
-            low = rw b (take-front before (lowFor n ib key) (s .before) (ap (λ (x : Spot). x .before) m));
-            high = rw o (take-front own (entryFor key (entriesIn n ib) .sep) (s .own) (ap (λ (x : Spot). x .own) m));
+            low = rw b (take-front before (lowFor n ib key) (s .before) (ap (λ (x : Lead). x .before) m));
+            high = rw o (take-front own (entryFor key (entriesIn n ib) .sep) (s .own) (ap (λ (x : Lead). x .own) m));
           }
       go false t h b o = absurd (let z : _≡_ {A = ℕ} 0 1 = cc in omega arith)
 

@@ -13,7 +13,7 @@ use Rattle.fields.specs.Choice.{pick, both, no}
 use Rattle.fields.specs.Bytes.{part}
 use Rattle.fields.proofs.Choices.{both-split, off}
 use Rattle.index.specs.Reading.{lengthAt}
-use Rattle.index_step.specs.declared.Place.{Place}
+use Rattle.index_step.specs.declared.PassPlace.{PassPlace}
 use Rattle.index_step.specs.declared.Step.{Step}
 use Rattle.index_step.specs.AidStep.{frontAt, stepAt, joinedOf, reach}
 use Rattle.index_step.proofs.Reaching.{reach-most}
@@ -24,7 +24,7 @@ use Rattle.index_read.specs.declared.Parsed.the-variants.{Of, Bad}
 -- ---- an entry taken apart
 
 -- What it means that the next entry was taken apart.
-pub record Good (ib : List ℕ) (p : Place) (by : Limits) (s : Step) : Type 0 where
+pub record Good (ib : List ℕ) (p : PassPlace) (by : Limits) (s : Step) : Type 0 where
   pub is : s ≡ stepAt (by .width) ib (p .right) (p .end)
   pub room : by .edge + (by .width + 2 + s .len + pick (s .closes) 2 0) ≤ p .right
   pub at-is : s .at + (by .width + 2 + s .len) ≡ p .right
@@ -37,7 +37,7 @@ of-bad e = let z : _≡_ {A = ℕ} 0 1 = cc in omega arith
 pub bad-of : {s : Step} → Bad ≡ Of s → ⊥
 bad-of e = of-bad (sym e)
 
-module _ (ib : List ℕ) (p : Place) (by : Limits) where
+module _ (ib : List ℕ) (p : PassPlace) (by : Limits) where
   abbrev w : ℕ
   w = by .width
 
@@ -120,11 +120,11 @@ module _ (ib : List ℕ) (p : Place) (by : Limits) where
 -- ---- the bytes that an entry takes
 
 -- what is copied of its characters lies in the record
-pub reaches : (ib : List ℕ) (p : Place) (by : Limits) (s : Step) → Good ib p by s → p .right + 7 ≤ length ib → s .at + reach (s .len) ≤ length ib
+pub reaches : (ib : List ℕ) (p : PassPlace) (by : Limits) (s : Step) → Good ib p by s → p .right + 7 ≤ length ib → s .at + reach (s .len) ≤ length ib
 reaches ib p by s g inside = omega (arith, g .at-is, g .room, reach-most (s .len))
 
 -- and where the pass goes on past it
-pub passes : (ib : List ℕ) (p : Place) (by : Limits) (s : Step) → Good ib p by s → p .right + 7 ≤ length ib → by .key ≤ 255
+pub passes : (ib : List ℕ) (p : PassPlace) (by : Limits) (s : Step) → Good ib p by s → p .right + 7 ≤ length ib → by .key ≤ 255
     → (s .front + s .len ≤ 510) × (s .at ≤ length ib) × (pick (s .closes) 2 0 ≤ s .at)
 passes ib p by s g inside most = (omega (arith, g .fits), omega (arith, g .at-is), omega (arith, g .at-is, g .room))
 

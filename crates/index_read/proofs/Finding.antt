@@ -10,7 +10,7 @@ use native.Mathlib.Omega.{arith}
 use borrow.Author.Tests.{eqb-false}
 use Rattle.fields.specs.Choice.{pick}
 use Rattle.fields.proofs.Choices.{false-true}
-use Rattle.index_step.specs.declared.Place.{Place}
+use Rattle.index_step.specs.declared.PassPlace.{PassPlace}
 use Rattle.index_step.specs.declared.Step.{Step}
 use Rattle.index_step.specs.AidStep.{placePast, copiedFrom, Renewed}
 use Rattle.index_step.specs.AidEntries.{Here, partHere, sepHere, hereNext, Held}
@@ -21,7 +21,7 @@ use Rattle.index_read.specs.AidStand.{Walkable, Stand, Paused}
 use Rattle.index_read.specs.declared.Leg.{Leg}
 use Rattle.index_read.specs.declared.Limits.{Limits}
 use Rattle.index_read.specs.declared.Parsed.the-variants.{Of}
-use Rattle.index_read.specs.declared.Spot.{Spot}
+use Rattle.index_read.specs.declared.Lead.{Lead}
 use Rattle.index_read.proofs.Reaching.{aim-top, Above, Aims, found-here}
 use Rattle.index_read.proofs.Walking.{too-big, again, passes-top, num-is, aims, held-past, turned, topped, unsought}
 
@@ -61,12 +61,12 @@ module _ (key : List ℕ) (reach : ℕ) (b : Begun key reach) where
 -- ---- what was found
 
 -- the two buffers, and the entry that the key leads to, once it is sought no more
-pub record Finding (ib : List ℕ) (by : Limits) (key before own : List ℕ) (spot : Spot) (reach : ℕ) : Type 0 where
+pub record Finding (ib : List ℕ) (by : Limits) (key before own : List ℕ) (spot : Lead) (reach : ℕ) : Type 0 where
   pub low : length before ≡ 263
   pub high : length own ≡ 263
   pub found : reach ≡ 0 → 0 < length key → FoundBy (by .width) (by .count) ib key spot before own
 
-pub finding-start : (ib : List ℕ) (by : Limits) (key before own : List ℕ) (spot : Spot) (reach : ℕ) → Begun key reach → length before ≡ 263 → length own ≡ 263
+pub finding-start : (ib : List ℕ) (by : Limits) (key before own : List ℕ) (spot : Lead) (reach : ℕ) → Begun key reach → length before ≡ 263 → length own ≡ 263
     → Finding ib by key before own spot reach
 finding-start ib by key before own spot reach b low high =
     record { low = low; high = high; found = λ (x : reach ≡ 0) (y : 0 < length key). absurd (begun-sought key reach b x y) }
@@ -100,7 +100,7 @@ module _ (reach r : ℕ) (meets : Bool) (m : Meets reach r meets) where
 
 -- Past an entry that is fine: where the walk over its section paused, what the entry says, and the reach past the highest of the section before. `from` is what the
 -- walk set out from.
-pub record Turn (ib : List ℕ) (by : Limits) (key old : List ℕ) (from : Leg) (seen buf high : List ℕ) (p : Place) (left : ℕ) (s : Step) (buf' high' : List ℕ) : Type 0 where
+pub record Turn (ib : List ℕ) (by : Limits) (key old : List ℕ) (from : Leg) (seen buf high : List ℕ) (p : PassPlace) (left : ℕ) (s : Step) (buf' high' : List ℕ) : Type 0 where
   pub paused : Paused ib by key old from seen buf high p left
   pub walkable : Walkable ib by key
   pub entry : entryOf ib p by (eqb left (by .count)) buf high ≡ Of s
@@ -109,7 +109,7 @@ pub record Turn (ib : List ℕ) (by : Limits) (key old : List ℕ) (from : Leg) 
   pub long' : length high' ≡ length high
   pub above : Above key (take (from .p .high) high) (from .reach)
 
-module _ {ib : List ℕ} {by : Limits} {key old : List ℕ} {from : Leg} {seen buf high : List ℕ} {p : Place} {left : ℕ} {s : Step} {buf' high' : List ℕ}
+module _ {ib : List ℕ} {by : Limits} {key old : List ℕ} {from : Leg} {seen buf high : List ℕ} {p : PassPlace} {left : ℕ} {s : Step} {buf' high' : List ℕ}
     (t : Turn ib by key old from seen buf high p left s buf' high') where
   abbrev st : Stand ib by key old seen buf high p true left (t .paused .reach)
   st = t .paused .stand
@@ -126,7 +126,7 @@ module _ {ib : List ℕ} {by : Limits} {key old : List ℕ} {from : Leg} {seen b
   pub turn-passes : (s .front + s .len ≤ 510) × (s .at ≤ length ib) × (pick (s .closes) 2 0 ≤ s .at)
   turn-passes = passes-top ib by key old seen buf high p true left (t .paused .reach) st (t .paused .some) (t .walkable .least) s (t .entry) (t .walkable .most)
 
-  module _ (p' : Place) (past : p' ≡ placePast ib s p) where
+  module _ (p' : PassPlace) (past : p' ≡ placePast ib s p) where
     abbrev here : Here
     here = st .h
 
@@ -163,8 +163,8 @@ module _ {ib : List ℕ} {by : Limits} {key old : List ℕ} {from : Leg} {seen b
           (t .walkable .most) (from .reach) r aim (λ (x : 0 < r). aim-top ib p by key (from .reach) (rw is at x))
 
       -- the entry is kept where the key leads to it
-      module _ (before own : List ℕ) (spot : Spot) (g : Finding ib by key before own spot (from .reach)) (meets : Bool) (m : Meets (from .reach) r meets) where
-        abbrev spot-here : Spot
+      module _ (before own : List ℕ) (spot : Lead) (g : Finding ib by key before own spot (from .reach)) (meets : Bool) (m : Meets (from .reach) r meets) where
+        abbrev spot-here : Lead
         spot-here = record { ordinal = by .count - left; number = s .number; before = p .len; own = p' .len }
 
         kept : (b : Bool) → meets ≡ b
@@ -185,14 +185,14 @@ module _ {ib : List ℕ} {by : Limits} {key old : List ℕ} {from : Leg} {seen b
             }
         kept false met = record { low = g .low; high = g .high; found = λ (x : r ≡ 0). g .found (unmet-unsought (from .reach) r meets m met x) }
 
-        pub turn-finds : (before' own' : List ℕ) (spot' : Spot) → before' ≡ pick meets (copiedFrom buf (p .len) before) before
+        pub turn-finds : (before' own' : List ℕ) (spot' : Lead) → before' ≡ pick meets (copiedFrom buf (p .len) before) before
             → own' ≡ pick meets (copiedFrom buf' (p' .len) own) own → spot' ≡ pick meets spot-here spot → Finding ib by key before' own' spot' r
         turn-finds before' own' spot' b-is o-is s-is = rw (b-is, o-is, s-is) (kept meets refl)
 
 -- ---- past the last entry
 
-pub finding-end : (ib : List ℕ) (by : Limits) (key old seen buf high : List ℕ) (p : Place) (left reach : ℕ) → Stand ib by key old seen buf high p true left reach → left ≡ 0
-    → 0 < by .count → (before own : List ℕ) (spot : Spot) → Finding ib by key before own spot reach → 0 < length key → fineFrom by ib old (by .count) ≡ true
+pub finding-end : (ib : List ℕ) (by : Limits) (key old seen buf high : List ℕ) (p : PassPlace) (left reach : ℕ) → Stand ib by key old seen buf high p true left reach → left ≡ 0
+    → 0 < by .count → (before own : List ℕ) (spot : Lead) → Finding ib by key before own spot reach → 0 < length key → fineFrom by ib old (by .count) ≡ true
     → FoundBy (by .width) (by .count) ib key spot before own
 finding-end ib by key old seen buf high p left reach st done some before own spot g sought fine =
     g .found (unsought ib by key old seen buf high p true left reach st done some fine) sought

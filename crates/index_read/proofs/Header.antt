@@ -72,7 +72,7 @@ product-small n s h k = let m : n * s ≤ limit * 32768 = mul-le-mul h k in omeg
 
 -- ---- the displacements
 
-pub record Lies (w n : ℕ) (ib : List ℕ) : Type 0 where
+pub record LiesWell (w n : ℕ) (ib : List ℕ) : Type 0 where
   pub unused : 24 + w * freeCount w ib ≡ unusedAt ib
   pub some : freeCount w ib < n
   pub order : unusedAt ib + 2 ≤ lastAt ib
@@ -93,7 +93,7 @@ single-joined w n ib h = go (eqb (sectionAt ib) (lastAt ib)) refl
     go true e = le-leb (n - freeCount w ib) 2 (h (eqb-true (sectionAt ib) (lastAt ib) e))
     go false e = refl
 
-pub lies-apart : (w n : ℕ) (ib : List ℕ) → liesWell w n ib ≡ true → Lies w n ib
+pub lies-apart : (w n : ℕ) (ib : List ℕ) → liesWell w n ib ≡ true → LiesWell w n ib
 unfolding liesWell
 lies-apart w n ib h =
     let a = both-split (eqb (24 + w * freeCount w ib) (unusedAt ib)) _ h in
@@ -108,7 +108,7 @@ lies-apart w n ib h =
       single = single-apart w n ib (d .1);
     }
 
-pub lies-joined : (w n : ℕ) (ib : List ℕ) → Lies w n ib → liesWell w n ib ≡ true
+pub lies-joined : (w n : ℕ) (ib : List ℕ) → LiesWell w n ib → liesWell w n ib ≡ true
 unfolding liesWell
 lies-joined w n ib l =
     both-join _ _ (eq-eqb (24 + w * freeCount w ib) (unusedAt ib) (l .unused))
@@ -116,7 +116,7 @@ lies-joined w n ib l =
     (both-join _ _ (le-leb (unusedAt ib + 2) (lastAt ib) (l .order))
     (both-join _ _ (le-leb (lastAt ib) (length ib - 7) (l .inside)) (single-joined w n ib (l .single)))))
 
-pub no-place : (w n : ℕ) (ib : List ℕ) → (Lies w n ib → ⊥) → Nowhere ≡ placesOf w n ib
+pub no-place : (w n : ℕ) (ib : List ℕ) → (LiesWell w n ib → ⊥) → Nowhere ≡ placesOf w n ib
 unfolding placesOf
 no-place w n ib h = sym (rw (off (liesWell w n ib) (λ p. h (lies-apart w n ib p))))
 
@@ -149,7 +149,7 @@ module _ (w n : ℕ) (ib : List ℕ) (u e : ℕ) (u-is : u ≡ unusedAt ib) (e-i
     pub some-place : 24 + w * f ≡ u → f < n → u + 2 ≤ e → e ≤ length ib - 7 → (x ≡ e → n - f ≤ 2) → At f (e - 2) ≡ placesOf w n ib
     unfolding placesOf
     some-place b c d g k =
-        let l : Lies w n ib = record {
+        let l : LiesWell w n ib = record {
           unused = rw (c-is, u-is) at b;
           some = omega (arith, c-is);
           order = omega arith;
@@ -159,18 +159,18 @@ module _ (w n : ℕ) (ib : List ℕ) (u e : ℕ) (u-is : u ≡ unusedAt ib) (e-i
         sym (rw (lies-joined w n ib l, c-is, e-is))
 
 -- and what a good answer says
-pub place-good : (w n : ℕ) (ib : List ℕ) (c e : ℕ) → placesOf w n ib ≡ At c e → Lies w n ib × (c ≡ freeCount w ib) × (e ≡ lastAt ib - 2)
+pub place-good : (w n : ℕ) (ib : List ℕ) (c e : ℕ) → placesOf w n ib ≡ At c e → LiesWell w n ib × (c ≡ freeCount w ib) × (e ≡ lastAt ib - 2)
 unfolding placesOf
 place-good w n ib c e = go (liesWell w n ib) refl
   where
-    go : (t : Bool) → liesWell w n ib ≡ t → pick t (At (freeCount w ib) (lastAt ib - 2)) Nowhere ≡ At c e → Lies w n ib × (c ≡ freeCount w ib) × (e ≡ lastAt ib - 2)
+    go : (t : Bool) → liesWell w n ib ≡ t → pick t (At (freeCount w ib) (lastAt ib - 2)) Nowhere ≡ At c e → LiesWell w n ib × (c ≡ freeCount w ib) × (e ≡ lastAt ib - 2)
     go true p h =
         let a1 : c ≡ freeCount w ib = cc in
         let a2 : e ≡ lastAt ib - 2 = cc in
         (lies-apart w n ib p, a1, a2)
     go false p h = absurd (let z : _≡_ {A = ℕ} 0 1 = cc in omega arith)
 
-pub place-bad : (w n : ℕ) (ib : List ℕ) → placesOf w n ib ≡ Nowhere → Lies w n ib → ⊥
+pub place-bad : (w n : ℕ) (ib : List ℕ) → placesOf w n ib ≡ Nowhere → LiesWell w n ib → ⊥
 unfolding placesOf
 place-bad w n ib h l = go (rw (lies-joined w n ib l) at h)
   where

@@ -27,10 +27,10 @@ use Rattle.index_read.specs.AidWalk.{placesOf, chain, partNumbers, marki
 use Rattle.index_read.specs.AidSeek.{FoundBy}
 use Rattle.index_read.specs.AidJudged.{JudgedAs}
 use Rattle.index_read.specs.declared.Limits.{Limits}
-use Rattle.index_read.specs.declared.Spot.{Spot}
+use Rattle.index_read.specs.declared.Lead.{Lead}
 use Rattle.index_read.specs.declared.Verdict.the-variants.{Sound as SoundWith}
 use Rattle.index_read.specs.declared.Places.the-variants.{At, Nowhere}
-use Rattle.index_read.proofs.Header.{Lies, place-good, place-bad}
+use Rattle.index_read.proofs.Header.{LiesWell, place-good, place-bad}
 use Rattle.index_read.proofs.Ending.{closed-long, last-field, spread-apart, spread-joined}
 use Rattle.index_read.proofs.Chain.{Links, chain-apart, chain-joined, numbers-spelt}
 use Rattle.index_read.proofs.Marking.{named-by-marks, marking-append}
@@ -96,7 +96,7 @@ module _ (w K n : ℕ) (ib : List ℕ) where
     section = rw parts-are at (s .placed .section)
 
     -- The displacements are in order before any walk.
-    pub sound-lies : Lies w n ib
+    pub sound-lies : LiesWell w n ib
     sound-lies =
         record {
           unused = s .placed .unused;
@@ -125,7 +125,7 @@ module _ (w K n : ℕ) (ib : List ℕ) where
 
   -- ---- what the walks ask says
 
-  module _ (f : frame w ib ≡ true) (b : baseFine (length ib) n (part ib 4 12) ≡ true) (l : Lies w n ib) (big : n ≤ limit) where
+  module _ (f : frame w ib ≡ true) (b : baseFine (length ib) n (part ib 4 12) ≡ true) (l : LiesWell w n ib) (big : n ≤ limit) where
     abbrev fr : List ℕ
     fr = numbersAt w ib 24 (freeCount w ib)
 
@@ -230,7 +230,7 @@ module _ (w K n : ℕ) (ib : List ℕ) (is : w ≡ widthFor n) where
   no-places h = unsound (λ p. place-bad w n ib h (sound-lies w K n ib p))
 
   module _ (f : true ≡ frame w ib) (b : true ≡ baseFine (length ib) n (part ib 4 12)) (big : n ≤ limit) (c e : ℕ) (at : placesOf w n ib ≡ At c e) where
-    l : Lies w n ib
+    l : LiesWell w n ib
     l = place-good w n ib c e at .0
 
     c-is : c ≡ freeCount w ib
@@ -282,7 +282,7 @@ module _ (w K n : ℕ) (ib : List ℕ) (is : w ≡ widthFor n) where
       pub no-walk : false ≡ walkedFine by ib m₀ → Refused
       no-walk h = unsound (λ p. false-true (h ∙ ap (λ (m : List ℕ). walkedFine by ib m) em ∙ sym by-walk ∙ p))
 
-      pub all-fine : true ≡ walkedFine by ib m₀ → (wanted before own : List ℕ) (spot : Spot) → (0 < length wanted → FoundBy w (n - c) ib wanted spot before own)
+      pub all-fine : true ≡ walkedFine by ib m₀ → (wanted before own : List ℕ) (spot : Lead) → (0 < length wanted → FoundBy w (n - c) ib wanted spot before own)
           → (x y : ℕ) → x ≡ n - (n - c) → y ≡ n - c → JudgedAs K n ib wanted before own (SoundWith x y spot)
       all-fine ok wanted before own spot found x y x-is y-is =
           rw (← is) (

@@ -15,7 +15,7 @@ use Rattle.fields.proofs.Choices.{false-true, both-split, both-false, no-true}
 use Rattle.fields.proofs.Splices.{length-mid}
 use Rattle.index.specs.Bounds.{separator}
 use Rattle.index.specs.Reading.{lengthAt}
-use Rattle.index_step.specs.declared.Place.{Place}
+use Rattle.index_step.specs.declared.PassPlace.{PassPlace}
 use Rattle.index_step.specs.declared.Step.{Step}
 use Rattle.index_step.specs.AidStep.{stepAt, joinedOf, reach, extendedBy, copiedFrom, Renewed}
 use Rattle.index_step.proofs.Reaching.{reach-most, extended-chars, extended-length}
@@ -37,17 +37,17 @@ abbrev pub sepIn : List ℕ → Step → List ℕ → List ℕ → List ℕ
 sepIn ib s buf high = joinedOf (s .front) (pick (s .closes) high buf) ib (s .at) (s .len)
 
 -- whether the entry is the highest of its section, as the place tells
-pub closes-is : (ib : List ℕ) (p : Place) (by : Limits) (s : Step) → parsedOf ib p by ≡ Of s → (t : Bool) → closesAt (by .width) p ≡ t → s .closes ≡ t
+pub closes-is : (ib : List ℕ) (p : PassPlace) (by : Limits) (s : Step) → parsedOf ib p by ≡ Of s → (t : Bool) → closesAt (by .width) p ≡ t → s .closes ≡ t
 closes-is ib p by s parsed t which = ap (λ (x : Step). x .closes) (good ib p by s parsed .is) ∙ which
 
 -- What is known once its bound was judged: whether it rises, and what the buffers hold.
-pub record Turned (ib : List ℕ) (p : Place) (by : Limits) (first : Bool) (buf high : List ℕ) (s : Step) (rises : Bool) (buf' high' : List ℕ) : Type 0 where
+pub record Turned (ib : List ℕ) (p : PassPlace) (by : Limits) (first : Bool) (buf high : List ℕ) (s : Step) (rises : Bool) (buf' high' : List ℕ) : Type 0 where
   pub rising : rises ≡ boundRises first (by .key) (take (p .len) buf) (sepIn ib s buf high)
   pub renewed : Renewed ib s buf high buf' high'
   pub long : length buf' ≡ length buf
   pub long' : length high' ≡ length high
 
-module _ (ib : List ℕ) (p : Place) (by : Limits) (first : Bool) (buf high : List ℕ) where
+module _ (ib : List ℕ) (p : PassPlace) (by : Limits) (first : Bool) (buf high : List ℕ) where
   pub entry-unparsed : parsedOf ib p by ≡ Bad → Bad ≡ entryOf ib p by first buf high
   unfolding entryOf
   entry-unparsed h = sym (rw h (pick-bad (both (boundRises first (by .key) (take (p .len) buf) (nextIn ib p by buf high)) (separator (by .key) (nextIn ib p by buf high)))))
@@ -216,7 +216,7 @@ last-high x h = go (eqb x 255) refl h
 
 -- ---- an entry that closes no section and lies right of the edge, as it was read
 
-module _ (ib : List ℕ) (p : Place) (by : Limits) (first : Bool) (buf : List ℕ) (b : Before ib p by buf) (which : closesAt (by .width) p ≡ false)
+module _ (ib : List ℕ) (p : PassPlace) (by : Limits) (first : Bool) (buf : List ℕ) (b : Before ib p by buf) (which : closesAt (by .width) p ≡ false)
     (lies : by .edge + (by .width + 2 + lengthAt (by .width) ib (p .right)) ≤ p .right) (s : Step) (is : s ≡ stepAt (by .width) ib (p .right) (p .end)) where
   unclosed : s .closes ≡ false
   unclosed = ap (λ (x : Step). x .closes) is ∙ which

@@ -20,7 +20,7 @@ use Rattle.fields.proofs.Fronts.{common-take, common-prefix, common-differs, or
 use Rattle.fields.proofs.Splices.{length-mid, part-is}
 use Rattle.index.specs.Meaning.{Entry, entry, separatorBefore}
 use Rattle.index.specs.Search.{leadsTo}
-use Rattle.index_step.specs.declared.Place.{Place}
+use Rattle.index_step.specs.declared.PassPlace.{PassPlace}
 use Rattle.index_step.specs.declared.Step.{Step}
 use Rattle.index_step.specs.AidStep.{frontAt}
 use Rattle.index_step.specs.AidEntries.{Here, hereFirst, partHere, sepHere, entryHere, hereNext, entriesHere}
@@ -28,7 +28,7 @@ use Rattle.index_read.specs.AidParsing.{closesAt, parsedOf}
 use Rattle.index_read.specs.AidSeek.{reachOf, lookOf, aimOf, Search, FoundBy}
 use Rattle.index_read.specs.declared.Limits.{Limits}
 use Rattle.index_read.specs.declared.Parsed.the-variants.{Of, Bad}
-use Rattle.index_read.specs.declared.Spot.{Spot}
+use Rattle.index_read.specs.declared.Lead.{Lead}
 use Rattle.index_read.proofs.Entry.{Good, good}
 
 -- ---- lists of which one is below the other
@@ -105,7 +105,7 @@ module _ (key : List ℕ) (front : ℕ) (chars : List ℕ) (fits : front + lengt
 
 -- ---- past the next entry
 
-module _ (ib : List ℕ) (p : Place) (by : Limits) (key : List ℕ) (reach : ℕ) where
+module _ (ib : List ℕ) (p : PassPlace) (by : Limits) (key : List ℕ) (reach : ℕ) where
   pub look-bad : parsedOf ib p by ≡ Bad → reach ≡ lookOf ib p by key reach
   look-bad e = rw e
 
@@ -123,7 +123,7 @@ module _ (ib : List ℕ) (p : Place) (by : Limits) (key : List ℕ) (reach : ℕ
 
 -- ---- past the entry before which a walk over a section's entries stopped
 
-module _ (ib : List ℕ) (p : Place) (by : Limits) (key : List ℕ) (reach : ℕ) where
+module _ (ib : List ℕ) (p : PassPlace) (by : Limits) (key : List ℕ) (reach : ℕ) where
   pub aim-none : reach ≡ 0 → 0 ≡ aimOf ib p by key reach
   unfolding aimOf
   aim-none none = rw none
@@ -164,18 +164,18 @@ module _ (ib : List ℕ) (p : Place) (by : Limits) (key : List ℕ) (reach : ℕ
 
 -- ---- what a reach says of the separator that it was found past
 
-pub record Reached (key sep : List ℕ) (r : ℕ) : Type 0 where
+pub record FoundPast (key sep : List ℕ) (r : ℕ) : Type 0 where
   pub low : less sep (take (length sep) key) ≡ true
   pub same : take (r - 1) sep ≡ take (r - 1) key
   pub long : r ≤ length sep
   pub ahead : less (take r sep) (take r key) ≡ true
 
 -- of one that was held against the key as a whole
-pub reached-past : (key sep : List ℕ) (r : ℕ) → r ≡ reachOf key 0 sep → 0 < r → Reached key sep r
+pub reached-past : (key sep : List ℕ) (r : ℕ) → r ≡ reachOf key 0 sep → 0 < r → FoundPast key sep r
 unfolding reachOf
 reached-past key sep r is on = go (less sep (take (length sep) key)) refl is
   where
-    go : (t : Bool) → less sep (take (length sep) key) ≡ t → r ≡ pick t (0 + common sep (take (length sep) key) + 1) 0 → Reached key sep r
+    go : (t : Bool) → less sep (take (length sep) key) ≡ t → r ≡ pick t (0 + common sep (take (length sep) key) + 1) 0 → FoundPast key sep r
     go true e q =
         let k : ℕ = common sep (take (length sep) key) in
         let m : k < length sep = common-short sep (take (length sep) key) (omega (arith, length-take (length sep) key)) e in
@@ -201,7 +201,7 @@ not-reached key sep is = go (less sep (take (length sep) key)) is
 
 -- of one that takes over as many bytes at least from the separator before: it has the same reach
 reached-kept : (key ref chars : List ℕ) (F reach : ℕ) → 0 < reach → reach ≤ F → F ≤ length ref → take (reach - 1) ref ≡ take (reach - 1) key
-    → less (take reach ref) (take reach key) ≡ true → Reached key (take F ref ++ chars) reach
+    → less (take reach ref) (take reach key) ≡ true → FoundPast key (take F ref ++ chars) reach
 reached-kept key ref chars F reach on over front same ahead =
     let n : length (take F ref) ≡ F = length-take-le F ref front in
     let l : length (take F ref ++ chars) ≡ F + length chars = length-append (take F ref) chars ∙ omega (arith, n) in
@@ -235,7 +235,7 @@ pub record Above (key top : List ℕ) (reach : ℕ) : Type 0 where
 -- of the entry's separator; `was` is the reach before, 0 where no key was sought
 pub record Aims (key sep : List ℕ) (was r : ℕ) : Type 0 where
   pub still : 0 < r → 0 < was
-  pub on : 0 < r → Reached key sep r
+  pub on : 0 < r → FoundPast key sep r
   pub off : r ≡ 0 → 0 < was → 0 ≡ reachOf key 0 sep
 
 -- a section's highest; f is its F, l what a look at it gives
@@ -332,7 +332,7 @@ module _ (ib : List ℕ) (by : Limits) (key : List ℕ) where
     rest-there more = let z : left ≡ suc (left - 1) = omega arith in ap (λ (k : ℕ). entriesHere (by .width) ib h k) z
 
     -- past an entry; what its reach says must hold while the key is sought
-    pub search-on : 0 < left → (r : ℕ) → (0 < r → 0 < reach) → (0 < r → Reached key sep r) → Search ib by key (hereNext (by .width) ib h) (left - 1) r
+    pub search-on : 0 < left → (r : ℕ) → (0 < r → 0 < reach) → (0 < r → FoundPast key sep r) → Search ib by key (hereNext (by .width) ib h) (left - 1) r
     search-on more r still told =
         let e : Entry = entryHere (by .width) ib h in
         let n : length (s .passed ++ (e ∷ [])) ≡ length (s .passed) + 1 = length-append (s .passed) (e ∷ []) in
@@ -368,7 +368,7 @@ module _ (ib : List ℕ) (by : Limits) (key : List ℕ) where
         (λ (q : 0 < r). rw (sep-inner inner) (reached-past key (take F (h .ref) ++ chars) r (is ∙ reached-joined key (h .ref) chars F reach under front (s .same p)) q))
 
     -- the next entry is the one that the key leads to: its separator is not below the key
-    pub found-here : 0 < left → 0 < reach → 0 ≡ reachOf key 0 sep → (spot : Spot) (before own : List ℕ) → spot .ordinal ≡ by .count - left
+    pub found-here : 0 < left → 0 < reach → 0 ≡ reachOf key 0 sep → (spot : Lead) (before own : List ℕ) → spot .ordinal ≡ by .count - left
         → spot .number ≡ partHere (by .width) ib h .piece .num → spot .before ≡ length (h .ref) → spot .own ≡ length sep
         → take (spot .before) before ≡ h .ref → take (spot .own) own ≡ sep → FoundBy (by .width) (by .count) ib key spot before own
     found-here more sought end spot before own o n b w low high =

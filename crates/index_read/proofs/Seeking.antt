@@ -20,7 +20,7 @@ use Rattle.index_step.proofs.Stepping.{entries-passed, entries-count}
 use Rattle.index_read.specs.Check.{indexBy, indexOf, soundWith, entriesIn, lowFor, spotOf, soughtOf, Seeks}
 use Rattle.index_read.specs.AidSeek.{FoundBy}
 use Rattle.index_read.specs.AidJudged.{JudgedAs}
-use Rattle.index_read.specs.declared.Spot.{Spot}
+use Rattle.index_read.specs.declared.Lead.{Lead}
 use Rattle.index_read.specs.declared.Verdict.{Verdict}
 use Rattle.index_read.specs.declared.Verdict.the-variants as verdict
 use Rattle.index_read.specs.declared.Index.the-variants.{Sound, Unsound}
@@ -32,7 +32,7 @@ told K n ib wanted before own r v e j = rw e at j
 
 -- ---- the check
 
-pub checks-sound : (K n : ℕ) (ib wanted before own : List ℕ) (f e : ℕ) (spot : Spot) → JudgedAs K n ib wanted before own (verdict.Sound f e spot) → Sound f e ≡ indexOf K n ib
+pub checks-sound : (K n : ℕ) (ib wanted before own : List ℕ) (f e : ℕ) (spot : Lead) → JudgedAs K n ib wanted before own (verdict.Sound f e spot) → Sound f e ≡ indexOf K n ib
 unfolding indexBy
 checks-sound K n ib wanted before own f e spot j = sym (rw (j .0, ← j .1, ← j .2))
 
@@ -63,14 +63,14 @@ before-short K low ref (e ∷ es) (suc i) r s =
 
 -- ---- the check that seeks a key
 
-same-spot : (s t : Spot) → s .ordinal ≡ t .ordinal → s .number ≡ t .number → s .before ≡ t .before → s .own ≡ t .own → s ≡ t
+same-spot : (s t : Lead) → s .ordinal ≡ t .ordinal → s .number ≡ t .number → s .before ≡ t .before → s .own ≡ t .own → s ≡ t
 same-spot s t o m b w =
     ap (λ (x : ℕ). record { ordinal = x; number = s .number; before = s .before; own = s .own }) o
     ∙ ap (λ (x : ℕ). record { ordinal = t .ordinal; number = x; before = s .before; own = s .own }) m
     ∙ ap (λ (x : ℕ). record { ordinal = t .ordinal; number = t .number; before = x; own = s .own }) b
     ∙ ap (λ (x : ℕ). record { ordinal = t .ordinal; number = t .number; before = t .before; own = x }) w
 
-module _ (n : ℕ) (ib key low high : List ℕ) (f e : ℕ) (spot : Spot) (j : JudgedAs (length key) n ib key low high (verdict.Sound f e spot)) (some : 1 ≤ length key) where
+module _ (n : ℕ) (ib key low high : List ℕ) (f e : ℕ) (spot : Lead) (j : JudgedAs (length key) n ib key low high (verdict.Sound f e spot)) (some : 1 ≤ length key) where
   abbrev w : ℕ
   w = widthFor n
 

@@ -21,7 +21,7 @@ use Rattle.index.proofs.Keeping.{separator-short}
 use Rattle.index.proofs.Apart.{chars-long}
 use Rattle.sections.specs.Parts.{Part, against, partSize}
 use Rattle.sections.specs.Reading.{partsAt}
-use Rattle.index_step.specs.declared.Place.{Place}
+use Rattle.index_step.specs.declared.PassPlace.{PassPlace}
 use Rattle.index_step.specs.declared.Step.{Step}
 use Rattle.index_step.specs.AidStep.{placeStart, frontAt, charsAt, stepAt, placePast, Renewed}
 use Rattle.index_step.specs.AidEntries.{Here, hereFirst, partHere, sepHere, hereNext, liesHere, Held}
@@ -141,7 +141,7 @@ fine-open by ib seen low h t u left more = fine-step by ib seen low h t left mor
 
 -- ---- how far the walk has come
 
-pub reclosed : (ib : List ℕ) (by : Limits) (key old seen buf high : List ℕ) (p : Place) (t u : Bool) (left reach : ℕ) → 0 < left
+pub reclosed : (ib : List ℕ) (by : Limits) (key old seen buf high : List ℕ) (p : PassPlace) (t u : Bool) (left reach : ℕ) → 0 < left
     → Stand ib by key old seen buf high p t left reach → Stand ib by key old seen buf high p u left reach
 reclosed ib by key old seen buf high p t u left reach more st =
     record {
@@ -160,7 +160,7 @@ reclosed ib by key old seen buf high p t u left reach more st =
       keyed = st .keyed;
     }
 
-pub start : (ib : List ℕ) (by : Limits) (key old : List ℕ) (p : Place) (reach : ℕ) → p ≡ placeStart ib → 31 ≤ length ib → by .edge + 7 ≤ length ib → 0 < by .count → reach ≤ 1
+pub start : (ib : List ℕ) (by : Limits) (key old : List ℕ) (p : PassPlace) (reach : ℕ) → p ≡ placeStart ib → 31 ≤ length ib → by .edge + 7 ≤ length ib → 0 < by .count → reach ≤ 1
     → (0 < reach → length key ≡ by .key) → Stand ib by key old old (replicate 263 0) (replicate 263 0) p true (by .count) reach
 start ib by key old p reach is large before some few keyed =
     let k : length {A = ℕ} (replicate 263 0) ≡ 263 = length-replicate {A = ℕ} 263 0 in
@@ -218,31 +218,31 @@ pick-short true a b K x y = x
 pick-short false a b K x y = y
 
 -- the reach past an entry that is no section's highest: by a look at it where its F is below the reach, else the same
-abbrev pub Reached : List ℕ → Place → Limits → List ℕ → ℕ → ℕ → Type 0
-Reached ib p by key reach r =
+abbrev pub NextReach : List ℕ → PassPlace → Limits → List ℕ → ℕ → ℕ → Type 0
+NextReach ib p by key reach r =
     ((frontAt (by .width) ib (p .right) < reach) × (r ≡ lookOf ib p by key reach) × (0 < r)) ⊎ ((reach ≤ frontAt (by .width) ib (p .right)) × (r ≡ reach))
 
 -- as code finds it: f is the entry's F
-module _ (ib : List ℕ) (p : Place) (by : Limits) (key : List ℕ) (reach r f : ℕ) (is : f ≡ frontAt (by .width) ib (p .right)) where
-  pub by-look : (l : ℕ) → f < reach → l ≡ lookOf ib p by key reach → (l ≡ 0 → ⊥) → r ≡ l → Reached ib p by key reach r
+module _ (ib : List ℕ) (p : PassPlace) (by : Limits) (key : List ℕ) (reach r f : ℕ) (is : f ≡ frontAt (by .width) ib (p .right)) where
+  pub by-look : (l : ℕ) → f < reach → l ≡ lookOf ib p by key reach → (l ≡ 0 → ⊥) → r ≡ l → NextReach ib p by key reach r
   by-look l z l-is some e = inl (omega (arith, z, is), e ∙ l-is, omega (arith, some, e))
 
-  pub by-front : reach ≤ f → r ≡ reach → Reached ib p by key reach r
+  pub by-front : reach ≤ f → r ≡ reach → NextReach ib p by key reach r
   by-front z e = inr (omega (arith, z, is), e)
 
-reached-sought : (ib : List ℕ) (p : Place) (by : Limits) (key : List ℕ) (reach r : ℕ) → Reached ib p by key reach r → 0 < reach → 0 < r
+reached-sought : (ib : List ℕ) (p : PassPlace) (by : Limits) (key : List ℕ) (reach r : ℕ) → NextReach ib p by key reach r → 0 < reach → 0 < r
 reached-sought ib p by key reach r x some =
     ⊎-elim (λ (y : (frontAt (by .width) ib (p .right) < reach) × (r ≡ lookOf ib p by key reach) × (0 < r)). y .2)
     (λ (y : (reach ≤ frontAt (by .width) ib (p .right)) × (r ≡ reach)). rw (y .1) some) x
 
-sought-reached : (ib : List ℕ) (p : Place) (by : Limits) (key : List ℕ) (reach r : ℕ) → Reached ib p by key reach r → 0 < r → 0 < reach
+sought-reached : (ib : List ℕ) (p : PassPlace) (by : Limits) (key : List ℕ) (reach r : ℕ) → NextReach ib p by key reach r → 0 < r → 0 < reach
 sought-reached ib p by key reach r x some =
     ⊎-elim (λ (y : (frontAt (by .width) ib (p .right) < reach) × (r ≡ lookOf ib p by key reach) × (0 < r)). omega (arith, y .0))
     (λ (y : (reach ≤ frontAt (by .width) ib (p .right)) × (r ≡ reach)). omega (arith, y .1, some)) x
 
 -- ---- the next entry, by the place and the buffers and by the entries
 
-module _ (by : Limits) (ib : List ℕ) (h : Here) (p : Place) (buf high : List ℕ) (held : Held h p buf high) where
+module _ (by : Limits) (ib : List ℕ) (h : Here) (p : PassPlace) (buf high : List ℕ) (held : Held h p buf high) where
   abbrev r : ℕ
   r = h .right
 
@@ -294,7 +294,7 @@ module _ (by : Limits) (ib : List ℕ) (h : Here) (p : Place) (buf high : List �
   same-end : (x y : Bool) → both (eqb r (by .edge)) (both (empty (h .ref)) (both x y)) ≡ both (eqb (p .right) (by .edge)) (both (eqb (p .len) 0) (both x y))
   same-end x y = rw (empty-is (h .ref), held .long, held .right)
 
-module _ (ib : List ℕ) (by : Limits) (key old seen buf high : List ℕ) (p : Place) (closed : Bool) (left reach : ℕ) (st : Stand ib by key old seen buf high p closed left reach) where
+module _ (ib : List ℕ) (by : Limits) (key old seen buf high : List ℕ) (p : PassPlace) (closed : Bool) (left reach : ℕ) (st : Stand ib by key old seen buf high p closed left reach) where
   abbrev count : ℕ
   count = by .count
 
@@ -500,7 +500,7 @@ module _ (ib : List ℕ) (by : Limits) (key old seen buf high : List ℕ) (p : P
         front-inner : F' ≤ length (h' .ref)
         front-inner = rw unclosed at front
 
-        pub reached : (r : ℕ) → Reached ib p by key reach r → Search ib by key (hereNext w' ib h') (left - 1) r
+        pub reached : (r : ℕ) → NextReach ib p by key reach r → Search ib by key (hereNext w' ib h') (left - 1) r
         reached r x =
             ⊎-elim (λ (y : (frontAt w' ib (p .right) < reach) × (r ≡ lookOf ib p by key reach) × (0 < r)). looked y)
             (λ (y : (reach ≤ frontAt w' ib (p .right)) × (r ≡ reach)). skipped y) x
@@ -515,7 +515,7 @@ module _ (ib : List ℕ) (by : Limits) (key old seen buf high : List ℕ) (p : P
                 let f : reach ≤ F' = rw (st .held .right) at (y .0) in
                 rw (y .1) (search-skip ib by key h' left reach (st .search) more unclosed f front-inner)
 
-      module _ (buf' high' : List ℕ) (renewed : Renewed ib s buf high buf' high') (long : length buf' ≡ length buf) (long' : length high' ≡ length high) (p' : Place)
+      module _ (buf' high' : List ℕ) (renewed : Renewed ib s buf high buf' high') (long : length buf' ≡ length buf) (long' : length high' ≡ length high) (p' : PassPlace)
           (past : p' ≡ placePast ib s p) (most : K ≤ 255) where
         pub held-past : Held (hereNext w' ib h') p' buf' high'
         held-past = rw past (held-on w' ib h' p buf high (st .held) (st .inside) (lies most) s steps buf' high' renewed)
@@ -603,12 +603,12 @@ module _ (ib : List ℕ) (by : Limits) (key old seen buf high : List ℕ) (p : P
 
 -- ---- the walk over a section's entries
 
-past-inner : (ib : List ℕ) (s : Step) (p : Place) → s .closes ≡ false → placePast ib s p .high ≡ p .high
+past-inner : (ib : List ℕ) (s : Step) (p : PassPlace) → s .closes ≡ false → placePast ib s p .high ≡ p .high
 past-inner ib s p c = rw c
 
 -- How far it has come from its own start: whatever walk stood there stands here now, with the same highest of the section before; past an entry that closed no
 -- section, unless it still is at its start. A key that was sought still is.
-pub record Along (ib : List ℕ) (by : Limits) (key seen₀ buf₀ : List ℕ) (from : Leg) (seen buf : List ℕ) (p : Place) (left reach : ℕ) : Type 0 where
+pub record Along (ib : List ℕ) (by : Limits) (key seen₀ buf₀ : List ℕ) (from : Leg) (seen buf : List ℕ) (p : PassPlace) (left reach : ℕ) : Type 0 where
   pub few : left ≤ from .left
   pub still : 0 < from .reach → 0 < reach
   pub goes : (old high : List ℕ) → Stand ib by key old seen₀ buf₀ high (from .p) true (from .left) (from .reach)
@@ -624,7 +624,7 @@ set-out ib by key seen buf from =
       above = λ (old high : List ℕ) st. refl;
     }
 
-module _ (ib : List ℕ) (by : Limits) (key seen₀ buf₀ : List ℕ) (from : Leg) (seen buf : List ℕ) (p : Place) (left reach : ℕ)
+module _ (ib : List ℕ) (by : Limits) (key seen₀ buf₀ : List ℕ) (from : Leg) (seen buf : List ℕ) (p : PassPlace) (left reach : ℕ)
     (g : Along ib by key seen₀ buf₀ from seen buf p left reach) (some : 0 < left) (wk : Walkable ib by key) where
   -- each way out
   abbrev Ends : List ℕ → List ℕ → Stop → Type 0
@@ -699,8 +699,8 @@ module _ (ib : List ℕ) (by : Limits) (key seen₀ buf₀ : List ℕ) (from : L
         (within ib by key old seen buf high p (eqb left more) left reach t) (wk .most)
 
     -- and one turn
-    module _ (buf' : List ℕ) (renewed : (high : List ℕ) → by .key + 8 ≤ length high → Taken ib buf high buf' high x) (long : length buf' ≡ length buf) (p' : Place)
-        (past : p' ≡ placePast ib s p) (inner : closesAt (by .width) p ≡ false) (r : ℕ) (new : Reached ib p by key reach r) where
+    module _ (buf' : List ℕ) (renewed : (high : List ℕ) → by .key + 8 ≤ length high → Taken ib buf high buf' high x) (long : length buf' ≡ length buf) (p' : PassPlace)
+        (past : p' ≡ placePast ib s p) (inner : closesAt (by .width) p ≡ false) (r : ℕ) (new : NextReach ib p by key reach r) where
       stays-open : (old high : List ℕ) → Stand ib by key old seen buf high p (eqb left more) left reach → s .closes ≡ false
       stays-open old high t = closes-is ib p by s (entry-good ib p by (eqb left (by .count)) buf high s (entry old high t) .0) false inner
 
@@ -722,11 +722,11 @@ module _ (ib : List ℕ) (by : Limits) (key seen₀ buf₀ : List ℕ) (from : L
                 (rw m k) (rw m z) in
                 rw u (rw (m, stays-open old high t) at y);
             above = λ (old high : List ℕ) st.
-                ap (λ (x : Place). x .high) past ∙ past-inner ib s p (stays-open old high (g .goes old high st)) ∙ g .above old high st;
+                ap (λ (x : PassPlace). x .high) past ∙ past-inner ib s p (stays-open old high (g .goes old high st)) ∙ g .above old high st;
           }
 
 -- at its end no entry is left, and none closed a section
-pub ends-open : (ib : List ℕ) (by : Limits) (key seen₀ buf₀ : List ℕ) (from : Leg) (seen buf : List ℕ) (p : Place) (left reach : ℕ)
+pub ends-open : (ib : List ℕ) (by : Limits) (key seen₀ buf₀ : List ℕ) (from : Leg) (seen buf : List ℕ) (p : PassPlace) (left reach : ℕ)
     → Along ib by key seen₀ buf₀ from seen buf p left reach → 0 < from .left → left ≡ 0 → (old high : List ℕ)
     → Stand ib by key old seen₀ buf₀ high (from .p) true (from .left) (from .reach) → false ≡ fineFrom by ib old (by .count)
 ends-open ib by key seen₀ buf₀ from seen buf p left reach g some done old high st =
@@ -737,12 +737,12 @@ pub stopped-wrong : (ib : List ℕ) (by : Limits) (key old : List ℕ) (from : L
     → Stopped ib by key old from seen buf high r → false ≡ fineFrom by ib old (by .count)
 stopped-wrong ib by key old from seen buf high r e t = rw e at t
 
-pub stopped-at : (ib : List ℕ) (by : Limits) (key old : List ℕ) (from : Leg) (seen buf high : List ℕ) (r : Stop) (p : Place) (left : ℕ) → r ≡ At p left
+pub stopped-at : (ib : List ℕ) (by : Limits) (key old : List ℕ) (from : Leg) (seen buf high : List ℕ) (r : Stop) (p : PassPlace) (left : ℕ) → r ≡ At p left
     → Stopped ib by key old from seen buf high r → Paused ib by key old from seen buf high p left
 stopped-at ib by key old from seen buf high r p left e t = rw e at t
 
 -- for the look at the entry before which it stopped
-pub aimable : (ib : List ℕ) (by : Limits) (key old : List ℕ) (from : Leg) (seen buf high : List ℕ) (p : Place) (left : ℕ) → Paused ib by key old from seen buf high p left → Walkable ib by key
+pub aimable : (ib : List ℕ) (by : Limits) (key old : List ℕ) (from : Leg) (seen buf high : List ℕ) (p : PassPlace) (left : ℕ) → Paused ib by key old from seen buf high p left → Walkable ib by key
     → (1 ≤ by .width) × (by .width ≤ 4) × (p .right ≤ length ib) × (by .width + 2 ≤ p .right) × (by .edge < 65536) × (0 < from .reach → length key ≡ by .key)
 aimable ib by key old from seen buf high p left t w = (
   w .some,

@@ -10,14 +10,14 @@ use Rattle.fields.specs.Bytes.{part}
 use Rattle.fields.specs.Order.{common, less}
 use Rattle.index.specs.Meaning.{Entry, entry, separatorBefore}
 use Rattle.index.specs.Search.{leadsTo}
-use Rattle.index_step.specs.declared.Place.{Place}
+use Rattle.index_step.specs.declared.PassPlace.{PassPlace}
 use Rattle.index_step.specs.AidStep.{frontAt}
 use Rattle.index_step.specs.AidEntries.{Here, hereFirst, entriesHere}
 use Rattle.index_read.specs.AidParsing.{closesAt, parsedOf}
 use Rattle.index_read.specs.declared.Limits.{Limits}
 use Rattle.index_read.specs.declared.Parsed.{Parsed}
 use Rattle.index_read.specs.declared.Parsed.the-variants.{Of, Bad}
-use Rattle.index_read.specs.declared.Spot.{Spot}
+use Rattle.index_read.specs.declared.Lead.{Lead}
 use Rattle.index_read.specs.declared.Marks.{Marks}
 
 -- the reach past a separator that begins with the key's first `front` bytes and goes on with these characters: 0 where it is not below the key
@@ -30,21 +30,21 @@ abbrev pub reachPast : List ℕ → List ℕ → ℕ → Parsed → ℕ
 reachPast ib key reach (Of s) = reachOf key (s .front) (part ib (s .at) (s .len))
 reachPast ib key reach Bad = reach
 
-abbrev pub lookOf : List ℕ → Place → Limits → List ℕ → ℕ → ℕ
+abbrev pub lookOf : List ℕ → PassPlace → Limits → List ℕ → ℕ → ℕ
 lookOf ib p by key reach = reachPast ib key reach (parsedOf ib p by)
 
 -- past the entry before which a walk over a section's entries stopped: 0 where no key is sought, or where it stopped before another than the section's highest; of that F
 -- refers to the highest of the section before, past which `reach` is that of the key
-unfoldable pub aimOf : List ℕ → Place → Limits → List ℕ → ℕ → ℕ
+unfoldable pub aimOf : List ℕ → PassPlace → Limits → List ℕ → ℕ → ℕ
 aimOf ib p by key reach =
     pick (both (ltb 0 reach) (closesAt (by .width) p)) (pick (ltb (frontAt (by .width) ib (p .right)) reach) (lookOf ib p by key reach) reach) 0
 
 -- where it leads, as the struct with the marks has it
-abbrev pub spotIn : Marks → Spot
-spotIn m = record { ordinal = m .ordinal; number = m .number; before = m .before; own = m .own }
+abbrev pub leadIn : Marks → Lead
+leadIn m = record { ordinal = m .ordinal; number = m .number; before = m .before; own = m .own }
 
-abbrev pub noSpot : Spot
-noSpot = record { ordinal = 0; number = 0; before = 0; own = 0 }
+abbrev pub noLead : Lead
+noLead = record { ordinal = 0; number = 0; before = 0; own = 0 }
 
 -- How far a search has come that stands before an entry with `left` entries to come: all entries are those passed and those to come; while the key is sought, those
 -- passed are below it, the separator before has one byte less than `reach` in common with it, and its next one, if it has so many, is lower.
@@ -60,7 +60,7 @@ pub record Search (ib : List ℕ) (by : Limits) (key : List ℕ) (h : Here) (lef
   pub ahead : 0 < reach → reach ≤ length (h .ref) → less (take reach (h .ref)) (take reach key) ≡ true
 
 -- the entry that the key leads to was found among `count` entries: its place and number, and both separators at the front of two buffers
-pub record FoundBy (w count : ℕ) (ib key : List ℕ) (spot : Spot) (before own : List ℕ) : Type 0 where
+pub record FoundBy (w count : ℕ) (ib key : List ℕ) (spot : Lead) (before own : List ℕ) : Type 0 where
   pub ordinal : spot .ordinal ≡ leadsTo key (entriesHere w ib (hereFirst ib) count)
   pub inside : spot .ordinal < count
   pub number : spot .number ≡ getD (entriesHere w ib (hereFirst ib) count) (spot .ordinal) (entry [] 0) .num

@@ -10,7 +10,7 @@ use Rattle.fields.specs.Choice.{pick, both}
 use Rattle.measures.specs.Judgement.{limit}
 use Rattle.index.specs.Bounds.{bound, separator}
 use Rattle.sections.specs.Reading.{partsAt}
-use Rattle.index_step.specs.declared.Place.{Place}
+use Rattle.index_step.specs.declared.PassPlace.{PassPlace}
 use Rattle.index_step.specs.AidStep.{frontAt}
 use Rattle.index_step.specs.AidEntries.{Here, Held}
 use Rattle.index_read.specs.AidParsing.{closesAt}
@@ -48,7 +48,7 @@ lowOf first K ref = pick first [] (bound K ref)
 -- How far the walk has come that began with the marks `old`: the place and the buffers stand before an entry (Held), and the whole record is fine exactly where
 -- the `left` entries from there on are, with the marks made so far. `closed` tells whether the entry before closed a section, which only the end asks. The search
 -- has come as far.
-pub record Stand (ib : List ℕ) (by : Limits) (key old seen buf high : List ℕ) (p : Place) (closed : Bool) (left reach : ℕ) : Type 0 where
+pub record Stand (ib : List ℕ) (by : Limits) (key old seen buf high : List ℕ) (p : PassPlace) (closed : Bool) (left reach : ℕ) : Type 0 where
   pub h : Here
   pub held : Held h p buf high
   pub whole : length buf ≡ 263
@@ -72,7 +72,7 @@ pub record Stood (ib : List ℕ) (by : Limits) (key seen buf : List ℕ) (from :
 -- where the walk over a section's entries ends: before its highest or the entry sought, or because the record isn't fine. The key is still sought if it was
 -- before, with whatever reach; and the last entry of all is a section's highest, wherever the key leads. The highest of the section before stays the same, and an
 -- entry that is no section's highest is the one sought: a look at it told so.
-pub record Paused (ib : List ℕ) (by : Limits) (key old : List ℕ) (from : Leg) (seen buf high : List ℕ) (p : Place) (left : ℕ) : Type 0 where
+pub record Paused (ib : List ℕ) (by : Limits) (key old : List ℕ) (from : Leg) (seen buf high : List ℕ) (p : PassPlace) (left : ℕ) : Type 0 where
   pub reach : ℕ
   pub still : 0 < from .reach → 0 < reach
   pub stand : Stand ib by key old seen buf high p true left reach

@@ -14,7 +14,7 @@ use Rattle.index.specs.Bounds.{empty, bound, separator}
 use Rattle.index.specs.Reading.{unusedAt, lastAt, sectionAt, freeCount, lengthAt, numbersAt}
 use Rattle.sections.specs.Parts.{Part, against, sepOf, highAfter, partSize}
 use Rattle.sections.specs.Reading.{partsAt}
-use Rattle.index_step.specs.declared.Place.{Place}
+use Rattle.index_step.specs.declared.PassPlace.{PassPlace}
 use Rattle.index_step.specs.declared.Step.{Step}
 use Rattle.index_step.specs.AidStep.{frontAt, charsAt, joinedOf, Renewed}
 use Rattle.index_read.specs.AidParsing.{closesAt, parsedOf}
@@ -52,7 +52,7 @@ TopAscends first len buf high ib s r = (K : ℕ) → len ≤ K → s .front + s 
 
 -- a pass that can go on: a width and a key that were judged, a place in the record with room for control information before it, a buffer that is
 -- long enough, and a separator before that keeps the rules
-pub record Before (ib : List ℕ) (p : Place) (by : Limits) (buf : List ℕ) : Type 0 where
+pub record Before (ib : List ℕ) (p : PassPlace) (by : Limits) (buf : List ℕ) : Type 0 where
   pub some : 1 ≤ by .width
   pub few : by .width ≤ 4
   pub inside : p .right + 7 ≤ length ib
@@ -64,13 +64,13 @@ pub record Before (ib : List ℕ) (p : Place) (by : Limits) (buf : List ℕ) : T
   pub held : separator (p .len) (take (p .len) buf) ≡ true
 
 -- the next entry's separator, if the buffers begin with the separator before and the highest of the section before
-abbrev pub nextIn : List ℕ → Place → Limits → List ℕ → List ℕ → List ℕ
+abbrev pub nextIn : List ℕ → PassPlace → Limits → List ℕ → List ℕ → List ℕ
 nextIn ib p by buf high =
     let w = by .width in
     let r = p .right in
     take (frontAt w ib r) (pick (closesAt w p) high buf) ++ part ib (charsAt w ib r) (lengthAt w ib r)
 
-unfoldable pub entryOf : List ℕ → Place → Limits → Bool → List ℕ → List ℕ → Parsed
+unfoldable pub entryOf : List ℕ → PassPlace → Limits → Bool → List ℕ → List ℕ → Parsed
 entryOf ib p by first buf high =
     pick (both (boundRises first (by .key) (take (p .len) buf) (nextIn ib p by buf high)) (separator (by .key) (nextIn ib p by buf high))) (parsedOf ib p by) Bad
 

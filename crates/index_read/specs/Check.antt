@@ -13,7 +13,7 @@ use Rattle.index.specs.Search.{leadsTo, entryFor}
 use Rattle.sections.specs.Reading.{readIndex, soundIndex}
 use Rattle.index_read.specs.declared.Index.{Index}
 use Rattle.index_read.specs.declared.Index.the-variants.{Sound, Unsound}
-use Rattle.index_read.specs.declared.Spot.{Spot}
+use Rattle.index_read.specs.declared.Lead.{Lead}
 use Rattle.index_read.specs.declared.Sought.{Sought}
 use Rattle.index_read.specs.declared.Sought.the-variants as sought
 
@@ -38,7 +38,7 @@ entriesIn n ib = readIndex (widthFor n) n ib .entries
 abbrev pub lowFor : ℕ → List ℕ → List ℕ → List ℕ
 lowFor n ib key = separatorBefore [] (take (leadsTo key (entriesIn n ib)) (entriesIn n ib))
 
-abbrev pub spotOf : ℕ → List ℕ → List ℕ → Spot
+abbrev pub spotOf : ℕ → List ℕ → List ℕ → Lead
 spotOf n ib key =
     record { ordinal = leadsTo key (entriesIn n ib); number = entryFor key (entriesIn n ib) .num; before = length (lowFor n ib key); own = length (entryFor key (entriesIn n ib) .sep) }
 
@@ -53,6 +53,6 @@ pub record Seeks (n : ℕ) (ib key before own : List ℕ) (r : Sought) (before' 
   pub high : own' ≡ pick (soundWith n ib key) (splice own 0 (entryFor key (entriesIn n ib) .sep)) own
 
 -- what was found lies within its limits; K is the key's length
-abbrev pub SpotWithin : ℕ → ℕ → Sought → Type 0
-SpotWithin n K (sought.At s) = (s .number < n) × (s .before ≤ K) × (s .own ≤ K)
-SpotWithin n K sought.Unsound = Unit {0}
+abbrev pub LeadWithin : ℕ → ℕ → Sought → Type 0
+LeadWithin n K (sought.At s) = (s .number < n) × (s .before ≤ K) × (s .own ≤ K)
+LeadWithin n K sought.Unsound = Unit {0}

@@ -12,21 +12,21 @@ ghost use Rattle.measures.specs.Judgement.{limit};
 ghost use Rattle.index.specs.Bounds.{bound, separator};
 ghost use Rattle.index.specs.Rules.{baseFine};
 ghost use Rattle.index.specs.Reading.{numbersAt, lengthAt, frame};
-ghost use Rattle.index_read.specs.Check.{indexOf, Seeks, SpotWithin};
+ghost use Rattle.index_read.specs.Check.{indexOf, Seeks, LeadWithin};
 ghost use Rattle.index_read.specs.AidParsing.{closesAt, parsedOf};
 ghost use Rattle.index_read.specs.AidWalk.{Ascends, placesOf, Before, entryOf, Taken, marking, seenAfter, emptyMarks, fineFrom, walkedFine};
-ghost use Rattle.index_read.specs.AidSeek.{reachOf, lookOf, aimOf, noSpot, spotIn, FoundBy};
+ghost use Rattle.index_read.specs.AidSeek.{reachOf, lookOf, aimOf, noLead, leadIn, FoundBy};
 ghost use Rattle.index_read.specs.AidStand.{Walkable, Stand, Stood, Stopped};
 ghost use Rattle.index_read.specs.AidJudged.{JudgedAs};
 use fields::Order;
 ghost use Rattle.index_step.specs.AidStep.{joinedOf, copiedFrom};
 use index_step::BUFFER;
-use index_step::Place;
+use index_step::PassPlace;
 use index_step::Step;
 use measures::LIMIT;
 
 // The entry that a key leads to: its place among the entries, from 0, its number, and how many bytes the separator before it and its own have.
-pub struct Spot {
+pub struct Lead {
     pub ordinal: usize,
     pub number: usize,
     pub before: usize,
@@ -72,21 +72,21 @@ pub(crate) struct Limits {
 // more. Else the separator before has one byte less than `reach` in common with the key, and its next one is lower, if it has so many at all: so every
 // separator whose F is at least `reach` is below the key, without a look at its characters.
 pub(crate) struct Leg {
-    pub p: Place,
+    pub p: PassPlace,
     pub left: usize,
     pub reach: usize,
 }
 
 // Where a section's highest or the entry sought was met, and how many entries are left from it on.
 pub(crate) enum Stop {
-    At { p: Place, left: usize },
+    At { p: PassPlace, left: usize },
     Wrong,
 }
 
 // What the walk over all entries tells: whether they kept the rules, and where the key leads that was sought.
 pub(crate) struct Walked {
     pub ok: bool,
-    pub spot: Spot,
+    pub spot: Lead,
 }
 
 // A sound record with its free intervals and entries, and where the key leads that was sought.
@@ -94,7 +94,7 @@ pub(crate) enum Verdict {
     Sound {
         free: usize,
         entries: usize,
-        spot: Spot,
+        spot: Lead,
     },
     Unsound,
 }
@@ -107,14 +107,14 @@ pub enum Index {
 
 // What a check of an index record answers that seeks a key.
 pub enum Sought {
-    At(Spot),
+    At(Lead),
     Unsound,
 }
 
 // The next entry, whose control information lies right of `edge`. It must not begin left of it, nor must the field before it, if it is the highest of its section;
 // F is at most the length of the separator that it refers to, and the separator that F and L make has at most `key` bytes. F and L are bytes, so their sum may
 // reach 510. The caller tells whether it is the highest: so each of the two ways is compiled by itself, without a choice left in it.
-pub(crate) fn piece_at(ib: &[u8], p: Place, by: Limits, closes: bool) -> Parsed
+pub(crate) fn piece_at(ib: &[u8], p: PassPlace, by: Limits, closes: bool) -> Parsed
     requires { ⌜ (1 ≤ by .width) × (by .width ≤ 4) × (p .right ≤ length (now ib)) × (by .width + 2 ≤ p .right) × (by .edge < 65536) ⌝ }
     requires which { ⌜ closesAt (by .width) p ≡ closes ⌝ }
     ensures { λ x. ⌜ x ≡ parsedOf (now (ib .entry)) p by ⌝ }
@@ -205,7 +205,7 @@ pub(crate) fn ends_low(buf: &[u8], ib: &[u8], s: Step) -> bool
 
 // The next entry, no section's highest, which lies right of the edge, with every rule on its separator: F, the length, the order of the bounds, the last byte. The
 // buffer begins with the separator before it, and afterwards with its own. A wrong entry ends the walk, so that nothing is stored of one.
-pub(crate) fn next_inner(buf: &mut [u8], first: bool, ib: &[u8], p: Place, by: Limits) -> Parsed
+pub(crate) fn next_inner(buf: &mut [u8], first: bool, ib: &[u8], p: PassPlace, by: Limits) -> Parsed
     requires { ⌜ Before (now ib) p by (now buf) × (first ≡ true → p .len ≡ 0) ⌝ }
     requires which { ⌜ closesAt (by .width) p ≡ false ⌝ }
     requires lies { ⌜ by .edge + (by .width + 2 + lengthAt (by .width) (now ib) (p .right)) ≤ p .right ⌝ }
@@ -244,7 +244,7 @@ pub(crate) fn next_top(
     high: &mut [u8],
     first: bool,
     ib: &[u8],
-    p: Place,
+    p: PassPlace,
     by: Limits,
 ) -> Parsed
     requires { ⌜ Before (now ib) p by (now buf) ⌝ }
@@ -270,7 +270,7 @@ pub(crate) fn next_top(
 
 // The same for the one entry that the key leads to, where it is no section's highest. It stands apart from `next_inner`, whose body is then put into the loop that alone calls
 // it: with a call in that loop the walk takes more than twice as long.
-pub(crate) fn next_met(buf: &mut [u8], first: bool, ib: &[u8], p: Place, by: Limits) -> Parsed
+pub(crate) fn next_met(buf: &mut [u8], first: bool, ib: &[u8], p: PassPlace, by: Limits) -> Parsed
     requires { ⌜ Before (now ib) p by (now buf) × (first ≡ true → p .len ≡ 0) ⌝ }
     requires which { ⌜ closesAt (by .width) p ≡ false ⌝ }
     ensures is { λ x. ⌜ ((high : List ℕ) → by .key + 8 ≤ length high → x ≡ entryOf (now (ib .entry)) p by first (now (buf .entry)) high) ⌝ }
@@ -295,7 +295,7 @@ pub(crate) fn next_entry(
     high: &mut [u8],
     first: bool,
     ib: &[u8],
-    p: Place,
+    p: PassPlace,
     by: Limits,
 ) -> Parsed
     requires { ⌜ Before (now ib) p by (now buf) × (first ≡ true → p .len ≡ 0) ⌝ }
@@ -326,13 +326,21 @@ pub(crate) fn reach_of(key: &[u8], front: usize, chars: &[u8]) -> usize
     front + same + 1
 }
 
-// The reach of a key past the next entry, no section's highest, whose F is below the reach before it. Of an entry that is wrong nothing is told: it ends the walk.
-pub(crate) fn look(key: &[u8], ib: &[u8], p: Place, by: Limits, reach: usize) -> usize
+// The reach of a key past the next entry, whose F is below the reach before it; `top` says whether it is its section's
+// highest. Of an entry that is wrong nothing is told: it ends the walk.
+pub(crate) fn look(
+    key: &[u8],
+    ib: &[u8],
+    p: PassPlace,
+    by: Limits,
+    top: bool,
+    reach: usize,
+) -> usize
     requires { ⌜ (1 ≤ by .width) × (by .width ≤ 4) × (p .right ≤ length (now ib)) × (by .width + 2 ≤ p .right) × (by .edge < 65536) × (length (now key) ≡ by .key) ⌝ }
-    requires which { ⌜ closesAt (by .width) p ≡ false ⌝ }
+    requires which { ⌜ closesAt (by .width) p ≡ top ⌝ }
     ensures { λ r. ⌜ r ≡ lookOf (now (ib .entry)) p by (now (key .entry)) reach ⌝ }
 {
-    let Parsed::Of(s) = piece_at(ib, p, by, false) else {
+    let Parsed::Of(s) = piece_at(ib, p, by, top) else {
         return reach;
     };
     let a = s.at;
@@ -342,7 +350,7 @@ pub(crate) fn look(key: &[u8], ib: &[u8], p: Place, by: Limits, reach: usize) ->
 
 // The reach of a key past the entry before which a walk over a section's entries stopped, 0 where the key leads to it. `reach` is that past the highest of the section
 // before, to which F of a section's highest refers; the walk stopped before any other because the key leads to it.
-pub(crate) fn aimed(key: &[u8], ib: &[u8], p: Place, by: Limits, reach: usize) -> usize
+pub(crate) fn aimed(key: &[u8], ib: &[u8], p: PassPlace, by: Limits, reach: usize) -> usize
     requires { ⌜ (1 ≤ by .width) × (by .width ≤ 4) × (p .right ≤ length (now ib)) × (by .width + 2 ≤ p .right) × (by .edge < 65536) × (0 < reach → length (now key) ≡ by .key) ⌝ }
     ensures { λ r. ⌜ r ≡ aimOf (now (ib .entry)) p by (now (key .entry)) reach ⌝ }
 {
@@ -356,12 +364,7 @@ pub(crate) fn aimed(key: &[u8], ib: &[u8], p: Place, by: Limits, reach: usize) -
     if reach <= fields::wide(ib[c]) {
         return reach;
     }
-    let Parsed::Of(s) = piece_at(ib, p, by, true) else {
-        return reach;
-    };
-    let a = s.at;
-    let z = a + s.len;
-    reach_of(key, s.front, &ib[a..z])
+    look(key, ib, p, by, true, reach)
 }
 
 // Where the key's entry is met: the first `len` bytes of buf, at the front of another buffer. Behind them may stand anything.
@@ -376,10 +379,10 @@ pub(crate) fn keep(to: &mut [u8], buf: &[u8], len: usize, meets: bool)
 }
 
 // No entry met yet.
-pub(crate) fn nowhere() -> Spot
-    ensures { λ r. ⌜ r ≡ noSpot ⌝ }
+pub(crate) fn nowhere() -> Lead
+    ensures { λ r. ⌜ r ≡ noLead ⌝ }
 {
-    Spot {
+    Lead {
         ordinal: 0,
         number: 0,
         before: 0,
@@ -454,7 +457,7 @@ pub(crate) fn walk_inner(
             return Stop::Wrong;
         }
         if fields::wide(ib[c]) < reach {
-            reach = look(key, ib, p, by, reach);
+            reach = look(key, ib, p, by, false, reach);
             if reach == 0 {
                 if left == 1 {
                     return Stop::Wrong;
@@ -480,7 +483,7 @@ pub(crate) fn walk_inner(
 }
 
 // Past the last entry: it began at the edge with its section's field, which is zero, and its separator was empty.
-pub(crate) fn ends(ib: &[u8], p: Place, by: Limits) -> bool
+pub(crate) fn ends(ib: &[u8], p: PassPlace, by: Limits) -> bool
     requires { ⌜ by .edge + 2 ≤ length (now ib) ⌝ }
     ensures { λ r. ⌜ r ≡ both (eqb (p .right) (by .edge)) (both (eqb (p .len) 0) (eqb (number 2 (now (ib .entry)) (by .edge)) 0)) ⌝ }
 {
@@ -537,7 +540,7 @@ pub(crate) fn mark_entries(
         p = index_step::past(ib, s, q);
         left = l - 1;
         if meets {
-            spot = Spot {
+            spot = Lead {
                 ordinal: by.count - l,
                 number,
                 before: q.len,
@@ -565,7 +568,7 @@ pub(crate) fn walk(
     requires { ⌜ Walkable (now ib) by (now key) × (0 < by .count) × (length (now before) ≡ 263) × (length (now own) ≡ 263) ⌝ }
     requires free { ⌜ (by .count ≤ by .n) × (24 + by .width * (by .n - by .count) ≤ length (now ib)) ⌝ }
     ensures sound { λ r. ⌜ r .ok ≡ walkedFine by (now (ib .entry)) (marks .seen) ⌝ }
-    ensures found { λ r. ⌜ (0 < length (now (key .entry)) → r .ok ≡ true → FoundBy (by .width) (by .count) (now (ib .entry)) (now (key .entry)) (spotIn r) (now (before .exit)) (now (own .exit))) ⌝ }
+    ensures found { λ r. ⌜ (0 < length (now (key .entry)) → r .ok ≡ true → FoundBy (by .width) (by .count) (now (ib .entry)) (now (key .entry)) (leadIn r) (now (before .exit)) (now (own .exit))) ⌝ }
     ensures counts { λ r. ⌜ (r .free ≡ by .n - by .count) × (r .used ≡ by .count) ⌝ }
 {
     let free = by.n - by.count;
@@ -705,7 +708,7 @@ pub(crate) fn judge(
     if !e.ok {
         return Verdict::Unsound;
     }
-    let spot = Spot {
+    let spot = Lead {
         ordinal: e.ordinal,
         number: e.number,
         before: e.before,
@@ -741,7 +744,7 @@ pub fn seek(ib: &[u8], key: &[u8], n: usize, before: &mut [u8], own: &mut [u8]) 
     requires { ⌜ (31 ≤ length (now ib)) × (length (now ib) ≤ 32768) × (1 ≤ length (now key)) × (length (now key) ≤ 255) × (n ≤ limit) ⌝ }
     requires buffers { ⌜ (255 ≤ length (now before)) × (255 ≤ length (now own)) ⌝ }
     ensures is { λ r. ⌜ Seeks n (now (ib .entry)) (now (key .entry)) (now (before .entry)) (now (own .entry)) r (now (before .exit)) (now (own .exit)) ⌝ }
-    ensures within { λ r. ⌜ SpotWithin n (length (now (key .entry))) r ⌝ }
+    ensures within { λ r. ⌜ LeadWithin n (length (now (key .entry))) r ⌝ }
 {
     let mut low = [0u8; BUFFER];
     let mut high = [0u8; BUFFER];

@@ -21,8 +21,8 @@ use Rattle.index.proofs.Apart.{chars-long}
 use Rattle.sections.specs.Parts.{Part, against, sepOf, highAfter, spellAll, frontsIn, partSize, partsSize}
 use Rattle.sections.specs.Reading.{partsAt}
 use Rattle.index_step.specs.declared.Step.{Step}
-use Rattle.index_step.specs.declared.Place.{Place}
-use Rattle.index_step.specs.AidStep.{frontAt, charsAt, stepAt, placePast, Lies, reach, Renewed, extendedBy, copiedFrom}
+use Rattle.index_step.specs.declared.PassPlace.{PassPlace}
+use Rattle.index_step.specs.AidStep.{frontAt, charsAt, stepAt, placePast, EntryEnds, reach, Renewed, extendedBy, copiedFrom}
 use Rattle.index_step.specs.AidEntries.{Here, partHere, sepHere, entryHere, hereNext, hereAfter, entriesHere, liesHere, readable, Held}
 use Rattle.index_step.proofs.Reaching.{reach-most, extended-chars, extended-length, extended-front}
 
@@ -116,7 +116,7 @@ next-there w ib h inside lies =
 
 -- ---- the code's place and buffers
 
-module _ (w : ℕ) (ib : List ℕ) (h : Here) (p : Place) (buf high : List ℕ) (held : Held h p buf high) (inside : h .right + 7 ≤ length ib) (lies : liesHere w ib h ≡ true) where
+module _ (w : ℕ) (ib : List ℕ) (h : Here) (p : PassPlace) (buf high : List ℕ) (held : Held h p buf high) (inside : h .right + 7 ≤ length ib) (lies : liesHere w ib h ≡ true) where
   abbrev r : ℕ
   r = h .right
 
@@ -124,7 +124,7 @@ module _ (w : ℕ) (ib : List ℕ) (h : Here) (p : Place) (buf high : List ℕ) 
   next = next-there w ib h (omega (arith, inside)) lies
 
   -- for the calls
-  pub held-lies : w ≤ 4 → Lies w ib (p .right)
+  pub held-lies : w ≤ 4 → EntryEnds w ib (p .right)
   held-lies few = rw (held .right) (few, omega (arith, inside), next .room)
 
   pub held-step : (s : Step) → s ≡ stepAt w ib (p .right) (p .end) → s ≡ stepAt w ib (h .right) (h .end)

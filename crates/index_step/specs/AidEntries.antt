@@ -10,7 +10,7 @@ use Rattle.fields.specs.Bytes.{number}
 use Rattle.index.specs.Meaning.{Entry, entry}
 use Rattle.index.specs.Reading.{sectionAt, pieceAt}
 use Rattle.sections.specs.Parts.{Part, against, sepOf, highAfter, partSize}
-use Rattle.index_step.specs.declared.Place.{Place}
+use Rattle.index_step.specs.declared.PassPlace.{PassPlace}
 
 -- Before an entry: it ends at place `right`, the control information of its section's highest lies at `end`; the highest of the section before, and the
 -- separator before.
@@ -64,7 +64,7 @@ readable w ib h zero = true
 readable w ib h (suc k) = both (liesHere w ib h) (readable w ib (hereNext w ib h) k)
 
 -- A pass stands there: its place says where, and two buffers begin with the separator before and with the highest of the section before.
-pub record Held (h : Here) (p : Place) (buf high : List ℕ) : Type 0 where
+pub record Held (h : Here) (p : PassPlace) (buf high : List ℕ) : Type 0 where
   pub right : p .right ≡ h .right
   pub end : p .end ≡ h .end
   pub ref : take (p .len) buf ≡ h .ref

@@ -8,10 +8,10 @@ use Rattle.fields.specs.Choice.{pick}
 use Rattle.fields.specs.Bytes.{number, part, splice}
 use Rattle.index.specs.Reading.{sectionAt, lengthAt}
 use Rattle.index_step.specs.declared.Step.{Step}
-use Rattle.index_step.specs.declared.Place.{Place}
+use Rattle.index_step.specs.declared.PassPlace.{PassPlace}
 
 -- before the first entry
-abbrev pub placeStart : List ℕ → Place
+abbrev pub placeStart : List ℕ → PassPlace
 placeStart ib = record { right = length ib - 7; end = sectionAt ib; len = 0; high = 0 }
 
 -- F of the entry that ends at place r
@@ -28,14 +28,14 @@ stepAt w ib r end =
     record { front = frontAt w ib r; len = lengthAt w ib r; at = charsAt w ib r; number = number w ib (r - w); closes = eqb (r - (w + 2)) end }
 
 -- where a pass stands past it
-abbrev pub placePast : List ℕ → Step → Place → Place
+abbrev pub placePast : List ℕ → Step → PassPlace → PassPlace
 placePast ib s p =
     pick (s .closes) (record { right = s .at - 2; end = p .end - number 2 ib (s .at - 2); len = s .front + s .len; high = s .front + s .len })
     (record { right = s .at; end = p .end; len = s .front + s .len; high = p .high })
 
 -- an entry ends at place r, within the record
-abbrev pub Lies : ℕ → List ℕ → ℕ → Type 0
-Lies w ib r = (w ≤ 4) × (r ≤ length ib) × (w + 2 + lengthAt w ib r ≤ r)
+abbrev pub EntryEnds : ℕ → List ℕ → ℕ → Type 0
+EntryEnds w ib r = (w ≤ 4) × (r ≤ length ib) × (w + 2 + lengthAt w ib r ≤ r)
 
 -- the separator that F bytes of the one before, which buf begins with, and the characters at a place make
 abbrev pub joinedOf : ℕ → List ℕ → List ℕ → ℕ → ℕ → List ℕ

@@ -5,7 +5,7 @@ ghost use lib.ListN.{length};
 ghost use Rattle.fields.specs.Choice.{pick};
 ghost use Rattle.fields.specs.Bytes.{part, splice};
 ghost use Rattle.index.specs.Reading.{unusedAt, freeCount};
-ghost use Rattle.index_step.specs.AidStep.{placeStart, stepAt, placePast, Lies, reach, Renewed};
+ghost use Rattle.index_step.specs.AidStep.{placeStart, stepAt, placePast, EntryEnds, reach, Renewed};
 
 // How many numbers of w bytes stand free, by the displacement to the unused space.
 pub fn free_count(ib: &[u8], w: usize) -> usize
@@ -20,7 +20,7 @@ pub const BUFFER: usize = 263;
 
 // Where a pass stands: the next entry ends at `right`; the control information of its section's highest lies at `end`. The separator before it
 // are the first `len` bytes of one buffer, the highest of the section before the first `high` bytes of another.
-pub struct Place {
+pub struct PassPlace {
     pub right: usize,
     pub end: usize,
     pub len: usize,
@@ -37,11 +37,11 @@ pub struct Step {
 }
 
 // Before the first entry: it ends seven bytes before the record's end, and no separator is before it.
-pub fn start(ib: &[u8]) -> Place
+pub fn start(ib: &[u8]) -> PassPlace
     requires { ⌜ 24 ≤ length (now ib) ⌝ }
     ensures { λ r. ⌜ r ≡ placeStart (now (ib .entry)) ⌝ }
 {
-    Place {
+    PassPlace {
         right: ib.len() - 7,
         end: fields::read_two(ib, 22),
         len: 0,
@@ -50,8 +50,8 @@ pub fn start(ib: &[u8]) -> Place
 }
 
 // The next entry, with a pointer of w bytes.
-pub fn entry_at(ib: &[u8], w: usize, p: Place) -> Step
-    requires { ⌜ Lies w (now ib) (p .right) ⌝ }
+pub fn entry_at(ib: &[u8], w: usize, p: PassPlace) -> Step
+    requires { ⌜ EntryEnds w (now ib) (p .right) ⌝ }
     ensures is { λ x. ⌜ x ≡ stepAt w (now (ib .entry)) (p .right) (p .end) ⌝ }
     ensures small { λ x. ⌜ (x .front < 256) × (x .len < 256) ⌝ }
 {
@@ -77,13 +77,13 @@ pub(crate) fn less(a: usize, b: usize) -> usize
 
 // Where the pass stands past an entry. Before a section's highest stands the field that leads to the next one's; a field that leads out of the record leads to
 // its first byte, where no entry is.
-pub fn past(ib: &[u8], s: Step, p: Place) -> Place
+pub fn past(ib: &[u8], s: Step, p: PassPlace) -> PassPlace
     requires { ⌜ (s .front + s .len ≤ 510) × (s .at ≤ length (now ib)) × (pick (s .closes) 2 0 ≤ s .at) ⌝ }
     ensures { λ r. ⌜ r ≡ placePast (now (ib .entry)) s p ⌝ }
 {
     let len = s.front + s.len;
     if !s.closes {
-        return Place {
+        return PassPlace {
             right: s.at,
             end: p.end,
             len,
@@ -91,7 +91,7 @@ pub fn past(ib: &[u8], s: Step, p: Place) -> Place
         };
     }
     let right = s.at - 2;
-    Place {
+    PassPlace {
         right,
         end: less(p.end, fields::read_two(ib, right)),
         len,

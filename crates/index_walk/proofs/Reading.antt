@@ -9,8 +9,8 @@ use borrow.Author.Tests.{lt-ltb, le-ltb, eq-eqb, ne-eqb}
 use Rattle.fields.specs.Choice.{pick}
 use Rattle.index.specs.Reading.{sectionAt, lastAt, lengthAt}
 use Rattle.index_step.specs.declared.Step.{Step}
-use Rattle.index_step.specs.declared.Place.{Place}
-use Rattle.index_step.specs.AidStep.{stepAt, placePast, Lies}
+use Rattle.index_step.specs.declared.PassPlace.{PassPlace}
+use Rattle.index_step.specs.AidStep.{stepAt, placePast, EntryEnds}
 use Rattle.index_walk.specs.declared.Edge.{Edge}
 use Rattle.index_walk.specs.declared.Met.the-variants.{Entry, Nothing}
 use Rattle.index_walk.specs.AidPasses.{edge, edgeFirst, placeOf, edgeOf, passOf}
@@ -68,14 +68,14 @@ module _ (w : ℕ) (ib : List ℕ) (e : Edge) where
 
     module _ (f : l + field ≤ e .right - (w + 2)) where
       -- for the calls
-      pub pass-lies : Lies w ib (e .right)
+      pub pass-lies : EntryEnds w ib (e .right)
       pass-lies = (h, i, omega (arith, f, long, j))
 
       pub pass-room : (s : Step) → s ≡ stepAt w ib (e .right) (e .end) → s .front < 256 → s .len < 256
           → (s .front + s .len ≤ 510) × (s .at ≤ length ib) × (pick (s .closes) 2 0 ≤ s .at)
       pass-room s is a b = (omega arith, rw is (omega (arith, i)), rw is (omega (arith, f, long, has, j)))
 
-      pub pass-is : (s : Step) → s ≡ stepAt w ib (e .right) (e .end) → (q : Place) → q ≡ placePast ib s (placeOf e) → (x : ℕ) → x ≡ lastAt ib
+      pub pass-is : (s : Step) → s ≡ stepAt w ib (e .right) (e .end) → (q : PassPlace) → q ≡ placePast ib s (placeOf e) → (x : ℕ) → x ≡ lastAt ib
           → Entry (s .number) (edgeOf q) (eqb (e .right - (w + 2)) x) ≡ passOf w ib e
       unfolding passOf
       pass-is s is q past x last =

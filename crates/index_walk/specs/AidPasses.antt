@@ -6,7 +6,7 @@ use lib.Dec.{eqb, ltb}
 use Rattle.fields.specs.Choice.{pick, either}
 use Rattle.fields.specs.Bytes.{number}
 use Rattle.index.specs.Reading.{sectionAt, lastAt, lengthAt}
-use Rattle.index_step.specs.declared.Place.{Place}
+use Rattle.index_step.specs.declared.PassPlace.{PassPlace}
 use Rattle.index_step.specs.AidStep.{stepAt, placePast}
 use Rattle.index_walk.specs.declared.Edge.{Edge}
 use Rattle.index_walk.specs.declared.Met.{Met}
@@ -19,10 +19,10 @@ abbrev pub edgeFirst : List ℕ → Edge
 edgeFirst ib = pick (ltb (length ib) 24) (edge 0 0) (edge (length ib - 7) (sectionAt ib))
 
 -- a pass that stands there, with no separator at hand
-abbrev pub placeOf : Edge → Place
+abbrev pub placeOf : Edge → PassPlace
 placeOf e = record { right = e .right; end = e .end; len = 0; high = 0 }
 
-abbrev pub edgeOf : Place → Edge
+abbrev pub edgeOf : PassPlace → Edge
 edgeOf p = edge (p .right) (p .end)
 
 -- past the entry that ends there: where its control information, its characters and its section's field lie in the record

@@ -2,7 +2,7 @@
 // meet its entries, of other bytes they give what their definition says, and look at nothing outside the record.
 ghost use mathlib.Core.Path.{_≡_};
 ghost use Rattle.index_walk.specs.AidPasses.{passOf, edgeFirst};
-use index_step::Place;
+use index_step::PassPlace;
 
 // Where the next entry ends, and where the control information of its section's highest lies.
 pub struct Edge {
@@ -47,7 +47,7 @@ pub fn pass(ib: &[u8], w: usize, e: Edge) -> Met
     if control < l + field {
         return Met::Nothing;
     }
-    let p = Place {
+    let p = PassPlace {
         right: r,
         end: e.end,
         len: 0,

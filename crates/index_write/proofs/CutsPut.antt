@@ -13,7 +13,7 @@ use Rattle.index_pen.specs.declared.Pen.{Pen}
 use Rattle.index_pen.specs.AidPen.{Puts, partAt, penOn, topOn, bytesOn}
 use Rattle.index_write.specs.declared.Cuts.{Cuts}
 use Rattle.index_write.specs.declared.Division.{Division}
-use Rattle.index_write.specs.AidStream.{CutsLie, firstCut, secondCut, cutEntries, Draft, draftPut, draftAll, draftOf, Drawn, Fitting, Cuttable}
+use Rattle.index_write.specs.AidStream.{CutsLie, firstCut, secondCut, cutEntries, Draft, draftPut, draftAll, draftOf, Drawn, Puttable, Cuttable}
 use Rattle.index_write.proofs.Drafting.{draft-puts, draft-room, draft-on, draft-fits, ref-put}
 
 -- the separators of the cuts are short
@@ -64,9 +64,9 @@ module _ (b : List ℕ) (pen : Pen) (top prev bytes : List ℕ) (d : Division) (
 
     -- the second
     module _ (h : d .cuts .three ≡ true) where
-      fits : Fitting (draftPut (draftOf b pen top prev) (entry (firstCut (d .cuts) bytes) (d .number))) (entry (secondCut (d .cuts) bytes) (d .taken) ∷ [])
+      fits : Puttable (draftPut (draftOf b pen top prev) (entry (firstCut (d .cuts) bytes) (d .number))) (entry (secondCut (d .cuts) bytes) (d .taken) ∷ [])
       fits =
-          subst (λ (t : Bool). Fitting y (others t)) h
+          subst (λ (t : Bool). Puttable y (others t)) h
           (draft-fits x b pen top (can .drawn) (common prev first) first (d .number) (others (d .cuts .three)) refl (first-short (d .cuts) bytes (can .lie)) (can .fitting))
 
       is : common (firstCut (d .cuts) bytes) (secondCut (d .cuts) bytes)

@@ -44,7 +44,7 @@ use Rattle.index_write.specs.declared.Cuts.{Cuts}
 use Rattle.index_write.specs.declared.Job.{Job}
 use Rattle.index_write.specs.declared.LastCut.{LastCut}
 use Rattle.index_write.specs.declared.Cursor.{Cursor}
-use Rattle.index_write.specs.AidStream.{firstCut, secondCut, cutsIn, lastOf, CutsLie, FreeLie, cutEntries, Draft, draftPut, draftAll, draftOf, Drawn, Fitting, hereOf, draftHere, Stands, Ran, Cuttable}
+use Rattle.index_write.specs.AidStream.{firstCut, secondCut, cutsIn, lastOf, CutsLie, FreeLie, cutEntries, Draft, draftPut, draftAll, draftOf, Drawn, Puttable, hereOf, draftHere, CursorStands, Ran, Cuttable}
 use Rattle.index_write.specs.AidDivided.{Divisible, newRecord, newEntries, newSize, AllFit, AllPut}
 use Rattle.index_write.proofs.Drafting.{Short, draft-append, draft-ref, draft-size, fitting-first, fitting-second, drawn-self, draft-holds}
 

@@ -23,7 +23,7 @@ use Rattle.index_pen.proofs.Keeping.{Alike, moves, kept-part, kept-on}
 use Rattle.index_pen.proofs.Fielding.{size-append}
 use Rattle.index_pen.proofs.Drawing.{drawn-append}
 use Rattle.index_pen.proofs.Holding.{puts-there, penned-on, bytes-long, holds-on, holds-long}
-use Rattle.index_write.specs.AidStream.{Draft, draftPut, draftAll, draftOf, Drawn, Fitting}
+use Rattle.index_write.specs.AidStream.{Draft, draftPut, draftAll, draftOf, Drawn, Puttable}
 
 -- ---- equals for equals
 
@@ -47,7 +47,7 @@ part-most w s e h k = go (eqb (s .left) 1)
 -- ---- one entry
 
 module _ (x : Draft) (b : List ℕ) (pen : Pen) (top : List ℕ) (d : Drawn x b pen top) (front : ℕ) (sep : List ℕ) (num : ℕ) (es : List Entry)
-    (is : front ≡ common (x .reached .ref) sep) (short : length sep ≤ 255) (fit : Fitting x (entry sep num ∷ es)) where
+    (is : front ≡ common (x .reached .ref) sep) (short : length sep ≤ 255) (fit : Puttable x (entry sep num ∷ es)) where
   abbrev s : Reached
   s = x .reached
 
@@ -117,7 +117,7 @@ module _ (x : Draft) (b : List ℕ) (pen : Pen) (top : List ℕ) (d : Drawn x b 
   long-on =
       ap length (sym (same-bytes (d .bytes-are) (d .pen-is) part-is)) ∙ bytes-long b pen (d .penned) sep p (d .few) short one-more small room ∙ ap length (d .bytes-are)
 
-  pub draft-fits : Fitting (draftPut x (entry sep num)) es
+  pub draft-fits : Puttable (draftPut x (entry sep num)) es
   draft-fits =
       let a : Alike (draftPut x e .pen) (penMoved (x .pen) (partNext s e)) = moves (length (x .bytes) - 7) (x .pen) (partNext s e) in
       record {
@@ -188,7 +188,7 @@ sizes-most w c s (e ∷ es) h k =
     omega (arith, part-most w s e h (leb-true _ _ (t .0)), sizes-most w c (reachedNext c s e) es h (t .1))
 
 -- What can be put as a whole can be put in two.
-pub fitting-first : (x : Draft) (es fs : List Entry) → Fitting x (es ++ fs) → Fitting x es
+pub fitting-first : (x : Draft) (es fs : List Entry) → Puttable x (es ++ fs) → Puttable x es
 fitting-first x es fs f =
     let l : length (es ++ fs) ≡ length es + length fs = length-append es fs in
     let z : partsSize (x .pen .width) (partsBy (x .pen .most) (x .reached) (es ++ fs))
@@ -201,7 +201,7 @@ fitting-first x es fs f =
       room = λ (h : 7 < length (x .bytes)). omega (arith, f .room h, z);
     }
 
-pub fitting-second : (x : Draft) (b : List ℕ) (pen : Pen) (top : List ℕ) (es fs : List Entry) → Drawn x b pen top → Short es → Fitting x (es ++ fs) → Fitting (draftAll x es) fs
+pub fitting-second : (x : Draft) (b : List ℕ) (pen : Pen) (top : List ℕ) (es fs : List Entry) → Drawn x b pen top → Short es → Puttable x (es ++ fs) → Puttable (draftAll x es) fs
 unfolding draftAll every
 fitting-second x b pen top [] fs d s f = f
 fitting-second x b pen top (e ∷ es) fs d s f =

@@ -18,9 +18,9 @@ use Rattle.index.proofs.Apart.{length-numbersAt}
 use Rattle.sections.specs.Parts.{Part, partsSize}
 use Rattle.sections.specs.Form.{sectionFor, packedAll}
 use Rattle.sections.proofs.Roots.{root-some}
-use Rattle.index_step.specs.declared.Place.{Place}
+use Rattle.index_step.specs.declared.PassPlace.{PassPlace}
 use Rattle.index_step.specs.declared.Step.{Step}
-use Rattle.index_step.specs.AidStep.{placeStart, stepAt, placePast, Lies, reach, Renewed}
+use Rattle.index_step.specs.AidStep.{placeStart, stepAt, placePast, EntryEnds, reach, Renewed}
 use Rattle.index_step.specs.AidEntries.{Here, hereFirst, sepHere, entryHere, hereNext, hereAfter, entriesHere, Held}
 use Rattle.index_step.proofs.Passing.{after-ref, held-lies, held-step, step-few, step-long, step-past, step-renews, held-on, held-front}
 use Rattle.index_step.proofs.Stepping.{held-start}
@@ -33,7 +33,7 @@ use Rattle.index_pen.proofs.Holding.{holds-none}
 use Rattle.index_write.specs.declared.Cuts.{Cuts}
 use Rattle.index_write.specs.declared.Division.{Division}
 use Rattle.index_write.specs.declared.Cursor.{Cursor}
-use Rattle.index_write.specs.AidStream.{firstCut, secondCut, cutsIn, CutsLie, FreeLie, cutEntries, Draft, draftPut, draftAll, draftOf, Drawn, Fitting, hereOf, draftHere, Stands, Ran, Cuttable}
+use Rattle.index_write.specs.AidStream.{firstCut, secondCut, cutsIn, CutsLie, FreeLie, cutEntries, Draft, draftPut, draftAll, draftOf, Drawn, Puttable, hereOf, draftHere, CursorStands, Ran, Cuttable}
 use Rattle.index_write.specs.AidDivided.{Divisible, newRecord, newEntries, newSize, AllFit, AllPut}
 use Rattle.index_write.proofs.Drafting.{Short, draft-puts, draft-room, draft-on, draft-fits, ref-put, draft-append, draft-ref, draft-size, width-put, width-all, fitting-first, fitting-second, sizes-most, drawn-self, draft-holds}
 use Rattle.index_write.proofs.Dividing.{freeFrom, free-lies, free-enough, free-few, there, reads-at, reads-first, new-entries, new-many, many-few, inside-at, inside-past, pre-short, first-short, new-short}
@@ -41,7 +41,7 @@ use Rattle.index_write.proofs.Dividing.{freeFrom, free-lies, free-enoug
 -- ---- the code's state and what it stands for
 
 -- where a pass stands, as the code has it
-pub held-self : (h : Here) (p : Place) (buf high : List ℕ) → Held h p buf high → hereOf p buf high ≡ h
+pub held-self : (h : Here) (p : PassPlace) (buf high : List ℕ) → Held h p buf high → hereOf p buf high ≡ h
 held-self h p buf high k = same (k .right) (k .end) (k .top) (k .ref)
   where
     same : {r r' e e' : ℕ} {g g' f f' : List ℕ} → r ≡ r' → e ≡ e' → g ≡ g' → f ≡ f'
@@ -53,13 +53,13 @@ abbrev pub cursorFirst : ℕ → ℕ → Cuts → List ℕ → List ℕ → Curs
 cursorFirst n i u bytes ib =
     record { place = placeStart ib; pen = penBegun (widthFor n) (n - freeCount (widthFor n) ib + length (cutsIn u bytes)); count = i }
 
-pub begins-as : (n i : ℕ) (u : Cuts) (bytes ib : List ℕ) (p : Place) (pen : Pen) (v old many : ℕ) → p ≡ placeStart ib → pen ≡ penBegun v (old + many)
+pub begins-as : (n i : ℕ) (u : Cuts) (bytes ib : List ℕ) (p : PassPlace) (pen : Pen) (v old many : ℕ) → p ≡ placeStart ib → pen ≡ penBegun v (old + many)
     → v ≡ widthFor n → old ≡ n - freeCount (widthFor n) ib → many ≡ length (cutsIn u bytes)
     → _≡_ {A = Cursor} (record { place = p; pen = pen; count = i }) (cursorFirst n i u bytes ib)
 begins-as n i u bytes ib p pen v old many p-is pen-is v-is old-is many-is = rw (p-is, pen-is, v-is, old-is, many-is)
 
 -- a cursor past the divided entry
-pub goes-on-as : (n i : ℕ) (ib : List ℕ) (q : Place) (pen : Pen) (old : ℕ) → old ≡ n - freeCount (widthFor n) ib
+pub goes-on-as : (n i : ℕ) (ib : List ℕ) (q : PassPlace) (pen : Pen) (old : ℕ) → old ≡ n - freeCount (widthFor n) ib
     → _≡_ {A = Cursor} (record { place = q; pen = pen; count = old - (i + 1) }) (record { place = q; pen = pen; count = n - freeCount (widthFor n) ib - (i + 1) })
 goes-on-as n i ib q pen old old-is = rw old-is
 
@@ -82,7 +82,7 @@ takes-as n i u bytes ib given v j v-is h =
     rw v-is (width-some n, width-most n, omega (arith, h, free-enough n i u bytes ib given), free-lies n i u bytes ib given)
 
 -- the entry that was taken apart, by the width that was told
-pub step-as : (n : ℕ) (ib : List ℕ) (p : Place) (v : ℕ) (s : Step) → s ≡ stepAt v ib (p .right) (p .end) → v ≡ widthFor n → s ≡ stepAt (widthFor n) ib (p .right) (p .end)
+pub step-as : (n : ℕ) (ib : List ℕ) (p : PassPlace) (v : ℕ) (s : Step) → s ≡ stepAt v ib (p .right) (p .end) → v ≡ widthFor n → s ≡ stepAt (widthFor n) ib (p .right) (p .end)
 step-as n ib p v s s-is v-is = s-is ∙ rw v-is
 
 -- ---- the stages
@@ -147,7 +147,7 @@ module _ (n i : ℕ) (u : Cuts) (bytes ib b : List ℕ) (given : Divisible n i (
       let q : length new ≡ count = new-many n i u bytes ib given in
       sym (packed-drawn new ∙ ap (λ (c : ℕ). partsBy (sectionFor c) (standing (sectionFor c) [] [] c) new) q)
 
-  all-fit : Fitting x0 new
+  all-fit : Puttable x0 new
   all-fit =
       record {
         more = omega (arith, new-many n i u bytes ib given);
@@ -155,7 +155,7 @@ module _ (n i : ℕ) (u : Cuts) (bytes ib b : List ℕ) (given : Divisible n i (
         room = λ (h : 7 < length b). omega (arith, fit h .0, ap (λ (ps : List Part). partsSize w ps) drawn-all);
       }
 
-  fit-0 : Fitting x0 (pre ++ (first ++ (own ∷ post)))
+  fit-0 : Puttable x0 (pre ++ (first ++ (own ∷ post)))
   fit-0 = rw (new-entries n i u bytes ib given) at all-fit
 
   begun : (top : List ℕ) → 263 ≤ length top → Drawn x0 b (penBegun w count) top
@@ -180,7 +180,7 @@ module _ (n i : ℕ) (u : Cuts) (bytes ib b : List ℕ) (given : Divisible n i (
 
   module _ (a : Cursor) (a-is : a ≡ record { place = placeStart ib; pen = penBegun (widthFor n) count; count = i }) (buf high top : List ℕ)
       (whole : 263 ≤ length buf) (whole' : 263 ≤ length high) (whole'' : 263 ≤ length top) where
-    pub first-stands : Stands ib a b buf high top
+    pub first-stands : CursorStands ib a b buf high top
     first-stands =
         rw a-is
         (record {
@@ -201,7 +201,7 @@ module _ (n i : ℕ) (u : Cuts) (bytes ib b : List ℕ) (given : Divisible n i (
       drawn-1 : Drawn x1 b1 (c .pen) top1
       drawn-1 = ran-is .drawn
 
-      fit-1 : Fitting x1 (first ++ (own ∷ post))
+      fit-1 : Puttable x1 (first ++ (own ∷ post))
       fit-1 = fitting-second x0 b (penBegun w count) top pre (first ++ (own ∷ post)) (begun top whole'') (pre-short n i u bytes ib given) fit-0
 
       ref-1 : take (c .place .len) buf1 ≡ x1 .reached .ref
@@ -215,7 +215,7 @@ module _ (n i : ℕ) (u : Cuts) (bytes ib b : List ℕ) (given : Divisible n i (
 
       -- ---- the divided entry
 
-      pub at-lies : Lies (widthFor n) ib (c .place .right)
+      pub at-lies : EntryEnds (widthFor n) ib (c .place .right)
       at-lies = held-lies w ib at (c .place) buf1 high1 held-1 (inside-at n i u bytes ib given) (reads-at n i u bytes ib given .0) (width-most n)
 
       module _ (s : Step) (s-is : s ≡ stepAt (widthFor n) ib (c .place .right) (c .place .end)) where
@@ -248,7 +248,7 @@ module _ (n i : ℕ) (u : Cuts) (bytes ib b : List ℕ) (given : Divisible n i (
             drawn-2 : Drawn x2 b2 pen2 top2
             drawn-2 = rw (self-1, first-is) at put
 
-            fit-2 : Fitting x2 (own ∷ post)
+            fit-2 : Puttable x2 (own ∷ post)
             fit-2 = fitting-second x1 b1 (c .pen) top1 first (own ∷ post) drawn-1 (first-short n i u bytes ib given lie) fit-1
 
             -- the last cut's separator
@@ -267,7 +267,7 @@ module _ (n i : ℕ) (u : Cuts) (bytes ib b : List ℕ) (given : Divisible n i (
 
             -- ---- its own separator
 
-            module _ (buf2 high2 : List ℕ) (renewed : Renewed ib s buf1 high1 buf2 high2) (q : Place) (q-is : q ≡ placePast ib s (c .place)) where
+            module _ (buf2 high2 : List ℕ) (renewed : Renewed ib s buf1 high1 buf2 high2) (q : PassPlace) (q-is : q ≡ placePast ib s (c .place)) where
               held-2 : Held past q buf2 high2
               held-2 = rw q-is (held-on w ib at (c .place) buf1 high1 held-1 (inside-at n i u bytes ib given) (reads-at n i u bytes ib given .0) s is buf2 high2 renewed)
 
@@ -284,7 +284,7 @@ module _ (n i : ℕ) (u : Cuts) (bytes ib b : List ℕ) (given : Divisible n i (
                 front-is : common prev (e .sep) ≡ common (x2 .reached .ref) (e .sep)
                 front-is = ap (λ (y : List ℕ). common y (e .sep)) (prev-is ∙ sym ref-2)
 
-                fit-own : Fitting x2 (entry (e .sep) number ∷ post)
+                fit-own : Puttable x2 (entry (e .sep) number ∷ post)
                 fit-own = rw number-is fit-2
 
                 pub own-puts : Puts b2 pen2 (take (q .len) buf2) (partAt pen2 top2 (common prev (take (q .len) buf2)) (take (q .len) buf2) number)
@@ -303,9 +303,9 @@ module _ (n i : ℕ) (u : Cuts) (bytes ib b : List ℕ) (given : Divisible n i (
                       (draft-on x2 b2 pen2 top2 drawn-2 (common prev (e .sep)) (e .sep) number post front-is sep-short fit-own pen3 top3 b3
                       (rw sep-is at pen-is) (rw sep-is at top-is) (rw sep-is at b-is))
 
-                  fit-3 : Fitting x3 post
+                  fit-3 : Puttable x3 post
                   fit-3 =
-                      subst (λ (m : ℕ). Fitting (draftPut x2 (entry (e .sep) m)) post) number-is
+                      subst (λ (m : ℕ). Puttable (draftPut x2 (entry (e .sep) m)) post) number-is
                       (draft-fits x2 b2 pen2 top2 drawn-2 (common prev (e .sep)) (e .sep) number post front-is sep-short fit-own)
 
                   self-3 : draftOf b3 pen3 top3 (take (q .len) buf2) ≡ x3
@@ -320,7 +320,7 @@ module _ (n i : ℕ) (u : Cuts) (bytes ib b : List ℕ) (given : Divisible n i (
                   -- ---- the pass after it
 
                   module _ (z : Cursor) (z-is : z ≡ record { place = q; pen = pen3; count = k }) where
-                    pub last-stands : Stands ib z b3 buf2 high2 top3
+                    pub last-stands : CursorStands ib z b3 buf2 high2 top3
                     last-stands =
                         rw z-is
                         (record {

@@ -9,20 +9,20 @@ use Rattle.fields.specs.Choice.{pick}
 use Rattle.fields.specs.Order.{common}
 use Rattle.fields.proofs.Choices.{both-split}
 use Rattle.index.specs.Meaning.{Entry, entry}
-use Rattle.index_step.specs.declared.Place.{Place}
+use Rattle.index_step.specs.declared.PassPlace.{PassPlace}
 use Rattle.index_step.specs.declared.Step.{Step}
-use Rattle.index_step.specs.AidStep.{stepAt, placePast, Lies, reach, Renewed}
+use Rattle.index_step.specs.AidStep.{stepAt, placePast, EntryEnds, reach, Renewed}
 use Rattle.index_step.specs.AidEntries.{Here, partHere, sepHere, entryHere, hereNext, hereAfter, entriesHere, liesHere, readable, Held}
 use Rattle.index_step.proofs.Passing.{held-lies, held-step, step-few, step-long, step-past, step-renews, step-inner, held-on, held-front, held-joined}
 use Rattle.index_pen.specs.declared.Pen.{Pen}
 use Rattle.index_pen.specs.AidPen.{Puts, partAt, penOn, topOn, bytesOn}
 use Rattle.index_pen.proofs.Keeping.{moves}
 use Rattle.index_write.specs.declared.Cursor.{Cursor}
-use Rattle.index_write.specs.AidStream.{renewedBy, Draft, draftPut, draftAll, Drawn, Fitting, hereOf, draftHere, Stands}
+use Rattle.index_write.specs.AidStream.{renewedBy, Draft, draftPut, draftAll, Drawn, Puttable, hereOf, draftHere, CursorStands}
 use Rattle.index_write.proofs.Drafting.{draft-puts, draft-room, draft-on, draft-fits, ref-put}
 
 -- Before `left` old entries that can be read and put: what was put is a draft, and from here on comes what comes from the start on.
-pub record Going (w : ℕ) (ib : List ℕ) (c : Cursor) (b₀ buf₀ high₀ top₀ : List ℕ) (p : Place) (pen : Pen) (left : ℕ) (b buf high top : List ℕ) : Type 0 where
+pub record Going (w : ℕ) (ib : List ℕ) (c : Cursor) (b₀ buf₀ high₀ top₀ : List ℕ) (p : PassPlace) (pen : Pen) (left : ℕ) (b buf high top : List ℕ) : Type 0 where
   pub here : Here
   pub draft : Draft
   pub held : Held here p buf high
@@ -31,11 +31,11 @@ pub record Going (w : ℕ) (ib : List ℕ) (c : Cursor) (b₀ buf₀ high₀ top
   pub ref : draft .reached .ref ≡ here .ref
   pub width : pen .width ≡ w
   pub reads : readable w ib here left ≡ true
-  pub fitting : Fitting draft (entriesHere w ib here left)
+  pub fitting : Puttable draft (entriesHere w ib here left)
   pub after : hereAfter w ib (hereOf (c .place) buf₀ high₀) (c .count) ≡ hereAfter w ib here left
   pub all : draftAll (draftHere c b₀ buf₀ top₀) (entriesHere w ib (hereOf (c .place) buf₀ high₀) (c .count)) ≡ draftAll draft (entriesHere w ib here left)
 
-pub going-start : (ib : List ℕ) (c : Cursor) (b buf high top : List ℕ) → Stands ib c b buf high top
+pub going-start : (ib : List ℕ) (c : Cursor) (b buf high top : List ℕ) → CursorStands ib c b buf high top
     → Going (c .pen .width) ib c b buf high top (c .place) (c .pen) (c .count) b buf high top
 going-start ib c b buf high top s =
     record {
@@ -52,7 +52,7 @@ going-start ib c b buf high top s =
       all = refl;
     }
 
-module _ {w : ℕ} {ib : List ℕ} {c : Cursor} {b₀ buf₀ high₀ top₀ : List ℕ} {p : Place} {pen : Pen} {left : ℕ} {b buf high top : List ℕ}
+module _ {w : ℕ} {ib : List ℕ} {c : Cursor} {b₀ buf₀ high₀ top₀ : List ℕ} {p : PassPlace} {pen : Pen} {left : ℕ} {b buf high top : List ℕ}
     (g : Going w ib c b₀ buf₀ high₀ top₀ p pen left b buf high top) where
   abbrev h : Here
   h = g .here
@@ -89,11 +89,11 @@ module _ {w : ℕ} {ib : List ℕ} {c : Cursor} {b₀ buf₀ high₀ top₀ : Li
     unfolding entriesHere
     entries-two = ap (λ (k : ℕ). entriesHere w ib h k) left-is
 
-    fitting-two : Fitting x (entry sep num ∷ entriesHere w ib (hereNext w ib h) (left - 1))
+    fitting-two : Puttable x (entry sep num ∷ entriesHere w ib (hereNext w ib h) (left - 1))
     fitting-two = rw entries-two at (g .fitting)
 
     -- for the calls
-    pub going-lies : Lies w ib (p .right)
+    pub going-lies : EntryEnds w ib (p .right)
     going-lies = held-lies w ib h p buf high (g .held) (g .inside) (reads-two .0) (rw (g .width) at (g .drawn .few))
 
     module _ (s : Step) (e : s ≡ stepAt w ib (p .right) (p .end)) where
@@ -142,7 +142,7 @@ module _ {w : ℕ} {ib : List ℕ} {c : Cursor} {b₀ buf₀ high₀ top₀ : Li
 
         pub going-on : (pen' : Pen) (top' b' : List ℕ) → pen' ≡ penOn (length b - 7) pen (partAt pen top f (take (s .front + s .len) buf') (s .number))
             → top' ≡ topOn pen (take (s .front + s .len) buf') top → b' ≡ bytesOn b pen (partAt pen top f (take (s .front + s .len) buf') (s .number))
-            → (q : Place) → q ≡ placePast ib s p → Going w ib c b₀ buf₀ high₀ top₀ q pen' (left - 1) b' buf' high' top'
+            → (q : PassPlace) → q ≡ placePast ib s p → Going w ib c b₀ buf₀ high₀ top₀ q pen' (left - 1) b' buf' high' top'
         unfolding hereAfter draftAll
         going-on pen' top' b' pen-is top-is b-is q q-is =
             let on : Drawn (draftPut x (entry sep num)) b' pen' top' =

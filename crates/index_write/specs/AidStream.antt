@@ -12,7 +12,7 @@ use Rattle.index.specs.Meaning.{Entry, entry}
 use Rattle.index.specs.Reading.{unusedAt, freeCount}
 use Rattle.index.specs.Divided.{cuts}
 use Rattle.sections.specs.Parts.{partsSize}
-use Rattle.index_step.specs.declared.Place.{Place}
+use Rattle.index_step.specs.declared.PassPlace.{PassPlace}
 use Rattle.index_step.specs.declared.Step.{Step}
 use Rattle.index_step.specs.AidStep.{joinedOf}
 use Rattle.index_step.specs.AidEntries.{Here, hereAfter, entriesHere, readable, Held}
@@ -104,7 +104,7 @@ pub record Drawn (x : Draft) (b : List ℕ) (pen : Pen) (top : List ℕ) : Type 
   pub going : 1 ≤ pen .rest → 1 ≤ pen .left
 
 -- these entries can be put: so many are to come, the size can grow, and they have room where they are stored
-pub record Fitting (x : Draft) (es : List Entry) : Type 0 where
+pub record Puttable (x : Draft) (es : List Entry) : Type 0 where
   pub more : length es ≤ x .pen .rest
   pub small : x .pen .size + 300 * (length es + 1) < 18446744073709551616
   pub room : 7 < length (x .bytes) → x .pen .size + partsSize (x .pen .width) (partsBy (x .pen .most) (x .reached) es) + 7 < length (x .bytes)
@@ -112,7 +112,7 @@ pub record Fitting (x : Draft) (es : List Entry) : Type 0 where
 -- ---- where a pass stands
 
 -- before which old entry, by what the code has
-abbrev pub hereOf : Place → List ℕ → List ℕ → Here
+abbrev pub hereOf : PassPlace → List ℕ → List ℕ → Here
 hereOf p buf high = record { right = p .right; end = p .end; high = take (p .high) high; ref = take (p .len) buf }
 
 -- the next old entries
@@ -123,12 +123,12 @@ entriesNext ib c buf high = entriesHere (c .pen .width) ib (hereOf (c .place) bu
 abbrev pub draftHere : Cursor → List ℕ → List ℕ → List ℕ → Draft
 draftHere c b buf top = draftOf b (c .pen) top (take (c .place .len) buf)
 
-pub record Stands (ib : List ℕ) (c : Cursor) (b buf high top : List ℕ) : Type 0 where
+pub record CursorStands (ib : List ℕ) (c : Cursor) (b buf high top : List ℕ) : Type 0 where
   pub held : Held (hereOf (c .place) buf high) (c .place) buf high
   pub inside : c .place .right + 7 ≤ length ib
   pub reads : readable (c .pen .width) ib (hereOf (c .place) buf high) (c .count) ≡ true
   pub drawn : Drawn (draftHere c b buf top) b (c .pen) top
-  pub fitting : Fitting (draftHere c b buf top) (entriesNext ib c buf high)
+  pub fitting : Puttable (draftHere c b buf top) (entriesNext ib c buf high)
 
 -- past them
 pub record Ran (ib : List ℕ) (c : Cursor) (b buf high top : List ℕ) (r : Cursor) (b' buf' high' top' : List ℕ) : Type 0 where
@@ -139,4 +139,4 @@ pub record Ran (ib : List ℕ) (c : Cursor) (b buf high top : List ℕ) (r : Cur
 pub record Cuttable (b : List ℕ) (pen : Pen) (top prev bytes : List ℕ) (d : Division) : Type 0 where
   pub lie : CutsLie (d .cuts) bytes
   pub drawn : Drawn (draftOf b pen top prev) b pen top
-  pub fitting : Fitting (draftOf b pen top prev) (cutEntries d bytes)
+  pub fitting : Puttable (draftOf b pen top prev) (cutEntries d bytes)

@@ -11,16 +11,16 @@ ghost use Rattle.index.specs.Reading.{freeCount, numbersAt};
 ghost use Rattle.sections.specs.Form.{indexSize, indexBytes};
 ghost use Rattle.index_step.specs.AidStep.{joinedOf, reach, Renewed};
 ghost use Rattle.index_pen.specs.AidPen.{Puts, partAt, penOn, topOn, bytesOn};
-ghost use Rattle.index_write.specs.AidStream.{CutAt, cutsIn, lastOf, CutsLie, FreeLie, renewedBy, Drawn, draftOf, draftAll, Stands, Ran, Cuttable, cutEntries};
+ghost use Rattle.index_write.specs.AidStream.{CutAt, cutsIn, lastOf, CutsLie, FreeLie, renewedBy, Drawn, draftOf, draftAll, CursorStands, Ran, Cuttable, cutEntries};
 ghost use Rattle.index_write.specs.AidDivided.{Divisible, newRecord, AllFit, AllPut};
 use index_pen::Pen;
 use index_step::BUFFER;
-use index_step::Place;
+use index_step::PassPlace;
 use index_step::Step;
 
 // Where a pass stands: before which old entry, with the new record as far as it has been made; and how many old entries it is to put.
 pub(crate) struct Cursor {
-    place: Place,
+    place: PassPlace,
     pen: Pen,
     count: usize,
 }
@@ -145,7 +145,7 @@ fn run(
     high: &mut [u8],
     top: &mut [u8],
 ) -> Cursor
-    requires { ⌜ Stands (now ib) c (now b) (now buf) (now high) (now top) ⌝ }
+    requires { ⌜ CursorStands (now ib) c (now b) (now buf) (now high) (now top) ⌝ }
     ensures { λ r. ⌜ Ran (now (ib .entry)) c (now (b .entry)) (now (buf .entry)) (now (high .entry)) (now (top .entry)) r (now (b .exit)) (now (buf .exit)) (now (high .exit)) (now (top .exit)) ⌝ }
 {
     let mut p = c.place;

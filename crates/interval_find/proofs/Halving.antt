@@ -16,12 +16,12 @@ use Rattle.interval.specs.declared.Found.{Found}
 use Rattle.interval.specs.declared.Found.the-variants.{At, Gap}
 use Rattle.interval.proofs.Readable.{readable-ascends, readable-bytes, records-few}
 use Rattle.interval.proofs.Search.{place-within}
-use Rattle.interval_find.specs.AidRuns.{Lies}
+use Rattle.interval_find.specs.AidRuns.{RunIn}
 use Rattle.interval_find.specs.declared.Run.{Run}
 use Rattle.interval_find.proofs.Placing.{below-past, same-place, gap-place}
 use Rattle.interval_find.proofs.Runs.{record-inside, key-inside, key-there}
 
-module _ (m : Measures) (ci key : List ℕ) (r : Readable m ci) (run : Run) (l : Lies ci run) (i : ℕ) (h : i ≤ run .last) where
+module _ (m : Measures) (ci key : List ℕ) (r : Readable m ci) (run : Run) (l : RunIn ci run) (i : ℕ) (h : i ≤ run .last) where
   there : run .ordinal + i < length (recordsIn ci)
   there = omega (arith, l .inside)
 

@@ -23,7 +23,7 @@ use Rattle.interval.proofs.FoundBytes.{record-there}
 use Rattle.rdf.specs.AidFront.{frontOf, Small}
 use Rattle.rdf.specs.declared.Front.the-variants.{Run, Damaged}
 use Rattle.rdf.proofs.Fronts.{stops, steps, Step}
-use Rattle.interval_find.specs.AidRuns.{Lies}
+use Rattle.interval_find.specs.AidRuns.{RunIn}
 
 -- what the two fields of the CIDF say of the RDFs
 pub rdfs-told : (ci : List ℕ) (d f u : ℕ) → d ≡ displacement ci → f ≡ unusedField ci → u ≡ f % 32768
@@ -181,7 +181,7 @@ module _ (m : Measures) (ci : List ℕ) (r : Readable m ci) where
       run-fits = omega (arith, all-count, step .count)
 
       -- the run is one of the interval's
-      pub run-lies : (ordinal start : ℕ) → length (g .done) ≡ ordinal → sum (g .done) ≡ start → Lies ci (record { ordinal = ordinal; start = start; len = l; last = n - 1 })
+      pub run-lies : (ordinal start : ℕ) → length (g .done) ≡ ordinal → sum (g .done) ≡ start → RunIn ci (record { ordinal = ordinal; start = start; len = l; last = n - 1 })
       run-lies ordinal start c b =
           record {
             inside = omega (arith, run-fits, s .4);

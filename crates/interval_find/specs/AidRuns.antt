@@ -12,7 +12,7 @@ use Rattle.interval.specs.Search.{lower, startOf}
 use Rattle.interval_find.specs.declared.Run.{Run}
 
 -- the run is one of the interval's: its records are there, one after another, each as long as it says
-pub record Lies (ci : List ℕ) (run : Run) : Type 0 where
+pub record RunIn (ci : List ℕ) (run : Run) : Type 0 where
   pub inside : run .ordinal + run .last < length (recordsIn ci)
   pub starts : (i : ℕ) → i ≤ run .last → startOf (run .ordinal + i) (recordsIn ci) ≡ run .start + i * run .len
   pub long : (i : ℕ) → i ≤ run .last → length (getD (recordsIn ci) (run .ordinal + i) []) ≡ run .len

@@ -8,7 +8,7 @@ ghost use Rattle.fields.specs.Order.{orderOf};
 ghost use Rattle.interval.specs.Reading.{displacement, rdfsAt, rdfsMany, recordsIn, Readable};
 ghost use Rattle.interval.specs.Search.{placeOf, Within, startingAt, startedOf, Ends};
 ghost use Rattle.interval.specs.declared.Found.the-variants.{At};
-ghost use Rattle.interval_find.specs.AidRuns.{Lies, Holding};
+ghost use Rattle.interval_find.specs.AidRuns.{RunIn, Holding};
 use fields::Order;
 use interval::Found;
 use interval::Started;
@@ -69,7 +69,7 @@ pub(crate) fn order_at(ci: &[u8], m: Measures, at: usize, key: &[u8]) -> Order
 // The place of a key that is above the records before a run and below its last. The run is halved until one gap is left: keys ascend, so what
 // is left of a record whose key is below is below, and what is right of one whose key is above is above.
 pub(crate) fn find_in(ci: &[u8], m: Measures, key: &[u8], run: Run) -> Found
-    requires { ⌜ Readable m (now ci) × (length (now key) ≡ m .key) × Lies (now ci) run × Holding m (now ci) (now key) run ⌝ }
+    requires { ⌜ Readable m (now ci) × (length (now key) ≡ m .key) × RunIn (now ci) run × Holding m (now ci) (now key) run ⌝ }
     ensures { λ r. ⌜ r ≡ placeOf m (now (key .entry)) (recordsIn (now (ci .entry))) ⌝ }
 {
     let mut low: usize = 0;

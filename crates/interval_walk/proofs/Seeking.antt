@@ -15,7 +15,7 @@ use Rattle.interval.proofs.Readable.{readable-rdfs, readable-formed}
 use Rattle.rdf.specs.AidFront.{frontOf, Small}
 use Rattle.rdf.specs.declared.Front.the-variants.{Run}
 use Rattle.interval_find.proofs.Runs.{Passed, passed-more, more-done, run-starts, each-long, run-fits}
-use Rattle.interval_walk.specs.AidSpots.{spot, groupTo, Stands}
+use Rattle.interval_walk.specs.AidSpots.{spot, groupTo, SpotOf}
 use Rattle.interval_walk.proofs.Edges.{rdfs-append, formed-before, formed-cut, Shape, shape-from, shape-to, front-shape}
 use Rattle.interval_walk.proofs.Standing.{lengths-all}
 
@@ -90,7 +90,7 @@ module _ (m : Measures) (ci : List ℕ) (r : Readable m ci) (p left : ℕ) (at :
       long : l ≡ length (getD (recordsIn ci) i [])
       long = sym (each-long m ci r p left g some l n u e s j h) ∙ ap (λ (x : ℕ). length (getD (recordsIn ci) x [])) (sym o)
 
-      forwards : Stands m ci true (spot start l (n - 1 - j) (p + 3 * (left - u))) i
+      forwards : SpotOf m ci true (spot start l (n - 1 - j) (p + 3 * (left - u))) i
       forwards =
           let z : i + 1 ≡ length (g .done) + (j + 1) = omega (arith, o) in
           let y : n - (j + 1) ≡ n - 1 - j = omega arith in
@@ -112,7 +112,7 @@ module _ (m : Measures) (ci : List ℕ) (r : Readable m ci) (p left : ℕ) (at :
             };
           }
 
-      backwards : Stands m ci false (spot start l j (p + 3 * left)) i
+      backwards : SpotOf m ci false (spot start l j (p + 3 * left)) i
       backwards =
           let z : p + 3 * (left - u) + 3 * u ≡ p + 3 * left = omega (arith, s) in
           record {
@@ -135,6 +135,6 @@ module _ (m : Measures) (ci : List ℕ) (r : Readable m ci) (p left : ℕ) (at :
 
       -- in either direction
       pub run-stands : (forward : Bool) (ahead q : ℕ) → ahead ≡ pick forward (n - 1 - j) j → q ≡ pick forward (left - u) left
-          → Stands m ci forward (spot start l ahead (p + 3 * q)) i
+          → SpotOf m ci forward (spot start l ahead (p + 3 * q)) i
       run-stands true ahead q a d = rw (a, d) forwards
       run-stands false ahead q a d = rw (a, d) backwards

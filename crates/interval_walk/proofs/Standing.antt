@@ -20,7 +20,7 @@ use Rattle.rdf.specs.declared.Front.the-variants.{Run}
 use Rattle.rdf.proofs.Fronts.{steps}
 use Rattle.interval_find.proofs.Runs.{record-inside, key-inside}
 use Rattle.interval_walk.specs.declared.Spot.{Spot}
-use Rattle.interval_walk.specs.AidSpots.{spot, groupFrom, groupTo, Forward, Backward, Stands}
+use Rattle.interval_walk.specs.AidSpots.{spot, groupFrom, groupTo, Forward, Backward, SpotOf}
 use Rattle.interval_walk.proofs.Edges.{rdfs-append, formed-before, formed-cut, shape-some, shape-from, shape-to, front-there, front-shape, Ending, last-there}
 
 -- ---- lengths one by one
@@ -88,7 +88,7 @@ module _ (m : Measures) (ci : List ℕ) (r : Readable m ci) where
   pub long-at : (i : ℕ) → i < length (recordsIn ci) → 0 < length (getD (recordsIn ci) i [])
   long-at i h = omega (arith, key-inside m ci r i h, r .keyed)
 
-  module _ (forward : Bool) (s : Spot) (i : ℕ) (t : Stands m ci forward s i) where
+  module _ (forward : Bool) (s : Spot) (i : ℕ) (t : SpotOf m ci forward s i) where
     -- the record is not empty
     pub stands-long : 0 < s .len
     stands-long = omega (arith, long-at i (t .there), t .long)
@@ -211,7 +211,7 @@ module _ (m : Measures) (ci : List ℕ) (i : ℕ) where
             g .own,
           ))
 
-  pub stands-once : (forward : Bool) (s t : Spot) → Stands m ci forward s i → Stands m ci forward t i → s ≡ t
+  pub stands-once : (forward : Bool) (s t : Spot) → SpotOf m ci forward s i → SpotOf m ci forward t i → s ≡ t
   stands-once true s t x y =
       let f : Forward m ci s i = x .way in
       let g : Forward m ci t i = y .way in

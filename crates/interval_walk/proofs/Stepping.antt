@@ -24,7 +24,7 @@ use Rattle.rdf.specs.declared.Front.the-variants.{Run}
 use Rattle.rdf.proofs.Fronts.{steps, Step}
 use Rattle.interval_find.proofs.Runs.{record-inside}
 use Rattle.interval_walk.specs.declared.Spot.{Spot}
-use Rattle.interval_walk.specs.AidSpots.{spot, leftOf, rightOf, firstOf, lastOf, afterOf, beforeOf, groupFrom, Forward, Backward, Stands}
+use Rattle.interval_walk.specs.AidSpots.{spot, leftOf, rightOf, firstOf, lastOf, afterOf, beforeOf, groupFrom, Forward, Backward, SpotOf}
 use Rattle.interval_walk.proofs.Reading.{left-none, left-is, end-is, right-none, right-one, right-run, first-is, last-is, after-same, after-group, before-same, before-group}
 use Rattle.interval_walk.proofs.Edges.{Shape, alone, paired, shape-some, shape-from, shape-to, front-shape, front-there, front-same, Ending, last-there}
 use Rattle.interval_walk.proofs.Standing.{run-first, run-last, start-next, some-described, none-described, lengths-all, length-at, long-at, stands-inside}
@@ -68,13 +68,13 @@ module _ (m : Measures) (ci : List ℕ) (r : Readable m ci) where
 
   -- the first record of the group left of an edge, where the lengths that follow are those that lie left of it
   left-stands : (start q k i : ℕ) → i < length rs → q ≡ p + 3 * k → q + 4 ≤ length ci → wellFormed (m .least) (m .most) (rdfs ci p k) ≡ true
-      → drop i ls ≡ lengths (rdfs ci p k) → start ≡ startOf i rs → Stands m ci true (leftOf ci start q) i
+      → drop i ls ≡ lengths (rdfs ci p k) → start ≡ startOf i rs → SpotOf m ci true (leftOf ci start q) i
   left-stands start q k i h lies inside w e b =
       let some : 0 < k = some-described ci p k (omega (arith, h, many, length-drop i ls, ap length e)) in
       let (l, c, u, f) = front-there (m .least) (m .most) ci p k some w in
       group l c u some f
     where
-      group : (l c u : ℕ) → (some : 0 < k) → Run l c u ≡ frontOf (m .least) (m .most) (rdfs ci p k) → Stands m ci true (leftOf ci start q) i
+      group : (l c u : ℕ) → (some : 0 < k) → Run l c u ≡ frontOf (m .least) (m .most) (rdfs ci p k) → SpotOf m ci true (leftOf ci start q) i
       group l c u some f =
           let (g, n) = front-shape (m .least) (m .most) ci p k l c u f in
           let s : Step ci p k (m .least) (m .most) some l c u = steps ci p k (m .least) (m .most) some l c u f n in
@@ -105,12 +105,12 @@ module _ (m : Measures) (ci : List ℕ) (r : Readable m ci) where
 
   -- the last record of the group right of an edge, where the lengths up to it are those that lie right of the edge
   right-stands : (end q k i : ℕ) → i < length rs → q + 3 * k + 4 ≡ length ci → p ≤ q → wellFormed (m .least) (m .most) (rdfs ci q k) ≡ true
-      → take (i + 1) ls ≡ lengths (rdfs ci q k) → end ≡ startOf (i + 1) rs → Stands m ci false (rightOf ci end q) i
+      → take (i + 1) ls ≡ lengths (rdfs ci q k) → end ≡ startOf (i + 1) rs → SpotOf m ci false (rightOf ci end q) i
   right-stands end q k i h lies beyond w e b =
       let some : 0 < k = some-described ci q k (omega (arith, h, many, length-take-le (i + 1) ls (omega (arith, h, many)), ap length e)) in
       group (last-there (m .least) (m .most) ci q k some w)
     where
-      group : Ending (m .least) (m .most) ci q k → Stands m ci false (rightOf ci end q) i
+      group : Ending (m .least) (m .most) ci q k → SpotOf m ci false (rightOf ci end q) i
       group g =
           let l : ℕ = g .len in
           let c : ℕ = g .count in
@@ -141,7 +141,7 @@ module _ (m : Measures) (ci : List ℕ) (r : Readable m ci) where
   all-right : p + 3 * rdfsMany ci + 4 ≡ length ci
   all-right = readable-rdfs m ci r
 
-  pub first-stands : 0 < length (recordsIn ci) → Stands m ci true (firstOf ci) 0
+  pub first-stands : 0 < length (recordsIn ci) → SpotOf m ci true (firstOf ci) 0
   first-stands h =
       rw (← first-is ci (r .sized))
       (left-stands 0 (length ci - 4) (rdfsMany ci) 0 h (omega (arith, all-right)) (omega (arith, r .sized)) (readable-formed m ci r) (lengths-all m ci r)
@@ -152,7 +152,7 @@ module _ (m : Measures) (ci : List ℕ) (r : Readable m ci) where
       let z : rdfsMany ci ≡ 0 = none-described (m .least) (m .most) ci p (rdfsMany ci) (readable-formed m ci r) (ap length (sym (lengths-all m ci r)) ∙ many ∙ ap length e) in
       ap (λ (s : Spot). s .len) (sym (left-none ci 0 (length ci - 4) p refl (omega (arith, all-right, z)) ∙ first-is ci (r .sized)))
 
-  module _ (s : Spot) (i : ℕ) (t : Stands m ci true s i) where
+  module _ (s : Spot) (i : ℕ) (t : SpotOf m ci true s i) where
     f : Forward m ci s i
     f = t .way
 
@@ -166,10 +166,10 @@ module _ (m : Measures) (ci : List ℕ) (r : Readable m ci) where
     next-group : s .left ≡ 0 → afterOf ci s ≡ leftOf ci (s .start + s .len) (s .at)
     next-group z = sym (after-group ci s (omega (arith, inside)) (omega (arith, inside)) (omega (arith, z)) (r .sized) (omega (arith, f .inside)))
 
-    pub after-stands : i + 1 < length (recordsIn ci) → Stands m ci true (afterOf ci s) (i + 1)
+    pub after-stands : i + 1 < length (recordsIn ci) → SpotOf m ci true (afterOf ci s) (i + 1)
     after-stands h = go (ltb 0 (s .left)) refl
       where
-        go : (b : Bool) → ltb 0 (s .left) ≡ b → Stands m ci true (afterOf ci s) (i + 1)
+        go : (b : Bool) → ltb 0 (s .left) ≡ b → SpotOf m ci true (afterOf ci s) (i + 1)
         go true e =
             let l : 0 < s .left = ltb-true 0 (s .left) e in
             let a = run-first ls (lengths (rdfs ci p (f .k))) (i + 1) (s .left) (s .len) (omega (arith, h, many)) l (f .rest) in
@@ -203,7 +203,7 @@ module _ (m : Measures) (ci : List ℕ) (r : Readable m ci) where
 
   -- ---- backwards
 
-  pub last-stands : 0 < length (recordsIn ci) → Stands m ci false (lastOf ci) (length (recordsIn ci) - 1)
+  pub last-stands : 0 < length (recordsIn ci) → SpotOf m ci false (lastOf ci) (length (recordsIn ci) - 1)
   last-stands h =
       let z : length rs - 1 + 1 ≡ length rs = omega arith in
       let e : take (length rs - 1 + 1) ls ≡ lengths (rdfs ci p (rdfsMany ci)) = take-all (length rs - 1 + 1) ls (omega (arith, many, z)) ∙ lengths-all m ci r in
@@ -222,7 +222,7 @@ module _ (m : Measures) (ci : List ℕ) (r : Readable m ci) where
   group-before : (s : Spot) → s .left ≡ 0 → beforeOf ci s ≡ rightOf ci (s .start) (s .at)
   group-before s z = sym (before-group ci s (omega (arith, z)) (r .sized))
 
-  pub before-stands : (s : Spot) (i : ℕ) → Stands m ci false s (i + 1) → Stands m ci false (beforeOf ci s) i
+  pub before-stands : (s : Spot) (i : ℕ) → SpotOf m ci false s (i + 1) → SpotOf m ci false (beforeOf ci s) i
   before-stands s i t = go (ltb 0 (s .left)) refl
     where
       f : Backward m ci s (i + 1)
@@ -234,7 +234,7 @@ module _ (m : Measures) (ci : List ℕ) (r : Readable m ci) where
       next : startOf (i + 1) rs ≡ startOf i rs + length (getD rs i [])
       next = start-next i rs there
 
-      go : (b : Bool) → ltb 0 (s .left) ≡ b → Stands m ci false (beforeOf ci s) i
+      go : (b : Bool) → ltb 0 (s .left) ≡ b → SpotOf m ci false (beforeOf ci s) i
       go true e =
           let l : 0 < s .left = ltb-true 0 (s .left) e in
           let a = run-last ls (lengths (rdfs ci (s .at) (f .k))) i (s .left) (s .len) (omega (arith, there, many)) l (f .rest) in
@@ -252,7 +252,7 @@ module _ (m : Measures) (ci : List ℕ) (r : Readable m ci) where
           (f .rest ∙ ap (λ (x : ℕ). lengths (rdfs ci (s .at) (f .k)) ++ replicate x (s .len)) z ∙ append-nil (lengths (rdfs ci (s .at) (f .k))))
           (t .start))
 
-  pub before-none : (s : Spot) → Stands m ci false s 0 → beforeOf ci s .len ≡ 0
+  pub before-none : (s : Spot) → SpotOf m ci false s 0 → beforeOf ci s .len ≡ 0
   before-none s t =
       let f : Backward m ci s 0 = t .way in
       let n : 0 ≡ length (lengths (rdfs ci (s .at) (f .k))) + s .left =

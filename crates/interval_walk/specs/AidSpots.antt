@@ -101,7 +101,7 @@ Way m ci true s i = Forward m ci s i
 Way m ci false s i = Backward m ci s i
 
 -- the spot is that of record i, and what it carries for the steps is right
-pub record Stands (m : Measures) (ci : List ℕ) (forward : Bool) (s : Spot) (i : ℕ) : Type 0 where
+pub record SpotOf (m : Measures) (ci : List ℕ) (forward : Bool) (s : Spot) (i : ℕ) : Type 0 where
   pub there : i < length (recordsIn ci)
   pub start : s .start ≡ startOf i (recordsIn ci)
   pub long : s .len ≡ length (getD (recordsIn ci) i [])

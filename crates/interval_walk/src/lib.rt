@@ -4,7 +4,7 @@ ghost use Prim.Native.Nat.{_+_, _≤_};
 ghost use mathlib.Core.Path.{_≡_};
 ghost use lib.ListN.{length};
 ghost use Rattle.interval.specs.Reading.{recordsIn, Readable};
-ghost use Rattle.interval_walk.specs.AidSpots.{noSpot, endOf, leftOf, rightOf, firstOf, lastOf, afterOf, beforeOf, Stands};
+ghost use Rattle.interval_walk.specs.AidSpots.{noSpot, endOf, leftOf, rightOf, firstOf, lastOf, afterOf, beforeOf, SpotOf};
 use measures::Measures;
 use rdf::Control;
 use rdf::Front;
@@ -152,7 +152,7 @@ pub fn before(ci: &[u8], s: Spot) -> Spot
 // The record of an ordinal in a sound interval, counted from 0: run by run.
 pub fn spot_at(ci: &[u8], m: Measures, i: usize, forward: bool) -> Spot
     requires { ⌜ Readable m (now ci) × (i + 1 ≤ length (recordsIn (now ci))) ⌝ }
-    ensures { λ r. ⌜ Stands m (now (ci .entry)) forward r i ⌝ }
+    ensures { λ r. ⌜ SpotOf m (now (ci .entry)) forward r i ⌝ }
 {
     let n = ci.len();
     let unused = rdf::below_flag(fields::read_two(ci, n - 2));

@@ -217,14 +217,14 @@ module _ (m : Measures) (n : ℕ) (area : List ℕ) (o : Fits m n (length area))
             ∙ rw (free-empty m n area o base address ((address - base) / m .size) ((address - base) % m .size) is small (w .content .free) (s .free) (omega arith)) (unfold startingAt in refl)
 
 -- what is told of an address is what lies there
-abbrev pub Lies : List ℕ → List (List ℕ) → Lying → Type 0
-Lies area rs (Here from len) = rs ≡ part area from len ∷ []
-Lies area rs Nowhere = rs ≡ []
+abbrev pub LiesAs : List ℕ → List (List ℕ) → Lying → Type 0
+LiesAs area rs (Here from len) = rs ≡ part area from len ∷ []
+LiesAs area rs Nowhere = rs ≡ []
 
 module _ (m : Measures) (n : ℕ) (area : List ℕ) (o : Fits m n (length area)) (k : ℕ) (h : k < n) (d : Readable m (dataIn m area k)) where
   -- the record that begins at a place of an interval, as a part of the area
   one-record : (place : ℕ) (rs : List (List ℕ)) → startingAt place 0 (recordsIn (dataIn m area k)) ≡ rs → (x : Started) → startedOf rs ≡ x
-      → Lies area rs (lyingOf ((k + 1) * m .size + place) x)
+      → LiesAs area rs (lyingOf ((k + 1) * m .size + place) x)
   one-record place [] e started.Nothing y = refl
   one-record place [] e (started.Here len) y = absurd (let z : _≡_ {A = ℕ} 0 1 = cc in omega arith)
   one-record place (r ∷ rs) e started.Nothing y = absurd (let z : _≡_ {A = ℕ} 0 1 = cc in omega arith)
@@ -235,14 +235,14 @@ module _ (m : Measures) (n : ℕ) (area : List ℕ) (o : Fits m n (length area))
       rw (b .alone, i) (ap (λ (v : List ℕ). v ∷ []) (part-part area ((k + 1) * m .size) (m .size) place len (omega (arith, b .inside, length-data m n area o k h))))
 
 pub sought-lies : (m : Measures) (n : ℕ) (area : List ℕ) (o : Fits m n (length area)) (w : Whole m n area) (address : ℕ)
-    → Lies area (lyingAt m (baseOf (w .content)) address (w .content .filled)) (soughtAt m n area address)
+    → LiesAs area (lyingAt m (baseOf (w .content)) address (w .content .filled)) (soughtAt m n area address)
 unfolding soughtAt
 sought-lies m n area o w address =
     rw (base-there m n area o w address)
     (go (ltb address (baseOf (w .content))) (leb n ((address - baseOf (w .content)) / m .size)) refl refl)
   where
     go : (a b : Bool) → ltb address (baseOf (w .content)) ≡ a → leb n ((address - baseOf (w .content)) / m .size) ≡ b
-        → Lies area (lyingAt m (baseOf (w .content)) address (w .content .filled))
+        → LiesAs area (lyingAt m (baseOf (w .content)) address (w .content .filled))
         (pick a Nowhere
         (pick b Nowhere
         (lyingOf (((address - baseOf (w .content)) / m .size + 1) * m .size + (address - baseOf (w .content)) % m .size)

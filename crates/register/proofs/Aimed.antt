@@ -24,7 +24,7 @@ use Rattle.index.specs.Search.{leadsTo}
 use Rattle.area.specs.Content.{Content, dataIn, recordsOf, entriesOf}
 use Rattle.area.specs.Reading.{readArea, whole}
 use Rattle.area_find.specs.AidSought.{Whole, Sought}
-use Rattle.area_find.specs.declared.Spot.{Spot}
+use Rattle.area_find.specs.declared.KeyPlace.{KeyPlace}
 use Rattle.change.specs.Parts.{Edit, entryAt}
 use Rattle.change.specs.Plan.{planOf}
 use Rattle.change.specs.Fitting.{Proper, Fitting}
@@ -79,7 +79,7 @@ module _ (m : Measures) (some : 1 ≤ m .key) (inside : m .offset + m .key ≤ m
 -- ---- where the search ended
 
 module _ (m : Measures) (n : ℕ) (area : List ℕ) (o : Fits m n (length area)) (w : Whole m n area)
-    (key : List ℕ) (long : length key ≡ m .key) (octets : Octets key) (spot : Spot) (s : Sought m n area key spot) where
+    (key : List ℕ) (long : length key ≡ m .key) (octets : Octets key) (spot : KeyPlace) (s : Sought m n area key spot) where
   entry-is : spot .entry ≡ leadsTo key (entriesOf (w .content .filled))
   entry-is = s .entry ∙ ap (leadsTo key) (entries-are m n area o w key long octets spot s)
 
@@ -171,7 +171,7 @@ module _ (m : Measures) (n : ℕ) (area : List ℕ) (o : Fits m n (length area))
 
 module _ (m : Measures) (n : ℕ) (area : List ℕ) (o : Fits m n (length area)) (c : Content) (reads : readArea m n area ≡ whole c)
     (kind : Kind) (key new : List ℕ) (asked : Asked m kind key new) (key-bytes : Octets key) (new-bytes : Octets new)
-    (spot : Spot) (s : Sought m n area key spot) where
+    (spot : KeyPlace) (s : Sought m n area key spot) where
   abbrev w : Whole m n area
   w = record { content = c; reads = reads }
 

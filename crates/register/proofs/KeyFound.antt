@@ -30,7 +30,7 @@ use Rattle.area.proofs.Intervals.{used-apart}
 use Rattle.area.proofs.Sounding.{sound-apart, sound-reads}
 use Rattle.area.proofs.Leading.{KeyIn, key-in-one-entry}
 use Rattle.area_find.specs.AidSought.{Whole, Sought}
-use Rattle.area_find.specs.declared.Spot.{Spot}
+use Rattle.area_find.specs.declared.KeyPlace.{KeyPlace}
 use Rattle.area_find.proofs.Readables.{readable}
 use Rattle.change.specs.Parts.{entryAt}
 use Rattle.requests.specs.Records.{withKey}
@@ -87,7 +87,7 @@ records-there : (pre : List Filled) (f : Filled) (post : List Filled) → record
 records-there pre f post = recordsOf-append pre (f ∷ post) ∙ ap (λ (rs : List (List ℕ)). recordsOf pre ++ rs) (unfold recordsOf in refl)
 
 module _ (m : Measures) (n : ℕ) (area : List ℕ) (o : Fits m n (length area)) (w : Whole m n area) (key : List ℕ) (long : length key ≡ m .key) (octets : Octets key)
-    (r : Spot) (s : Sought m n area key r) where
+    (r : KeyPlace) (s : Sought m n area key r) where
   pub led : KeyIn m area key (w .content .filled)
   led = key-in-one-entry m n area (w .content) (w .reads) key (o .key-some) long octets
 

@@ -7,7 +7,7 @@ use Rattle.measures.specs.declared.Measures.{Measures}
 use Rattle.interval.specs.declared.Found.{Found}
 use Rattle.interval.specs.declared.Found.the-variants.{At, Gap}
 use Rattle.area.specs.Content.{Content, recordsOf}
-use Rattle.area_find.specs.declared.Spot.{Spot}
+use Rattle.area_find.specs.declared.KeyPlace.{KeyPlace}
 use Rattle.interval_edit.specs.declared.Site.{Site}
 use Rattle.change.specs.Plan.{planOf}
 use Rattle.requests.specs.Records.{withKey}
@@ -64,7 +64,7 @@ aimAt Update entry number (At i s l) = aim.At (recordSite entry number i s l)
 aimAt Erase entry number (Gap i s) = aim.Not Absent
 aimAt Erase entry number (At i s l) = aim.At (recordSite entry number i s l)
 
-abbrev pub aimOf : Kind → Spot → Aim
+abbrev pub aimOf : Kind → KeyPlace → Aim
 aimOf kind spot = aimAt kind (spot .entry) (spot .number) (spot .found)
 
 -- what that is, in a sound area

@@ -14,8 +14,8 @@ ghost use Rattle.requests.specs.Changing.{changeIn, changeOf, insertOf, updateO
 ghost use Rattle.requests.specs.declared.Answer.the-variants.{Absent, WrongLength, Damaged};
 ghost use Rattle.register.specs.AidTold.{answerFor, GivesIn, MakesIn};
 ghost use Rattle.register.specs.AidChange.{changeFor, changeAt, MakesKeyed, aimOf, Asked};
+use area_find::KeyPlace;
 use area_find::Lying;
-use area_find::Spot;
 use area_seek::Looked;
 use change_write::Made;
 use index_read::Index;
@@ -173,7 +173,7 @@ pub(crate) enum Aim {
 }
 
 // 4 where a record has the key of one that is to come, 5 where none has the key of one that is to make way or to go.
-pub(crate) fn take_aim(kind: Kind, spot: Spot) -> Aim
+pub(crate) fn take_aim(kind: Kind, spot: KeyPlace) -> Aim
     ensures { λ r. ⌜ r ≡ aimOf kind spot ⌝ }
 {
     let entry = spot.entry;

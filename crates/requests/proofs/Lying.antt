@@ -38,9 +38,9 @@ pub record InSize (m : Measures) (f : Filled) : Type 0 where
   pub bytes : length (concat (f .records)) ≤ m .size
 
 -- so it is for every entry, and no two of them have the same number
-abbrev pub Apart : Measures → List Filled → Type 0
-Apart m [] = Unit {0}
-Apart m (f ∷ fs) = InSize m f × ((g : Filled) → List·Memᴰ g fs → g .num ≡ f .num → ⊥) × Apart m fs
+abbrev pub EntriesApart : Measures → List Filled → Type 0
+EntriesApart m [] = Unit {0}
+EntriesApart m (f ∷ fs) = InSize m f × ((g : Filled) → List·Memᴰ g fs → g .num ≡ f .num → ⊥) × EntriesApart m fs
 
 -- a place in an interval says which interval it is
 same-interval : (S a b d e : ℕ) → a * S + d ≡ b * S + e → d < S → e < S → a ≡ b
@@ -86,13 +86,13 @@ module _ (m : Measures) (base address : ℕ) (some : 1 ≤ m .least) where
       (omega (arith, l .lies, k .lies)) (lies-within fs r l a) (lies-within gs s k b)
 
   -- the records of each entry are in size
-  apart-fit : (fs : List Filled) → Apart m fs → (f : Filled) → List·Memᴰ f fs → InSize m f
+  apart-fit : (fs : List Filled) → EntriesApart m fs → (f : Filled) → List·Memᴰ f fs → InSize m f
   apart-fit [] a f i = absurd (List·Memᴰ·not-nil i)
   apart-fit (g ∷ fs) a f i =
       ⊎-elim (λ (e : f ≡ g). rw e (a .0)) (λ (j : List·Memᴰ f fs). apart-fit fs (a .2) f j) (List·Memᴰ·cases-cons i)
 
   -- none lies at the address in other entries
-  lying-none : (fs : List Filled) → Apart m fs → (k : ℕ) → ((g : Filled) → List·Memᴰ g fs → g .num ≡ k → ⊥)
+  lying-none : (fs : List Filled) → EntriesApart m fs → (k : ℕ) → ((g : Filled) → List·Memᴰ g fs → g .num ≡ k → ⊥)
       → ((r : List ℕ) (l : Lies m base address fs r) → l .entry .num ≡ k) → lyingAt m base address fs ≡ []
   lying-none fs a k n s = go (lyingAt m base address fs) refl
     where
@@ -113,7 +113,7 @@ module _ (m : Measures) (base address : ℕ) (some : 1 ≤ m .least) where
   only f q h = List·Memᴰ·eq-of-singleton (h .among)
 
   -- The record that lies at an address is the only one that is found there.
-  pub lies-lying : (fs : List Filled) → Apart m fs → (r : List ℕ) → Lies m base address fs r → lyingAt m base address fs ≡ r ∷ []
+  pub lies-lying : (fs : List Filled) → EntriesApart m fs → (r : List ℕ) → Lies m base address fs r → lyingAt m base address fs ≡ r ∷ []
   unfolding lyingAt
   lies-lying [] a r l = absurd (List·Memᴰ·not-nil (l .among))
   lies-lying (f ∷ fs) a r l = ⊎-elim here (there (λ (k : Lies m base address fs r). lies-lying fs (a .2) r k)) (List·Memᴰ·cases-cons (l .among))
@@ -141,7 +141,7 @@ module _ (m : Measures) (base address : ℕ) (some : 1 ≤ m .least) where
           rw s (again k)
 
   -- At most one record lies at an address.
-  pub lying-one : (fs : List Filled) → Apart m fs → (x : List ℕ) (xs : List (List ℕ)) → lyingAt m base address fs ≡ x ∷ xs → xs ≡ []
+  pub lying-one : (fs : List Filled) → EntriesApart m fs → (x : List ℕ) (xs : List (List ℕ)) → lyingAt m base address fs ≡ x ∷ xs → xs ≡ []
   lying-one fs a x xs e = let q : lyingAt m base address fs ≡ x ∷ [] = lies-lying fs a x (lying-lies fs x xs e) in cc
 
 -- ---- in a whole area
@@ -153,7 +153,7 @@ number-among f (g ∷ fs) i =
 
 -- entries whose numbers stand once each are apart
 apart-join : (m : Measures) (fs : List Filled) → ((f : Filled) → List·Memᴰ f fs → InSize m f)
-    → ((k : ℕ) → List·Memᴰ k (numbers (entriesOf fs)) → count k (numbers (entriesOf fs)) ≤ 1) → Apart m fs
+    → ((k : ℕ) → List·Memᴰ k (numbers (entriesOf fs)) → count k (numbers (entriesOf fs)) ≤ 1) → EntriesApart m fs
 apart-join m [] s o = tt
 apart-join m (f ∷ fs) s o =
     let ns : List ℕ = numbers (entriesOf fs) in (
@@ -195,7 +195,7 @@ module _ (m : Measures) (n : ℕ) (area : List ℕ) (c : Content) (w : readArea 
       filled-in-size m area [] (entriesOf (c .filled)) (s .used) f (rw (sound-filled m n area c s) at i)
 
   -- and no two entries name one interval.
-  pub whole-apart : Apart m (c .filled)
+  pub whole-apart : EntriesApart m (c .filled)
   whole-apart =
       apart-join m (c .filled) whole-in-size
       (λ (k : ℕ) (i : List·Memᴰ k (numbers (entriesOf (c .filled)))). once k i)

@@ -15,9 +15,9 @@ use Rattle.interval.specs.declared.Found.the-variants.{At, Gap}
 use Rattle.area.specs.Content.{Filled, Content, dataIn, recordsOf}
 use Rattle.area.specs.Reading.{readArea, whole}
 use Rattle.area_find.specs.AidSought.{Whole}
-use Rattle.area_find.specs.declared.Spot.{Spot as Sought}
+use Rattle.area_find.specs.declared.KeyPlace.{KeyPlace}
 use Rattle.interval_walk.specs.declared.Spot.{Spot}
-use Rattle.interval_walk.specs.AidSpots.{Stands}
+use Rattle.interval_walk.specs.AidSpots.{SpotOf}
 use Rattle.interval_walk.proofs.Standing.{stands-long, stands-inside}
 use Rattle.index_walk.specs.declared.Edge.{Edge}
 use Rattle.index_walk.specs.AidPasses.{edge}
@@ -29,7 +29,7 @@ use Rattle.walk.proofs.Holdings.{before-suc, Held, held-at, held-few}
 use Rattle.walk.proofs.Standing.{placed-stands, stands-few, ahead-stood, behind-stood}
 
 module _ (m : Measures) (n : ℕ) (area : List ℕ) (c : Content) (w : readArea m n area ≡ whole c) where
-  module _ (s : Sought) (t : Sits m n area s) where
+  module _ (s : KeyPlace) (t : Sits m n area s) where
     pub sits-inside : s .entry < length (c .filled)
     sits-inside = omega (arith, t .inside, entries-many m n area c w)
 
@@ -48,7 +48,7 @@ module _ (m : Measures) (n : ℕ) (area : List ℕ) (fits : Fits m n (length are
     held : Held m n area fits c w i
     held = held-at m n area fits c w i h
 
-    here : (forward : Bool) (s : Spot) (o : ℕ) → Stands m ci forward s o → Stands m (dataOf m area c i) forward s o
+    here : (forward : Bool) (s : Spot) (o : ℕ) → SpotOf m ci forward s o → SpotOf m (dataOf m area c i) forward s o
     here forward s o t = rw number at t
 
     many : before fs (suc i) ≡ before fs i + length (recordsIn ci)
@@ -89,7 +89,7 @@ module _ (m : Measures) (n : ℕ) (area : List ℕ) (fits : Fits m n (length are
     -- ---- downwards
 
     -- the record at the place, or the one before it,
-    pub below-here : (o : ℕ) (s : Spot) → Stands m ci false s o → (j : ℕ) → j ≡ o + 1 → Stood m n area c false (before fs i + j) (placedOf s ((k + 1) * m .size) i (edge 0 0))
+    pub below-here : (o : ℕ) (s : Spot) → SpotOf m ci false s o → (j : ℕ) → j ≡ o + 1 → Stood m n area c false (before fs i + j) (placedOf s ((k + 1) * m .size) i (edge 0 0))
     below-here o s t j e =
         let p : StandsAt m n area c false (placedOf s (baseAt m c i) i (edge 0 0)) (before fs i + o) = placed-stands m n area fits c w i h false s o (edge 0 0) (here false s o t) refl in
         rw base-is (
@@ -103,12 +103,12 @@ module _ (m : Measures) (n : ℕ) (area : List ℕ) (fits : Fits m n (length are
 
 -- ---- what a search told, upwards
 
-module _ (m : Measures) (n : ℕ) (area : List ℕ) (q : Sought) (t : Sits m n area q) (s u : Spot) (is : u ≡ s) where
+module _ (m : Measures) (n : ℕ) (area : List ℕ) (q : KeyPlace) (t : Sits m n area q) (s u : Spot) (is : u ≡ s) where
   -- the first record at or above the place in its interval, and that the place is one of it
   abbrev pub Above : Type 0
   Above = FirstFrom m (dataIn m area (q .number)) (fromFound (q .found)) u × (fromFound (q .found) ≤ length (recordsIn (dataIn m area (q .number))))
 
-  pub above-at : (i start len : ℕ) → q .found ≡ At i start len → Stands m (dataIn m area (q .number)) true s i → Above
+  pub above-at : (i start len : ℕ) → q .found ≡ At i start len → SpotOf m (dataIn m area (q .number)) true s i → Above
   above-at i start len e h =
       let w : Within (length (recordsIn (dataIn m area (q .number)))) (displacement (dataIn m area (q .number))) (At i start len) = rw e at (t .place) in
       rw (e, is) ((λ (l : i < length (recordsIn (dataIn m area (q .number)))). h, λ (l : i ≡ length (recordsIn (dataIn m area (q .number)))). absurd (omega (arith, l, w .0))), omega (arith, w .0))
@@ -137,13 +137,13 @@ pub stood-as : (m : Measures) (n : ℕ) (area : List ℕ) (c : Content) (forward
 stood-as m n area c forward j p q e t = rw e t
 
 -- an entry's ordinal is below the number of intervals
-pub sits-few : (m : Measures) (n : ℕ) (area : List ℕ) → Fits m n (length area) → Whole m n area → (s : Sought) → Sits m n area s → s .entry < n
+pub sits-few : (m : Measures) (n : ℕ) (area : List ℕ) → Fits m n (length area) → Whole m n area → (s : KeyPlace) → Sits m n area s → s .entry < n
 sits-few m n area fits w s t = omega (arith, sits-inside m n area (w .content) (w .reads) s t, held-few m n area fits (w .content) (w .reads))
 
 -- ---- what a search told, downwards: how many records lie up to the place
 
-pub upto-at : (q : Sought) (i start len : ℕ) → q .found ≡ At i start len → uptoFound (q .found) ≡ i + 1
+pub upto-at : (q : KeyPlace) (i start len : ℕ) → q .found ≡ At i start len → uptoFound (q .found) ≡ i + 1
 upto-at q i start len e = rw e
 
-pub upto-gap : (q : Sought) (i start : ℕ) → q .found ≡ Gap i start → uptoFound (q .found) ≡ i
+pub upto-gap : (q : KeyPlace) (i start : ℕ) → q .found ≡ Gap i start → uptoFound (q .found) ≡ i
 upto-gap q i start e = rw e

@@ -14,7 +14,7 @@ use Rattle.measures.specs.declared.Measures.{Measures}
 use Rattle.area.specs.Content.{Filled, Content, recordsOf}
 use Rattle.area.specs.Reading.{readArea, whole}
 use Rattle.interval_walk.specs.declared.Spot.{Spot}
-use Rattle.interval_walk.specs.AidSpots.{Stands}
+use Rattle.interval_walk.specs.AidSpots.{SpotOf}
 use Rattle.interval_walk.proofs.Standing.{stands-once}
 use Rattle.index_walk.specs.declared.Edge.{Edge}
 use Rattle.index_walk.specs.AidPasses.{edge}
@@ -146,7 +146,7 @@ module _ (m : Measures) (n : ℕ) (area : List ℕ) (fits : Fits m n (length are
 
     same-spot : spotIn (baseAt m c (p .entry)) p ≡ spotIn (baseAt m c (q .entry)) q
     same-spot =
-        let v : Stands m (dataOf m area c (p .entry)) forward (spotIn (baseAt m c (q .entry)) q) (t .ordinal) = rw (same-ordinal, same-entry) (u .spot) in
+        let v : SpotOf m (dataOf m area c (p .entry)) forward (spotIn (baseAt m c (q .entry)) q) (t .ordinal) = rw (same-ordinal, same-entry) (u .spot) in
         stands-once m (dataOf m area c (p .entry)) (t .ordinal) forward (spotIn (baseAt m c (p .entry)) p) (spotIn (baseAt m c (q .entry)) q) (t .spot) v
 
     -- Where a walk stands is fixed by the item.

@@ -20,7 +20,7 @@ use Rattle.area.specs.Content.{Filled, Content, dataIn, recordsOf}
 use Rattle.area.specs.Reading.{readArea, whole}
 use Rattle.area.proofs.Leading.{KeyIn, key-in-one-entry}
 use Rattle.area_find.specs.AidSought.{Sought}
-use Rattle.area_find.specs.declared.Spot.{Spot}
+use Rattle.area_find.specs.declared.KeyPlace.{KeyPlace}
 use Rattle.requests.proofs.Walks.{pad, reached, leads-lower, leads-reached}
 use Rattle.walk.specs.AidStands.{nowhere, before, Stood, Sits, fromFound, uptoFound, beginsFrom}
 use Rattle.walk.specs.declared.Place.{Place}
@@ -91,11 +91,11 @@ upto-place m key rs = go (holds m key rs)
     go false = omega arith
 
 -- What was sought is a place of an entry.
-pub sought-sits : (m : Measures) (n : ℕ) (area key : List ℕ) (r : Spot) → Sought m n area key r → Sits m n area r
+pub sought-sits : (m : Measures) (n : ℕ) (area key : List ℕ) (r : KeyPlace) → Sought m n area key r → Sits m n area r
 sought-sits m n area key r s = record { inside = s .inside; number = rw (s .entry) (s .number); within = s .within; place = s .place }
 
 module _ (m : Measures) (n : ℕ) (area : List ℕ) (fits : Fits m n (length area)) (c : Content) (w : readArea m n area ≡ whole c) (key : List ℕ) (long : length key ≡ m .key) (o : Octets key)
-    (r : Spot) (s : Sought m n area key r) where
+    (r : KeyPlace) (s : Sought m n area key r) where
   abbrev fs : List Filled
   fs = c .filled
 
@@ -134,7 +134,7 @@ module _ (m : Measures) (n : ℕ) (area : List ℕ) (fits : Fits m n (length are
 -- ---- where a walk begins by it
 
 module _ (m : Measures) (n : ℕ) (area : List ℕ) (fits : Fits m n (length area)) (c : Content) (w : readArea m n area ≡ whole c) (forward : Bool) (given : List ℕ) (short : length given ≤ m .key) (o : Octets given)
-    (key : List ℕ) (is : key ≡ pad (m .key) (filler forward) given) (r : Spot) (s : Sought m n area key r) (p : Place) where
+    (key : List ℕ) (is : key ≡ pad (m .key) (filler forward) given) (r : KeyPlace) (s : Sought m n area key r) (p : Place) where
   long : length key ≡ m .key
   long = ap length is ∙ key-long (m .key) (m .key) (filler forward) given short (omega arith)
 

@@ -22,7 +22,7 @@ use Rattle.area.specs.Content.{Filled, Content, indexIn, recordsOf}
 use Rattle.area.specs.Reading.{readArea, whole}
 use Rattle.area.proofs.Places.{data-ends, length-data}
 use Rattle.interval_walk.specs.declared.Spot.{Spot}
-use Rattle.interval_walk.specs.AidSpots.{spot, firstOf, lastOf, Stands}
+use Rattle.interval_walk.specs.AidSpots.{spot, firstOf, lastOf, SpotOf}
 use Rattle.interval_walk.proofs.Standing.{stands-long, stands-inside}
 use Rattle.interval_walk.proofs.Stepping.{first-stands, first-none, last-stands, empty-displacement}
 use Rattle.index_walk.specs.declared.Edge.{Edge}
@@ -56,7 +56,7 @@ module _ (m : Measures) (n : ℕ) (area : List ℕ) (fits : Fits m n (length are
     held = held-at m n area fits c w i h
 
     -- a record of its interval is one of the items
-    pub placed-stands : (forward : Bool) (s : Spot) (o : ℕ) (e : Edge) → Stands m (dataOf m area c i) forward s o → e ≡ pick forward (edgeAt m n area (suc i)) (edge 0 0)
+    pub placed-stands : (forward : Bool) (s : Spot) (o : ℕ) (e : Edge) → SpotOf m (dataOf m area c i) forward s o → e ≡ pick forward (edgeAt m n area (suc i)) (edge 0 0)
         → StandsAt m n area c forward (placedOf s (baseAt m c i) i e) (before fs i + o)
     placed-stands forward s o e t q =
         let l : 0 < s .len = stands-long m (dataOf m area c i) (held .reads) forward s o t in
@@ -176,7 +176,7 @@ module _ (m : Measures) (n : ℕ) (area : List ℕ) (fits : Fits m n (length are
           rw (lt-leb n (numAt c i) (d .within), z, edge-suc i h) (pass-on h (ap length (d .records ∙ e)) again)
       met h again (x ∷ ws) e =
           let d = held-at m n area fits c w i h in
-          let t : Stands m (dataOf m area c i) true (firstOf (dataOf m area c i)) 0 = first-stands m (dataOf m area c i) (d .reads) (omega (arith, ap length e)) in
+          let t : SpotOf m (dataOf m area c i) true (firstOf (dataOf m area c i)) 0 = first-stands m (dataOf m area c i) (d .reads) (omega (arith, ap length e)) in
           let l : 0 < firstOf (dataOf m area c i) .len = stands-long m (dataOf m area c i) (d .reads) true (firstOf (dataOf m area c i)) 0 t in
           let e : Edge = beyondOf (eqb (suc i) (length fs)) (passed i h .next) in
           let p : StandsAt m n area c true (placedOf (firstOf (dataOf m area c i)) (baseAt m c i) i e) (before fs i + 0) = placed-stands i h true (firstOf (dataOf m area c i)) 0 e t (edge-suc i h) in
@@ -253,7 +253,7 @@ module _ (m : Measures) (n : ℕ) (area : List ℕ) (fits : Fits m n (length are
           let b : i < length fs = omega arith in
           let d = held-at m n area fits c w i b in
           let v : before fs (suc i) ≡ before fs i + length (recordsIn (dataOf m area c i)) = before-suc fs i b ∙ ap (λ (rs : List (List ℕ)). before fs i + length rs) (d .records) in
-          let s : Stands m (dataOf m area c i) false (lastOf (dataOf m area c i)) (length (recordsIn (dataOf m area c i)) - 1) = last-stands m (dataOf m area c i) (d .reads) l in
+          let s : SpotOf m (dataOf m area c i) false (lastOf (dataOf m area c i)) (length (recordsIn (dataOf m area c i)) - 1) = last-stands m (dataOf m area c i) (d .reads) l in
           let p : StandsAt m n area c false (placedOf (lastOf (dataOf m area c i)) (baseAt m c i) i (edge 0 0)) (before fs i + (length (recordsIn (dataOf m area c i)) - 1)) = placed-stands i b false (lastOf (dataOf m area c i)) (length (recordsIn (dataOf m area c i)) - 1) (edge 0 0) s refl in
           rw (e, ne-eqb (numAt c i + 1) 0 (omega arith)) (
             λ (j : ℕ) (q : suc j ≡ before fs k). let u : before fs i + (length (recordsIn (dataOf m area c i)) - 1) ≡ j = omega (arith, z, v, q, l) in rw u at p,

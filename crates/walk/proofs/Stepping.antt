@@ -16,7 +16,7 @@ use Rattle.interval.specs.Reading.{recordsIn, Readable, rdfs, lengths}
 use Rattle.area.specs.Content.{Filled, Content, recordsOf}
 use Rattle.area.specs.Reading.{readArea, whole}
 use Rattle.interval_walk.specs.declared.Spot.{Spot}
-use Rattle.interval_walk.specs.AidSpots.{spot, afterOf, beforeOf, Backward, Stands}
+use Rattle.interval_walk.specs.AidSpots.{spot, afterOf, beforeOf, Backward, SpotOf}
 use Rattle.interval_walk.proofs.Standing.{stands-long, stands-inside}
 use Rattle.interval_walk.proofs.Stepping.{after-run, before-run, after-stands, after-none, before-stands, before-none}
 use Rattle.walk.specs.declared.Place.{Place}
@@ -26,7 +26,7 @@ use Rattle.walk.proofs.Holdings.{before-suc, Held, held-at, held-few}
 use Rattle.walk.proofs.Standing.{placed-stands, stands-some, stands-within, stands-area, stands-few, ahead-stood, behind-stood}
 
 -- a record of the same run lies before one, downwards, where the spot says so
-left-inside : (m : Measures) (ci : List ℕ) → Readable m ci → (s : Spot) (o : ℕ) → Stands m ci false s o → 0 < s .left → s .len ≤ s .start
+left-inside : (m : Measures) (ci : List ℕ) → Readable m ci → (s : Spot) (o : ℕ) → SpotOf m ci false s o → 0 < s .left → s .len ≤ s .start
 unfolding beforeOf
 left-inside m ci r s zero t l =
     let b : Backward m ci s 0 = t .way in
@@ -36,7 +36,7 @@ left-inside m ci r s (suc o) t l = go (ltb (s .start) (s .len)) refl
     x : suc o ≡ o + 1
     x = omega arith
 
-    prior : Stands m ci false (beforeOf ci s) o
+    prior : SpotOf m ci false (beforeOf ci s) o
     prior = before-stands m ci r s o (rw x at t)
 
     go : (b : Bool) → ltb (s .start) (s .len) ≡ b → s .len ≤ s .start
@@ -150,7 +150,7 @@ module _ (m : Measures) (n : ℕ) (area : List ℕ) (fits : Fits m n (length are
 
         go : (b : Bool) → ltb (t .ordinal + 1) (length (recordsIn dataUp)) ≡ b → Stood m n area c true (suc j) (nextOf area S true p)
         go true e =
-            let u : Stands m dataUp true after (t .ordinal + 1) = after-stands m dataUp (heldUp .reads) (spotIn baseUp p) (t .ordinal) (t .spot) (ltb-true (t .ordinal + 1) (length (recordsIn dataUp)) e) in
+            let u : SpotOf m dataUp true after (t .ordinal + 1) = after-stands m dataUp (heldUp .reads) (spotIn baseUp p) (t .ordinal) (t .spot) (ltb-true (t .ordinal + 1) (length (recordsIn dataUp)) e) in
             let a : StandsAt m n area c true (placedOf after baseUp (p .entry) (edgeIn p)) (before fs (p .entry) + (t .ordinal + 1)) =
             placed-stands m n area fits c w (p .entry) (t .inside) true after (t .ordinal + 1) (edgeIn p) u (t .next) in
             let y : before fs (p .entry) + (t .ordinal + 1) ≡ suc j = omega (arith, t .item) in
@@ -221,7 +221,7 @@ module _ (m : Measures) (n : ℕ) (area : List ℕ) (fits : Fits m n (length are
             rw (prior-there (before-none m dataDown (heldDown .reads) (spotIn baseDown p) (rw e at (t .spot))), ← y) a
         go (suc o) e =
             let x : suc o ≡ o + 1 = omega arith in
-            let u : Stands m dataDown false prior o = before-stands m dataDown (heldDown .reads) (spotIn baseDown p) o (rw (e, x) at (t .spot)) in
+            let u : SpotOf m dataDown false prior o = before-stands m dataDown (heldDown .reads) (spotIn baseDown p) o (rw (e, x) at (t .spot)) in
             let a : StandsAt m n area c false (placedOf prior baseDown (p .entry) (edgeIn p)) (before fs (p .entry) + o) =
             placed-stands m n area fits c w (p .entry) (t .inside) false prior o (edgeIn p) u (t .next) in
             rw (prior-here (stands-long m dataDown (heldDown .reads) false prior o u)) (

@@ -17,7 +17,7 @@ use Rattle.measures.specs.Judgement.{widthFor}
 use Rattle.measures.specs.declared.Measures.{Measures}
 use Rattle.interval.specs.Reading.{recordsIn, Readable}
 use Rattle.interval_walk.specs.declared.Spot.{Spot}
-use Rattle.interval_walk.specs.AidSpots.{firstOf, lastOf, afterOf, beforeOf, Stands}
+use Rattle.interval_walk.specs.AidSpots.{firstOf, lastOf, afterOf, beforeOf, SpotOf}
 use Rattle.interval_walk.proofs.Landing.{last-start}
 use Rattle.interval_walk.proofs.Stepping.{first-stands, first-none, after-stands, after-none}
 use Rattle.index_walk.specs.declared.Edge.{Edge}
@@ -84,7 +84,7 @@ module _ (m : Measures) (ci : List ℕ) (r : Readable m ci) where
   pub from-first : (o : ℕ) → o ≡ 0 → (s : Spot) → s ≡ firstOf ci → FirstFrom m ci o s
   from-first o z s e = rw (z, e) (λ (h : 0 < length (recordsIn ci)). first-stands m ci r h, λ (h : 0 ≡ length (recordsIn ci)). first-none m ci r (none-there (sym h)))
 
-  pub from-after : (o : ℕ) → 0 < o → (t : Spot) → Stands m ci true t (o - 1) → (s : Spot) → s ≡ afterOf ci t → FirstFrom m ci o s
+  pub from-after : (o : ℕ) → 0 < o → (t : Spot) → SpotOf m ci true t (o - 1) → (s : Spot) → s ≡ afterOf ci t → FirstFrom m ci o s
   from-after o l t u s e =
       let z : o - 1 + 1 ≡ o = omega arith in
       rw e (

@@ -16,9 +16,9 @@ use Rattle.index.specs.Meaning.{numbers}
 use Rattle.sections.specs.Reading.{readIndex}
 use Rattle.area.specs.Content.{Filled, Content, indexIn, dataIn, recordsOf}
 use Rattle.area.specs.Reading.{readArea, whole}
-use Rattle.area_find.specs.declared.Spot.{Spot as Sought}
+use Rattle.area_find.specs.declared.KeyPlace.{KeyPlace}
 use Rattle.interval_walk.specs.declared.Spot.{Spot}
-use Rattle.interval_walk.specs.AidSpots.{Stands}
+use Rattle.interval_walk.specs.AidSpots.{SpotOf}
 use Rattle.index_walk.specs.declared.Edge.{Edge}
 use Rattle.index_walk.specs.AidPasses.{edge}
 use Rattle.requests.proofs.Walks.{pad, reached}
@@ -57,7 +57,7 @@ pub record StandsAt (m : Measures) (n : ℕ) (area : List ℕ) (c : Content) (fo
   pub ordinal : ℕ
   pub item : j ≡ before (c .filled) (p .entry) + ordinal
   pub past : baseAt m c (p .entry) ≤ p .start
-  pub spot : Stands m (dataOf m area c (p .entry)) forward (spotIn (baseAt m c (p .entry)) p) ordinal
+  pub spot : SpotOf m (dataOf m area c (p .entry)) forward (spotIn (baseAt m c (p .entry)) p) ordinal
   pub next : edgeIn p ≡ pick forward (edgeAt m n area (suc (p .entry))) (edge 0 0)
 
 -- Upwards, of the items from j on, downwards of the first j: the place is that of the first to come, or the end where there is none.
@@ -72,7 +72,7 @@ StoodIn m n area forward j p = (c : Content) → readArea m n area ≡ whole c �
 -- ---- how a walk begins
 
 -- what was sought is a place of an entry's interval
-pub record Sits (m : Measures) (n : ℕ) (area : List ℕ) (s : Sought) : Type 0 where
+pub record Sits (m : Measures) (n : ℕ) (area : List ℕ) (s : KeyPlace) : Type 0 where
   pub inside : s .entry < length (readIndex (widthFor n) n (indexIn m area) .entries)
   pub number : s .number ≡ getD (numbers (readIndex (widthFor n) n (indexIn m area) .entries)) (s .entry) 0
   pub within : s .number < n
@@ -89,7 +89,7 @@ uptoFound (found.Gap i start) = i
 
 -- the record of an ordinal, or none past the last
 abbrev pub FirstFrom : Measures → List ℕ → ℕ → Spot → Type 0
-FirstFrom m ci o s = (o < length (recordsIn ci) → Stands m ci true s o) × (o ≡ length (recordsIn ci) → s .len ≡ 0)
+FirstFrom m ci o s = (o < length (recordsIn ci) → SpotOf m ci true s o) × (o ≡ length (recordsIn ci) → s .len ≡ 0)
 
 -- of all records, how many lie before the first at or above the bytes given; how many are at or below them
 abbrev pub beginsFrom : Measures → Bool → List ℕ → List (List ℕ) → ℕ

@@ -15,7 +15,7 @@ ghost use Rattle.opening.specs.AidOpened.{openedOf};
 ghost use Rattle.walk.specs.AidSteps.{endPlace, countIn, placedOf, edgePastOf, aheadOf, lastFilledOf, behindOf, alongTo, alongOf, leaveOf, nextOf, Shown, endIn};
 ghost use Rattle.walk.specs.AidGives.{Begins};
 ghost use Rattle.walk.specs.AidStands.{before, StoodIn, Sits, fromFound, uptoFound, FirstFrom, beginsFrom, BeginsAt, endedBy};
-use area_find::Spot as Sought;
+use area_find::KeyPlace;
 use index_walk::Edge;
 use index_walk::Met;
 use interval::Found;
@@ -302,7 +302,7 @@ pub(crate) fn edge_past(ib: &[u8], n: usize, entries: usize) -> Edge
 }
 
 // In a sound area, the lowest record from the place of a key on.
-pub(crate) fn from_above(area: &[u8], m: Measures, n: usize, sought: Sought) -> Place
+pub(crate) fn from_above(area: &[u8], m: Measures, n: usize, sought: KeyPlace) -> Place
     requires { ⌜ Fits m n (length (now area)) × Whole m n (now area) × Sits m n (now area) sought ⌝ }
     ensures { λ r. ⌜ StoodIn m n (now (area .entry)) true (λ c. before (c .filled) (sought .entry) + fromFound (sought .found)) r ⌝ }
 {
@@ -339,7 +339,7 @@ pub(crate) fn first_from(ci: &[u8], m: Measures, ordinal: usize) -> Spot
 }
 
 // In a sound area, the highest record up to the place of a key.
-pub(crate) fn from_below(area: &[u8], m: Measures, n: usize, sought: Sought) -> Place
+pub(crate) fn from_below(area: &[u8], m: Measures, n: usize, sought: KeyPlace) -> Place
     requires { ⌜ Fits m n (length (now area)) × Whole m n (now area) × Sits m n (now area) sought ⌝ }
     ensures { λ r. ⌜ StoodIn m n (now (area .entry)) false (λ c. before (c .filled) (sought .entry) + uptoFound (sought .found)) r ⌝ }
 {

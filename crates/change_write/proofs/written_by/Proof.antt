@@ -1,4 +1,4 @@
--- No loop. By how many parts there are, the numbers stored are one, three or four (one-by, two-by, three-by); that they differ is what Apart says.
+-- No loop. By how many parts there are, the numbers stored are one, three or four (one-by, two-by, three-by); that they differ is what SpreadApart says.
 use Prim.Native.Nat.{_+_, _≤_}
 use mathlib.Core.Path.{_≡_}
 use native.Mathlib.Omega.{arith}

@@ -17,7 +17,7 @@ use Rattle.measures.proofs.Width.{width-some, width-most}
 use Rattle.index.specs.Rules.{baseFine}
 use Rattle.index.specs.Reading.{frame}
 use Rattle.index_read.specs.AidWalk.{placesOf}
-use Rattle.index_read.specs.AidSeek.{spotIn}
+use Rattle.index_read.specs.AidSeek.{leadIn}
 use Rattle.index_read.specs.declared.Marks.{Marks}
 use Rattle.index_read.specs.declared.Places.the-variants.{At}
 use Rattle.index_read.proofs.Judging.{no-frame, no-base, no-places, free-inside, free-few, used-some, edge-inside, edge-far, edge-small, no-walk, all-fine}
@@ -175,7 +175,7 @@ returns-5 c =
     let h = q .before .free .given .0 in
     let fine : x .walk .result .ok ≡ true = not-false _ (c .if3 .left) in
     all-fine (v .width-for .result) (a .key) (a .n) (now (a .ib)) (v .width-for .ensures) (frames q) (bases q) (start-from-known q .pre .0 .4) (h .0) (h .1 .0) (places q) (y .fresh .result .seen)
-    (none y) (sym fine ∙ x .walk .ensures .0) (now (a .wanted)) (x .walk .last .1 .1 .1 .1 .0) (x .walk .last .1 .1 .1 .1 .1 .0) (spotIn (x .walk .result))
+    (none y) (sym fine ∙ x .walk .ensures .0) (now (a .wanted)) (x .walk .last .1 .1 .1 .1 .0) (x .walk .last .1 .1 .1 .1 .1 .0) (leadIn (x .walk .result))
     (λ sought. x .walk .ensures .1 .0 sought fine) (x .walk .result .free) (x .walk .result .used) (x .walk .ensures .1 .1 .0) (x .walk .ensures .1 .1 .1)
 
 pub judge-spec : {M : Type 1} → statement M

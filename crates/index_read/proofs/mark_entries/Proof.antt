@@ -14,7 +14,7 @@ use native.Mathlib.Omega.{arith}
 use denote.Ref.{now}
 use borrow.Author.Needs.{needs}
 use Rattle.fields.proofs.Choices.{false-true}
-use Rattle.index_step.specs.declared.Place.{Place}
+use Rattle.index_step.specs.declared.PassPlace.{PassPlace}
 use Rattle.index_read.specs.AidStand.{Walkable, Stand, Paused}
 use Rattle.index_read.specs.declared.Leg.{Leg}
 use Rattle.index_read.proofs.Entry.{chosen}
@@ -155,7 +155,7 @@ loop-holds c =
       start (now (a .ib)) (a .by) (now (a .key)) (now (a .seen)) (s .start .result) (j .if1 .reach) (s .start .ensures) (q .pre .0 .large) (q .pre .0 .inside) (q .pre .1) (begun-few (now (a .key)) (j .if1 .reach) b)
           (begun-keyed (now (a .key)) (j .if1 .reach) b (a .by .key) (q .pre .0 .wanted)),
       finding-start (now (a .ib)) (a .by) (now (a .key)) (now (a .before)) (now (a .own)) (c .nowhere .result) (j .if1 .reach) b (q .pre .2) (q .pre .3),
-      above-start (now (a .key)) (replicate 263 0) (s .start .result .high) (j .if1 .reach) (ap (λ (x : Place). x .high) (s .start .ensures)) (begun-few (now (a .key)) (j .if1 .reach) b),
+      above-start (now (a .key)) (replicate 263 0) (s .start .result .high) (j .if1 .reach) (ap (λ (x : PassPlace). x .high) (s .start .ensures)) (begun-few (now (a .key)) (j .if1 .reach) b),
     )
 
 slice-aggregate-walk-inner : tie.Need-slice-aggregate-walk-inner Inv-loop μ-loop

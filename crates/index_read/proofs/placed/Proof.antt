@@ -1,5 +1,5 @@
--- No loop. Lies holds the conditions on the displacements. A test that fails contradicts one of them (no-header to no-spread).
--- When all are passed, some-place puts Lies together, with the count of free numbers and where the entries begin.
+-- No loop. LiesWell holds the conditions on the displacements. A test that fails contradicts one of them (no-header to no-spread).
+-- When all are passed, some-place puts LiesWell together, with the count of free numbers and where the entries begin.
 -- The product of w and the count can't overflow: it is at most the displacement (count-small), which was read from two bytes.
 use mathlib.Core.Logic.{⊎-elim}
 use native.Mathlib.Omega.{arith}

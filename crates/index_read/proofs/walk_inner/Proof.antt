@@ -1,6 +1,6 @@
 -- Invariant (Along): at most as many entries are left as at the start, and whatever walk stood at the start stands here now (Stand): the
 -- place and the buffers are before an entry, and the whole record is fine exactly where the entries left are. The entry before closed no section, unless none was passed.
--- A key that was sought at the start still is, with the reach that the loop holds: an entry whose F is below it is looked at, any other is below the key (Reached).
+-- A key that was sought at the start still is, with the reach that the loop holds: an entry whose F is below it is looked at, any other is below the key (NextReach).
 -- The walk stands right of the edge with the header before it, so F, L and the number may be read before the entry is judged (roomy, within).
 -- Each way out is a law of Walking: ends-top (a section's highest is met), ends-left (the entry begins left of the edge), ends-last and ends-found (the entry that the
 -- key leads to is met, which must not be the last), ends-big, ends-again, ends-bad, and ends-open where no entry is left. Where the record isn't fine nothing is said of
@@ -19,7 +19,7 @@ use borrow.Author.Needs.{needs}
 use Rattle.index.specs.Reading.{lengthAt}
 use Rattle.index_read.specs.AidParsing.{closesAt}
 use Rattle.index_read.specs.AidStand.{Walkable, Stand}
-use Rattle.index_read.proofs.Walking.{Reached, by-look, by-front, Along, set-out, roomy, ready, first-empty, sighted, within, length-is, ends-left, ends-top, ends-last, ends-found, ends-bad, ends-big, ends-again, passes-on, goes-on, ends-open}
+use Rattle.index_read.proofs.Walking.{NextReach, by-look, by-front, Along, set-out, roomy, ready, first-empty, sighted, within, length-is, ends-left, ends-top, ends-last, ends-found, ends-bad, ends-big, ends-again, passes-on, goes-on, ends-open}
 use Rattle.index_read.proofs.walk_inner.Statement.{statement}
 use Rattle.index_read.proofs.walk_inner.Tie as tie
 
@@ -113,7 +113,7 @@ long c =
 
 -- the reach past the next entry
 reaches : (c : tie.Joined3 Inv-loop μ-loop)
-    → Reached (now (start-from-loop (loop-from-length (length-from-front (c .before))) .args .ib)) (loop-from-length (length-from-front (c .before)) .loop .p)
+    → NextReach (now (start-from-loop (loop-from-length (length-from-front (c .before))) .args .ib)) (loop-from-length (length-from-front (c .before)) .loop .p)
     (start-from-loop (loop-from-length (length-from-front (c .before))) .args .by) (now (start-from-loop (loop-from-length (length-from-front (c .before))) .args .key))
     (loop-from-length (length-from-front (c .before)) .loop .reach) (c .if3 .reach)
 reaches c =

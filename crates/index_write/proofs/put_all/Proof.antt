@@ -13,7 +13,7 @@ use Rattle.fields.specs.Bytes.{part}
 use Rattle.measures.specs.Judgement.{widthFor}
 use Rattle.measures.proofs.Width.{width-some, width-most}
 use Rattle.index.specs.Reading.{freeCount, numbersAt}
-use Rattle.index_step.specs.AidStep.{placeStart, stepAt, Lies}
+use Rattle.index_step.specs.AidStep.{placeStart, stepAt, EntryEnds}
 use Rattle.index_pen.specs.AidPen.{penBegun}
 use Rattle.index_write.specs.declared.Cursor.{Cursor}
 use Rattle.index_write.specs.declared.Division.{Division}

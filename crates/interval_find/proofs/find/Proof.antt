@@ -13,7 +13,7 @@ use Rattle.interval.specs.declared.Found.the-variants.{Gap}
 use Rattle.interval.proofs.Readable.{readable-rdfs, readable-ascends, records-few}
 use Rattle.rdf.specs.AidFront.{frontOf, Small}
 use Rattle.rdf.specs.declared.Front.the-variants as front
-use Rattle.interval_find.specs.AidRuns.{Lies}
+use Rattle.interval_find.specs.AidRuns.{RunIn}
 use Rattle.interval_find.specs.declared.Run.{Run}
 use Rattle.interval_find.proofs.Placing.{gap-last}
 use Rattle.interval_find.proofs.Runs.{no-damage, Passed, passed-none, passed-last, passed-more, more-count, more-bytes, run-end, run-fits, run-lies}
@@ -59,7 +59,7 @@ module _ (k : tie.After-known-told Inv-loop μ-loop) where
   some : 0 < around k .loop .left
   some = k .before .before .before .before .loop-test .taken
 
-  lies : Lies (start (around k) .args .ci .now) (run-of k)
+  lies : RunIn (start (around k) .args .ci .now) (run-of k)
   lies =
       let s = start (around k) in
       let i = around k .loop .inv in

@@ -11,7 +11,7 @@ use Rattle.area_find.specs.declared.Lying.{Lying}
 use Rattle.requests.specs.Records.{lyingAt}
 use Rattle.requests.specs.Reading.{handOut}
 use Rattle.requests.specs.declared.Answer.the-variants.{NoRecord}
-use Rattle.register.proofs.AddressFound.{Lies, sought-lies}
+use Rattle.register.proofs.AddressFound.{LiesAs, sought-lies}
 use Rattle.register.proofs.Reading.{gives-as}
 use Rattle.register.proofs.get_at_in.Statement.{statement}
 use Rattle.register.proofs.get_at_in.Tie as tie
@@ -25,7 +25,7 @@ record-at-from-out k = k .before .before .before .before .before .before
 
 -- what the search told of the address is what lies there
 lies : (f : tie.After-record-at) (d : Content) → readArea (start f .args .m) (start f .args .n) (start f .args .area .now) ≡ whole d → (r : Lying)
-    → f .record-at .result ≡ r → Lies (start f .args .area .now) (lyingAt (start f .args .m) (baseOf d) (start f .args .address) (d .filled)) r
+    → f .record-at .result ≡ r → LiesAs (start f .args .area .now) (lyingAt (start f .args .m) (baseOf d) (start f .args .address) (d .filled)) r
 lies f d h r e =
     let a = start f .args in
     let t : r ≡ soughtAt (a .m) (a .n) (a .area .now) (a .address) = sym e ∙ f .record-at .ensures .0 in

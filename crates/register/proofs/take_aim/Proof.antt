@@ -10,7 +10,7 @@ use types.Run.{OneOf}
 use borrow.Author.Needs.{needs}
 use Rattle.interval.specs.declared.Found.{Found}
 use Rattle.interval.specs.declared.Found.the-variants.{At, Gap}
-use Rattle.area_find.specs.declared.Spot.{Spot}
+use Rattle.area_find.specs.declared.KeyPlace.{KeyPlace}
 use Rattle.requests.specs.declared.Answer.the-variants.{Absent}
 use Rattle.register.specs.AidChange.{recordSite, aimAt, aimOf}
 use Rattle.register.specs.declared.Kind.{Kind}
@@ -21,7 +21,7 @@ use Rattle.register.proofs.take_aim.Statement.{statement}
 use Rattle.register.proofs.take_aim.Tie as tie
 
 -- what is found and what is asked for, by their names
-aims-as : (kind k : Kind) (spot : Spot) (f : Found) → kind ≡ k → spot .found ≡ f → aimAt k (spot .entry) (spot .number) f ≡ aimOf kind spot
+aims-as : (kind k : Kind) (spot : KeyPlace) (f : Found) → kind ≡ k → spot .found ≡ f → aimAt k (spot .entry) (spot .number) f ≡ aimOf kind spot
 aims-as kind k spot f e h = sym (rw (e, h))
 
 -- an update and an erase

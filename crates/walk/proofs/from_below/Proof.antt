@@ -10,7 +10,7 @@ use borrow.Author.Needs.{needs}
 use Rattle.measures.proofs.Fine.{fits-small, fits-large}
 use Rattle.interval.specs.Reading.{Readable}
 use Rattle.interval_walk.specs.declared.Spot.{Spot}
-use Rattle.interval_walk.specs.AidSpots.{Stands}
+use Rattle.interval_walk.specs.AidSpots.{SpotOf}
 use Rattle.interval_walk.proofs.Standing.{stands-inside}
 use Rattle.area.specs.Content.{Content, dataIn}
 use Rattle.area.specs.Reading.{readArea, whole}
@@ -34,10 +34,10 @@ lent-of s =
     take ((s .args .sought .number + 1) * s .args .m .size + s .args .m .size - (s .args .sought .number + 1) * s .args .m .size)
     (drop ((s .args .sought .number + 1) * s .args .m .size) (s .args .area .now))
 
-stands : (s : tie.Start) (x : Spot) (i : ℕ) → Stands (s .args .m) (lent-of s) false x i → Stands (s .args .m) (dataIn (s .args .m) (s .args .area .now) (s .args .sought .number)) false x i
+stands : (s : tie.Start) (x : Spot) (i : ℕ) → SpotOf (s .args .m) (lent-of s) false x i → SpotOf (s .args .m) (dataIn (s .args .m) (s .args .area .now) (s .args .sought .number)) false x i
 stands s x i t = rw (lent-data (s .args .m) (s .args .n) (s .args .area .now) (s .pre .0) (s .args .sought .number) (s .pre .2 .within)) at t
 
-inside : (s : tie.Start) (x : Spot) (i : ℕ) → Stands (s .args .m) (lent-of s) false x i → (s .args .sought .number + 1) * s .args .m .size + x .start < 18446744073709551616
+inside : (s : tie.Start) (x : Spot) (i : ℕ) → SpotOf (s .args .m) (lent-of s) false x i → (s .args .sought .number + 1) * s .args .m .size + x .start < 18446744073709551616
 inside s x i t =
     let a = s .args in
     omega (
