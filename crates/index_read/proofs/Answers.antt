@@ -11,7 +11,7 @@ use Rattle.fields.proofs.Splices.{take-front}
 use Rattle.measures.specs.Judgement.{widthFor}
 use Rattle.index.specs.Search.{entryFor}
 use Rattle.sections.specs.Reading.{readIndex, soundIndex}
-use Rattle.index_read.specs.Check.{indexBy, indexOf, soundWith, entriesIn, lowFor, spotOf, soughtOf, Seeks}
+use Rattle.index_read.specs.Check.{indexBy, indexOf, soundWith, entriesIn, lowFor, leadOf, soughtOf, Seeks}
 use Rattle.index_read.specs.declared.Index.the-variants.{Sound, Unsound}
 use Rattle.index_read.specs.declared.Lead.{Lead}
 use Rattle.index_read.specs.declared.Sought.{Sought}
@@ -47,7 +47,7 @@ answer-unsound K n ib = go (soundIndex (widthFor n) K n [] [] ib)
 -- the record is sound, the entry is the one that the key leads to, and both buffers begin with the separators
 pub record Led (n : ℕ) (ib key : List ℕ) (s : Lead) (before own : List ℕ) : Type 0 where
   pub sound : soundWith n ib key ≡ true
-  pub spot : s ≡ spotOf n ib key
+  pub spot : s ≡ leadOf n ib key
   pub low : take (s .before) before ≡ lowFor n ib key
   pub high : take (s .own) own ≡ entryFor key (entriesIn n ib) .sep
 
@@ -56,10 +56,10 @@ module _ (n : ℕ) (ib key before own : List ℕ) (r : Sought) (before' own' : L
   unfolding soughtOf
   answer-led s e = go (soundWith n ib key) refl (sym e ∙ k .answers) (k .low) (k .high)
     where
-      go : (t : Bool) → soundWith n ib key ≡ t → sought.At s ≡ pick t (sought.At (spotOf n ib key)) sought.Unsound → before' ≡ pick t (splice before 0 (lowFor n ib key)) before
+      go : (t : Bool) → soundWith n ib key ≡ t → sought.At s ≡ pick t (sought.At (leadOf n ib key)) sought.Unsound → before' ≡ pick t (splice before 0 (lowFor n ib key)) before
           → own' ≡ pick t (splice own 0 (entryFor key (entriesIn n ib) .sep)) own → Led n ib key s before' own'
       go true t h b o =
-          let m : s ≡ spotOf n ib key = cc in
+          let m : s ≡ leadOf n ib key = cc in
           record {
             sound = t;
             spot = m;
@@ -72,6 +72,6 @@ module _ (n : ℕ) (ib key before own : List ℕ) (r : Sought) (before' own' : L
   unfolding soughtOf
   answer-not-led e = go (soundWith n ib key) (sym e ∙ k .answers)
     where
-      go : (t : Bool) → sought.Unsound ≡ pick t (sought.At (spotOf n ib key)) sought.Unsound → t ≡ false
+      go : (t : Bool) → sought.Unsound ≡ pick t (sought.At (leadOf n ib key)) sought.Unsound → t ≡ false
       go true h = absurd (let z : _≡_ {A = ℕ} 0 1 = cc in omega arith)
       go false h = refl

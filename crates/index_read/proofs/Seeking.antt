@@ -17,7 +17,7 @@ use Rattle.sections.specs.Reading.{readIndex, soundIndex}
 use Rattle.sections.proofs.Sounding.{sound-apart, sound-below}
 use Rattle.index_step.specs.AidEntries.{hereFirst, entriesHere}
 use Rattle.index_step.proofs.Stepping.{entries-passed, entries-count}
-use Rattle.index_read.specs.Check.{indexBy, indexOf, soundWith, entriesIn, lowFor, spotOf, soughtOf, Seeks}
+use Rattle.index_read.specs.Check.{indexBy, indexOf, soundWith, entriesIn, lowFor, leadOf, soughtOf, Seeks}
 use Rattle.index_read.specs.AidSeek.{FoundBy}
 use Rattle.index_read.specs.AidJudged.{JudgedAs}
 use Rattle.index_read.specs.declared.Lead.{Lead}
@@ -93,9 +93,9 @@ module _ (n : ℕ) (ib key low high : List ℕ) (f e : ℕ) (spot : Lead) (j : J
   high-is : take (spot .own) high ≡ entryFor key (entriesIn n ib) .sep
   high-is = found .high ∙ rw (met, ordinal-is)
 
-  spot-is : spot ≡ spotOf n ib key
+  spot-is : spot ≡ leadOf n ib key
   spot-is =
-      same-spot spot (spotOf n ib key) ordinal-is (found .number ∙ rw (met, ordinal-is)) (found .low-long ∙ rw (met, ordinal-is)) (found .high-long ∙ rw (met, ordinal-is))
+      same-spot spot (leadOf n ib key) ordinal-is (found .number ∙ rw (met, ordinal-is)) (found .low-long ∙ rw (met, ordinal-is)) (found .high-long ∙ rw (met, ordinal-is))
 
   pub seeks-within : (spot .number < n) × (spot .before ≤ length key) × (spot .own ≤ length key)
   seeks-within =

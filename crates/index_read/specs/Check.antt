@@ -38,13 +38,13 @@ entriesIn n ib = readIndex (widthFor n) n ib .entries
 abbrev pub lowFor : ℕ → List ℕ → List ℕ → List ℕ
 lowFor n ib key = separatorBefore [] (take (leadsTo key (entriesIn n ib)) (entriesIn n ib))
 
-abbrev pub spotOf : ℕ → List ℕ → List ℕ → Lead
-spotOf n ib key =
+abbrev pub leadOf : ℕ → List ℕ → List ℕ → Lead
+leadOf n ib key =
     record { ordinal = leadsTo key (entriesIn n ib); number = entryFor key (entriesIn n ib) .num; before = length (lowFor n ib key); own = length (entryFor key (entriesIn n ib) .sep) }
 
 -- where the key leads in a sound record
 unfoldable pub soughtOf : ℕ → List ℕ → List ℕ → Sought
-soughtOf n ib key = pick (soundWith n ib key) (sought.At (spotOf n ib key)) sought.Unsound
+soughtOf n ib key = pick (soundWith n ib key) (sought.At (leadOf n ib key)) sought.Unsound
 
 -- the answer, and the two separators at the front of the buffers, which stay where the record is unsound
 pub record Seeks (n : ℕ) (ib key before own : List ℕ) (r : Sought) (before' own' : List ℕ) : Type 0 where

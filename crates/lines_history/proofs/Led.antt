@@ -1,6 +1,6 @@
 -- From area to area by lines served: none, one, and one lot after another; and what that says of the records.
 use Prim.Native.Nat.{ℕ}
-use mathlib.Core.Path.{_≡_, refl, _∙_, sym}
+use mathlib.Core.Path.{_≡_, refl, _∙_}
 use mathlib.Core.List.{List, [], _∷_, _++_}
 use Rattle.fields.specs.Bytes.{Octets}
 use Rattle.area.specs.Content.{Content, recordsOf}

@@ -23,7 +23,6 @@ use Rattle.requests.specs.Model.{Change, insert, update, erase, Legal}
 use Rattle.requests.specs.Finding.{Keyed}
 use Rattle.requests.specs.Changing.{bytesOf, lengthFine, editOf, carryOut, changeOf}
 use Rattle.requests.specs.declared.Answer.{Answer}
-use Rattle.requests.specs.declared.Answer.the-variants as answer
 use Rattle.requests.proofs.Gets.{with-keyed}
 use Rattle.requests.proofs.Proper.{some-first}
 use Rattle.requests.proofs.Ways.{unlawful, Decided, way-length, way-keyed, way-planned}

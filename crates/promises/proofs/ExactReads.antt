@@ -127,8 +127,7 @@ module _ (m : Measures) (area : List ℕ) where
     pub get-exact : (a : Answer) (out : List ℕ) → Gives (getOf m area wanted lent) a out → First (getTable m area wanted lent) (numberOf a)
     get-exact a out k =
         rw (ap numberOf (k .answers))
-        (first-one m area
-        (row 2 (DamagedIndex m area) (row 3 (length wanted ≡ m .key → ⊥) (row 2 (DamagedThere m area wanted) thereRows)))
+        (first-one m area (row 2 (DamagedIndex m area) (row 3 (length wanted ≡ m .key → ⊥) (row 2 (DamagedThere m area wanted) thereRows)))
         (numberOf (got .answer)) get-outside (λ (j : judgedOf m (length area) ≡ Fine m n). by-index j (indexSound m n area) refl))
 
   -- A get by address is refused with 1, 2, 9 or 8 exactly as its table says.
@@ -145,5 +144,4 @@ module _ (m : Measures) (area : List ℕ) where
       (last-two (Lies m (baseOf c) address (c .filled)) lent (Nowhere m area address) (LyingTooLong m area address lent)
       (of-content (λ (d : Content). (r : List ℕ) → Lies m (baseOf d) address (d .filled) r → ⊥) c w)
       (of-content (λ (d : Content). (r : List ℕ) × Lies m (baseOf d) address (d .filled) r × (length lent < length r)) c w) answer.NoRecord
-      (getAtOf m area address lent) (get-at-finds m area n c j w address lent)
-      (lies-either (judged-least m area n j) c w address)))
+      (getAtOf m area address lent) (get-at-finds m area n c j w address lent) (lies-either (judged-least m area n j) c w address)))

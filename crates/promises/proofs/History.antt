@@ -189,5 +189,4 @@ module _ (m : Measures) where
             let p = trace-apart ss (record { request = getAt address lent; answer = a; area = after; output = out } ∷ rest) area t in
             let h = history ss area c s (p .0) in
             let now : List ℕ = areaAfter area ss in
-            rw (given-is (getAtOf m now address lent) a out (p .1 .0 .1))
-            (area-get-at-finds m now n d (h .sound .judges) w address lent)
+            rw (given-is (getAtOf m now address lent) a out (p .1 .0 .1)) (area-get-at-finds m now n d (h .sound .judges) w address lent)

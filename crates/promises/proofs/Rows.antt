@@ -43,8 +43,7 @@ module _ (m : Measures) (area : List ℕ) where
       → (judgedOf m (length area) ≡ Fine m n → (c : Content) → readArea m n area ≡ whole c → First later k)
       → First (row 1 (OutsideLimits m area) (row 2 (DamagedSomewhere m area) later)) k
   first-two later k one two more =
-      first-one (row 2 (DamagedSomewhere m area) later) k one
-      (λ (j : judgedOf m (length area) ≡ Fine m n). by-reading j (readArea m n area) refl)
+      first-one (row 2 (DamagedSomewhere m area) later) k one (λ (j : judgedOf m (length area) ≡ Fine m n). by-reading j (readArea m n area) refl)
     where
       by-reading : judgedOf m (length area) ≡ Fine m n → (d : Reading) → readArea m n area ≡ d → First (row 2 (DamagedSomewhere m area) later) k
       by-reading j (damaged p) e = inl ((p, e), two j p e)

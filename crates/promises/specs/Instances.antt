@@ -1,7 +1,7 @@
 -- Areas written out, on both sides of want of an interval and of want of room, and the one on which a shorter record needs more room.
 use Prim.Native.Nat.{ℕ, zero, suc, _-_}
 use mathlib.Core.List.{List, [], _∷_, _++_, map}
-use lib.ListN.{length, replicate}
+use lib.ListN.{replicate}
 use Rattle.fields.specs.Lists.{concat}
 use Rattle.measures.specs.Judgement.{measures}
 use Rattle.measures.specs.declared.Measures.{Measures}

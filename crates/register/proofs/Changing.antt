@@ -56,8 +56,7 @@ module _ (k : Measures) (area : List ℕ) (ch : Change) where
   change-shut a e = rw (opened-shut k area a e) (record { answers = refl; leaves = refl })
 
   pub change-whole : (m : Measures) (n records free : ℕ) → openedOf k area ≡ opened.Whole m n records free
-      → (a : Answer) (after : List ℕ) → MakesIn m n area (λ c. changeIn m c area ch) a after
-      → Makes (changeOf k area ch) a after
+      → (a : Answer) (after : List ℕ) → MakesIn m n area (λ c. changeIn m c area ch) a after → Makes (changeOf k area ch) a after
   unfolding changeOf
   change-whole m n records free e a after g = let o = opened-whole k area m n records free e in rw (o .1) (g (o .0) (o .2))
 
