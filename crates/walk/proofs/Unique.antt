@@ -1,10 +1,8 @@
 -- For each public function: any two results that its contract allows are equal. `Learnt` is the contract as a caller reads it.
 use mathlib.Core.Path.{_≡_}
 use Rattle.fields.proofs.Choices.{agree}
-use Rattle.measures.specs.Judgement.{asked}
 use Rattle.walk.specs.declared.Place.{Place}
 use Rattle.walk.specs.declared.Begun.{Begun}
-use Rattle.walk.proofs.Walking.{from-same}
 use Rattle.walk.proofs.walk_next.Reads as walk-next
 use Rattle.walk.proofs.walk_record.Reads as walk-record
 use Rattle.walk.proofs.walk_from.Reads as walk-from
@@ -21,4 +19,4 @@ pub unique-walk-end : (κs : _) (args : _) (r s : Begun) (e f : _) → walk-end.
 unique-walk-end κs args r s e f p q = agree (p .1) (q .1)
 
 pub unique-walk-from : (κs : _) (args : _) (r s : Begun) (e f : _) → walk-from.Learnt κs args r e → walk-from.Learnt κs args s f → r ≡ s
-unique-walk-from κs args r s e f p q = from-same (asked (args .1 .0)) (args .0 .now) (args .1 .1 .0) (args .1 .1 .1 .0 .now) r s (p .0) (p .1) (q .0) (q .1)
+unique-walk-from κs args r s e f p q = agree (p .1 .1) (q .1 .1)

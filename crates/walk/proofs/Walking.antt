@@ -3,11 +3,11 @@ use Prim.Native.Nat.{ℕ, _+_, _-_, _*_, _≤_, _<_}
 use mathlib.Core.Path.{_≡_, refl, _∙_, sym, ap}
 use mathlib.Core.Bool.{Bool, true, false}
 use mathlib.Core.List.{List, [], _∷_}
-use lib.ListN.{length, take}
-use lib.Seq.{take-all}
-use lib.Dec.{ltb}
+use lib.ListN.{length, take, drop, length-drop}
+use lib.Seq.{take-all, length-take-le}
+use lib.Dec.{eqb, ltb}
 use native.Mathlib.Omega.{arith}
-use borrow.Author.Tests.{lt-ltb, le-ltb, lt-leb, le-leb}
+use borrow.Author.Tests.{eqb-true, eqb-false, ltb-true, ltb-false, lt-ltb, le-ltb, lt-leb, le-leb}
 use Rattle.fields.specs.Bytes.{Octets}
 use Rattle.fields.proofs.Choices.{agree, false-true, both-false}
 use Rattle.measures.specs.Judgement.{Fits, judgedOf}
@@ -16,6 +16,7 @@ use Rattle.measures.specs.declared.Judged.{Judged}
 use Rattle.measures.specs.declared.Judged.the-variants as judged
 use Rattle.measures.proofs.Fine.{judged-same, fits-large}
 use Rattle.interval.specs.Search.{lower}
+use Rattle.interval.proofs.Search.{lower-most}
 use Rattle.index.specs.Rules.{closed}
 use Rattle.index.proofs.Naming.{free-and-used}
 use Rattle.area.specs.Content.{Filled, Content, indexIn, recordsOf, meaningOf}
@@ -29,7 +30,7 @@ use Rattle.requests.specs.Walks.{Item, Walk, refusedWith, giving, itemsOf, back
 use Rattle.requests.specs.Opening.{shut, holding, openingOf}
 use Rattle.requests.specs.declared.Answer.{Answer}
 use Rattle.requests.specs.declared.Answer.the-variants.{WrongLength, Absent}
-use Rattle.requests.proofs.Items.{items-long}
+use Rattle.requests.proofs.Items.{items-long, back-long}
 use Rattle.requests.proofs.Walks.{pad, reached, walk-drops, walk-takes, walk-all, walk-back, reached-most}
 use Rattle.opening.specs.AidOpened.{openedRead, openedJudged, openedOf}
 use Rattle.opening.specs.declared.Opened.{Opened}
@@ -40,10 +41,10 @@ use Rattle.walk.specs.declared.Begun.{Begun}
 use Rattle.walk.specs.declared.Begun.the-variants.{At, Refused}
 use Rattle.walk.specs.AidSteps.{edgePastOf, aheadOf, behindOf, endIn, stepsFrom}
 use Rattle.walk.specs.AidGives.{Gives, Begins}
-use Rattle.walk.specs.AidStands.{before, edgeAt, Stood, StoodIn, beginsFrom, BeginsAt, endedBy}
+use Rattle.walk.specs.AidStands.{before, edgeAt, Stood, StoodIn, beginsFrom, BeginsAt, endedBy, begunBy, begunFrom}
 use Rattle.walk.proofs.Holdings.{before-zero, before-all}
 use Rattle.walk.proofs.Standing.{ahead-stood, behind-stood}
-use Rattle.walk.proofs.Giving.{gives-up, gives-down, stood-same}
+use Rattle.walk.proofs.Giving.{steps-up, steps-down, gives-up, gives-down, stood-same}
 
 -- ---- what a caller of `open` needs besides: the measures are those that were asked with
 
@@ -83,6 +84,15 @@ module _ (area : List ℕ) (size : ℕ) (forward : Bool) (p : Place) where
   gives-sized : (s : ℕ) (is : List Item) → size ≡ s → Gives area size forward is p → Gives area s forward is p
   gives-sized s is e g = rw (← e) g
 
+  -- what the steps from a place give is so long and no longer
+  pub gives-long : (is js : List Item) → Gives area size forward is p → Gives area size forward js p → length is ≡ length js
+  gives-long is js g h = go (ltb (length is) (length js)) (ltb (length js) (length is)) refl refl
+    where
+      go : (s t : Bool) → ltb (length is) (length js) ≡ s → ltb (length js) (length is) ≡ t → length is ≡ length js
+      go true t e f = absurd (omega (arith, g .ends (length is) (omega arith) .0, h .there (length is) (ltb-true (length is) (length js) e) .2))
+      go false true e f = absurd (omega (arith, h .ends (length js) (omega arith) .0, g .there (length js) (ltb-true (length js) (length is) f) .2))
+      go false false e f = omega (arith, ltb-false (length is) (length js) e, ltb-false (length js) (length is) f)
+
   pub gives-as : {is js : List Item} → is ≡ js → Gives area size forward is p → Gives area size forward js p
   gives-as e g = rw (← e) g
 
@@ -111,22 +121,65 @@ module _ (m : Measures) (n : ℕ) (area : List ℕ) (fits : Fits m n (length are
       gives-as area (m .size) false p (sym (walk-takes m n area c w (fits .key-inside) given short o))
       (gives-down m n area fits c w (reached m (pad (m .key) 255 given) (recordsOf fs)) p (reached-most m (pad (m .key) 255 given) (recordsOf fs) (records-ascend m n area c w)) t)
 
-  -- From an end they give all records, in either direction.
-  pub gives-all-up : Gives area (m .size) true (walkOf m true [] c) (aheadOf (n - 0) area (m .size) n 0 (edgeFirst (indexIn m area)))
+  -- From an end a walk stands before all records, in either direction,
+  end-up : Stood m n area c true 0 (aheadOf (n - 0) area (m .size) n 0 (edgeFirst (indexIn m area)))
   unfolding edgePastOf
+  end-up = rw (before-zero fs) at (ahead-stood m n area fits c w (n - 0) 0 some-entry (omega arith) (omega arith))
+
+  end-down : (free : ℕ) → free ≡ length (c .free) → Stood m n area c false (length (recordsOf fs)) (behindOf area (m .size) n (n - free))
+  end-down free e =
+      let k : n - free ≡ length fs = omega (arith, e, free-and-used n (meaningOf c) (sound-rules m n area c (sound-apart m n area c w) .naming), length-entries fs) in
+      let l : before fs (length fs) ≡ length (recordsOf fs) = before-all fs (length fs) (omega arith) in
+      rw k (rw l at (behind-stood m n area fits c w (length fs) (omega arith)))
+
+  -- and the steps give them all.
+  pub gives-all-up : Gives area (m .size) true (walkOf m true [] c) (aheadOf (n - 0) area (m .size) n 0 (edgeFirst (indexIn m area)))
   gives-all-up =
-      let t : Stood m n area c true (before fs 0) (aheadOf (n - 0) area (m .size) n 0 (edgeAt m n area 0)) = ahead-stood m n area fits c w (n - 0) 0 some-entry (omega arith) (omega arith) in
-      gives-as area (m .size) true (aheadOf (n - 0) area (m .size) n 0 (edgeFirst (indexIn m area))) (sym (walk-all m c)) (gives-up m n area fits c w 0 (aheadOf (n - 0) area (m .size) n 0 (edgeFirst (indexIn m area))) (rw (before-zero fs) at t))
+      gives-as area (m .size) true (aheadOf (n - 0) area (m .size) n 0 (edgeFirst (indexIn m area))) (sym (walk-all m c)) (gives-up m n area fits c w 0 (aheadOf (n - 0) area (m .size) n 0 (edgeFirst (indexIn m area))) end-up)
 
   pub gives-all-down : (free : ℕ) → free ≡ length (c .free) → Gives area (m .size) false (walkOf m false [] c) (behindOf area (m .size) n (n - free))
   gives-all-down free e =
-      let k : n - free ≡ length fs = omega (arith, e, free-and-used n (meaningOf c) (sound-rules m n area c (sound-apart m n area c w) .naming), length-entries fs) in
-      let l : before fs (length fs) ≡ length (recordsOf fs) = before-all fs (length fs) (omega arith) in
-      let t : Stood m n area c false (length (recordsOf fs)) (behindOf area (m .size) n (length fs)) = rw l at (behind-stood m n area fits c w (length fs) (omega arith)) in
       let a : take (length (recordsOf fs)) (itemsOf m fs) ≡ itemsOf m fs = take-all (length (recordsOf fs)) (itemsOf m fs) (omega (arith, items-long m fs)) in
-      rw k
-      (gives-as area (m .size) false (behindOf area (m .size) n (length fs)) (ap backwards (a ∙ sym (walk-all m c)) ∙ sym (walk-back m c))
-      (gives-down m n area fits c w (length (recordsOf fs)) (behindOf area (m .size) n (length fs)) (omega arith) t))
+      gives-as area (m .size) false (behindOf area (m .size) n (n - free)) (ap backwards (a ∙ sym (walk-all m c)) ∙ sym (walk-back m c))
+      (gives-down m n area fits c w (length (recordsOf fs)) (behindOf area (m .size) n (n - free)) (omega arith) (end-down free e))
+
+  -- how many records the walk from an end has passed where another stands
+  abbrev passed : Bool → ℕ → ℕ
+  passed true j = j
+  passed false j = length (recordsOf fs) - j
+
+  pub past-stood : (forward : Bool) (free j : ℕ) → free ≡ length (c .free) → j ≤ length (recordsOf fs)
+      → Stood m n area c forward j (stepsFrom (passed forward j) area (m .size) forward (endIn area (m .size) n free forward))
+  past-stood true free j e few = let z : 0 + j ≡ j = omega arith in rw z at (steps-up m n area fits c w j 0 (endIn area (m .size) n free true) end-up)
+  past-stood false free j e few =
+      let k : length (recordsOf fs) - (length (recordsOf fs) - j) ≡ j = omega (arith, few) in
+      rw k at (steps-down m n area fits c w (length (recordsOf fs) - j) (length (recordsOf fs)) (endIn area (m .size) n free false) (end-down free e))
+
+  -- as many as the other does not give
+  passed-is : (forward : Bool) (j : ℕ) (is : List Item) (p : Place) → j ≤ length (recordsOf fs) → Stood m n area c forward j p → Gives area (m .size) forward is p
+      → length (recordsOf fs) - length is ≡ passed forward j
+  passed-is true j is p few t g =
+      let l : length is ≡ length (recordsOf fs) - j =
+      gives-long area (m .size) true p is (drop j (itemsOf m fs)) g (gives-up m n area fits c w j p t) ∙ length-drop j (itemsOf m fs) ∙ ap (λ (x : ℕ). x - j) (items-long m fs) in
+      omega (arith, l, few)
+  passed-is false j is p few t g =
+      ap (λ (x : ℕ). length (recordsOf fs) - x)
+      (gives-long area (m .size) false p is (backwards (take j (itemsOf m fs))) g (gives-down m n area fits c w j p few t)
+      ∙ back-long (take j (itemsOf m fs))
+      ∙ length-take-le j (itemsOf m fs) (omega (arith, few, items-long m fs)))
+
+  -- So a walk that stands anywhere stands where the one from its end does once that has passed them.
+  pub stands-past : (forward : Bool) (free j : ℕ) (is : List Item) (p : Place) → free ≡ length (c .free) → j ≤ length (recordsOf fs)
+      → Stood m n area c forward j p → Gives area (m .size) forward is p
+      → p ≡ stepsFrom (length (recordsOf fs) - length is) area (m .size) forward (endIn area (m .size) n free forward)
+  stands-past forward free j is p e few t g =
+      rw (passed-is forward j is p few t g)
+      (stood-same m n area fits c w forward j p (stepsFrom (passed forward j) area (m .size) forward (endIn area (m .size) n free forward)) t (past-stood forward free j e few))
+
+  -- At most all records come before the bytes given, or up to them.
+  pub begins-few : (forward : Bool) (given : List ℕ) → beginsFrom m forward given (recordsOf fs) ≤ length (recordsOf fs)
+  begins-few true given = lower-most m (pad (m .key) 0 given) (recordsOf fs)
+  begins-few false given = reached-most m (pad (m .key) 255 given) (recordsOf fs) (records-ascend m n area c w)
 
 -- ---- the requests
 
@@ -268,3 +321,82 @@ module _ (k : Measures) (area : List ℕ) (forward : Bool) where
         go : (x : Walk) → Begins area (k .size) forward x r → Begins area (k .size) forward x s → r ≡ s
         go (refusedWith a) b' d' = agree b' d'
         go (giving is) b' d' = b' .1 ∙ ap At (same-place (b' .0) (d' .0) (b' .1) (d' .1)) ∙ sym (d' .1)
+
+  -- So it can be computed, and what a walk is told to begin with is that.
+  module _ (given : List ℕ) (r : Begun) (h : Begins area (k .size) forward (walkFromOf k area forward given) r × BeginsAt k area forward given r) where
+    begun-at : (is : List Item) (p : Place) → r ≡ At p → Gives area (k .size) forward is p → r ≡ begunBy area forward (openedOf k area) (giving is)
+    unfolding walkFromOf
+    begun-at is p x g = go (openedOf k area) refl
+      where
+        go : (o : Opened) → openedOf k area ≡ o → r ≡ begunBy area forward o (giving is)
+        go (opened.Refused a) e =
+            let z : r ≡ Refused a = rw (opened-shut k area a e) at (h .0) in
+            absurd (refused-at a p (sym z ∙ x))
+        go (opened.Whole m n records free) e =
+            let i = opened-judged k area m n records free e in
+            let j : judgedOf k (length area) ≡ judged.Fine k n = rw (i .1) at (i .0) in
+            let w = opened-whole k area k n records free (rw (i .1) at e) in
+            rw (i .1, w .4)
+            (x
+            ∙ ap At
+            (stands-past k n area (w .3) (w .0) (w .2) forward free (beginsFrom k forward given (recordsOf (w .0 .filled))) is p (w .5)
+            (begins-few k n area (w .3) (w .0) (w .2) forward given) (h .1 p x n j (w .0) (w .2)) g))
+
+    pub from-told : Begins area (k .size) forward (walkFromOf k area forward given) r × (BeginsAt k area forward given r × (r ≡ begunFrom k area forward given))
+    from-told = (h .0, (h .1, go (walkFromOf k area forward given) (h .0)))
+      where
+        go : (x : Walk) → Begins area (k .size) forward x r → r ≡ begunBy area forward (openedOf k area) x
+        go (refusedWith a) b = b
+        go (giving is) b = begun-at is (b .0) (b .1) (b .2)
+
+  -- ---- what is computed begins the walk that is meant, whatever the bytes are
+
+  pub ended-begins : Begins area (k .size) forward (walkEndOf k area forward) (endedBy area forward (openedOf k area))
+  ended-begins = go (openedOf k area) refl
+    where
+      go : (o : Opened) → openedOf k area ≡ o → Begins area (k .size) forward (walkEndOf k area forward) (endedBy area forward (openedOf k area))
+      go (opened.Refused a) e = let h = end-refused a e in rw (h .1) at (h .0)
+      go (opened.Whole m n records free) e = let h = end-begins m n records free e (endIn area (m .size) n free forward) refl in rw (h .1) at (h .0)
+
+  module _ (given : List ℕ) (o : Octets area) where
+    abbrev Meant : Type 0
+    Meant = Begins area (k .size) forward (walkFromOf k area forward given) (begunFrom k area forward given)
+
+    as-told : (r : Begun) → Begins area (k .size) forward (walkFromOf k area forward given) r × BeginsAt k area forward given r → Meant
+    as-told r h = rw (from-told given r h .1 .1) at (h .0)
+
+    module _ (m : Measures) (n records free : ℕ) (e : openedOf k area ≡ opened.Whole m n records free) where
+      -- a place for the bytes given, of any content that the area is read as, and of so many bytes as a key has at most
+      from-place : (c : Content) (p : Place) → readArea m n area ≡ whole c → Stood m n area c forward (beginsFrom m forward given (recordsOf (c .filled))) p
+          → (length given ≡ 0 → ⊥) → length given ≤ m .key → Meant
+      from-place c p w t some short = go (eqb (p .length) 0) refl
+        where
+          stood : StoodIn m n area forward (λ (d : Content). beginsFrom m forward given (recordsOf (d .filled))) p
+          stood d v =
+              let y : whole c ≡ whole d = sym w ∙ v in
+              let z : c ≡ d = cc in
+              rw z at t
+
+          go : (b : Bool) → eqb (p .length) 0 ≡ b → Meant
+          go true f = as-told (Refused Absent) (from-absent m n records free e given o some short p stood (eqb-true (p .length) 0 f))
+          go false f = as-told (At p) (from-present m n records free e given o some short p stood (eqb-false (p .length) 0 f))
+
+      opened-begins : Meant
+      opened-begins = go (eqb (length given) 0) (ltb (m .key) (length given)) refl refl
+        where
+          go : (a b : Bool) → eqb (length given) 0 ≡ a → ltb (m .key) (length given) ≡ b → Meant
+          go true b f g = as-told (Refused WrongLength) (from-nothing m n records free e given (eqb-true (length given) 0 f))
+          go false true f g = as-told (Refused WrongLength) (from-too-many m n records free e given (ltb-true (m .key) (length given) g))
+          go false false f g =
+              let w = opened-whole k area m n records free e in
+              let j : ℕ = beginsFrom m forward given (recordsOf (w .0 .filled)) in
+              from-place (w .0) (stepsFrom (passed m n area (w .3) (w .0) (w .2) forward j) area (m .size) forward (endIn area (m .size) n free forward)) (w .2)
+              (past-stood m n area (w .3) (w .0) (w .2) forward free j (w .5) (begins-few m n area (w .3) (w .0) (w .2) forward given))
+              (eqb-false (length given) 0 f) (ltb-false (m .key) (length given) g)
+
+    pub begun-begins : Meant
+    begun-begins = go (openedOf k area) refl
+      where
+        go : (x : Opened) → openedOf k area ≡ x → Meant
+        go (opened.Refused a) e = as-told (Refused a) (from-refused a e given)
+        go (opened.Whole m n records free) e = opened-begins m n records free e

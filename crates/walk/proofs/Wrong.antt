@@ -1,14 +1,12 @@
 -- What a walk gives is fixed by its steps, so that a walker which gives other records breaks the contracts: on an area written out, one that stops at an interval
 -- without records, one that goes downwards from the first record that begins with the bytes given, and one that gives the first record twice.
-use Prim.Native.Nat.{ℕ, _≤_, _<_}
+use Prim.Native.Nat.{ℕ, _<_}
 use mathlib.Core.Path.{_≡_, refl, _∙_, sym, ap}
 use mathlib.Core.Bool.{Bool, true, false}
 use mathlib.Core.List.{List, [], _∷_}
 use lib.ListN.{length, getD}
 use lib.Seq.{ext-getD}
-use lib.Dec.{ltb}
 use native.Mathlib.Omega.{arith}
-use borrow.Author.Tests.{ltb-true, ltb-false}
 use Rattle.fields.specs.Bytes.{number, digits}
 use Rattle.fields.specs.Order.{orderOf, common}
 use Rattle.fields.specs.Lists.{sum, concat, every}
@@ -41,20 +39,14 @@ use Rattle.walk.specs.declared.Place.{Place}
 use Rattle.walk.specs.declared.Begun.the-variants.{At}
 use Rattle.walk.specs.AidGives.{Gives, Begins}
 use Rattle.walk.specs.Wrong.{stopping, fromFirst, twice, gapped, gappedBytes}
+use Rattle.walk.proofs.Walking.{gives-long}
 
 -- ---- what the steps give is one list
 
 module _ (area : List ℕ) (size : ℕ) (forward : Bool) (p : Place) where
-  no-more : (is js : List Item) → Gives area size forward is p → Gives area size forward js p → length js ≤ length is
-  no-more is js g h = go (ltb (length is) (length js)) refl
-    where
-      go : (t : Bool) → ltb (length is) (length js) ≡ t → length js ≤ length is
-      go true e = absurd (omega (arith, g .ends (length is) (omega arith) .0, h .there (length is) (ltb-true (length is) (length js) e) .2))
-      go false e = ltb-false (length is) (length js) e
-
   pub gives-one : (is js : List Item) → Gives area size forward is p → Gives area size forward js p → is ≡ js
   gives-one is js g h =
-      let l : length is ≡ length js = omega (arith, no-more is js g h, no-more js is h g) in
+      let l : length is ≡ length js = gives-long area size forward p is js g h in
       ext-getD none is js l (λ (k : ℕ) (q : k < length is). same (getD is k none) (getD js k none) (sym (g .there k q .0) ∙ h .there k (omega (arith, q, l)) .0) (sym (g .there k q .1) ∙ h .there k (omega (arith, q, l)) .1))
     where
       item : ℕ → List ℕ → Item

@@ -1,5 +1,5 @@
 -- Aids: where a walk stands in a sound area. `walkOf` of crate requests says which records come: document 02, L1.
-use Prim.Native.Nat.{ℕ, suc, _+_, _*_, _≤_, _<_}
+use Prim.Native.Nat.{ℕ, suc, _+_, _-_, _*_, _≤_, _<_}
 use mathlib.Core.Path.{_≡_}
 use mathlib.Core.Bool.{Bool, true, false}
 use mathlib.Core.List.{List, []}
@@ -21,10 +21,12 @@ use Rattle.interval_walk.specs.declared.Spot.{Spot}
 use Rattle.interval_walk.specs.AidSpots.{SpotOf}
 use Rattle.index_walk.specs.declared.Edge.{Edge}
 use Rattle.index_walk.specs.AidPasses.{edge}
+use Rattle.requests.specs.Walks.{Walk, refusedWith, giving, walkFromOf}
 use Rattle.requests.proofs.Walks.{pad, reached}
+use Rattle.opening.specs.AidOpened.{openedOf}
 use Rattle.opening.specs.declared.Opened.{Opened}
 use Rattle.opening.specs.declared.Opened.the-variants as opened
-use Rattle.walk.specs.AidSteps.{endPlace, edgePastOf, edgeIn, spotIn, endIn}
+use Rattle.walk.specs.AidSteps.{endPlace, edgePastOf, edgeIn, spotIn, endIn, stepsFrom}
 use Rattle.walk.specs.declared.Place.{Place}
 use Rattle.walk.specs.declared.Begun.{Begun}
 use Rattle.walk.specs.declared.Begun.the-variants.{At, Refused}
@@ -106,3 +108,14 @@ BeginsAt m area forward given r =
 abbrev pub endedBy : List ℕ → Bool → Opened → Begun
 endedBy area forward (opened.Refused a) = Refused a
 endedBy area forward (opened.Whole m n records free) = At (endIn area (m .size) n free forward)
+
+-- what a walk from the bytes of a key begins with: the refusal; or the place where the walk from that end stands
+-- once it has passed the records that this one leaves out
+abbrev pub begunBy : List ℕ → Bool → Opened → Walk → Begun
+begunBy area forward o (refusedWith a) = Refused a
+begunBy area forward (opened.Refused a) (giving items) = Refused a
+begunBy area forward (opened.Whole m n records free) (giving items) =
+    At (stepsFrom (records - length items) area (m .size) forward (endIn area (m .size) n free forward))
+
+abbrev pub begunFrom : Measures → List ℕ → Bool → List ℕ → Begun
+begunFrom m area forward given = begunBy area forward (openedOf m area) (walkFromOf m area forward given)

@@ -15,6 +15,7 @@ ghost use Rattle.opening.specs.AidOpened.{openedOf};
 ghost use Rattle.walk.specs.AidSteps.{endPlace, countIn, placedOf, edgePastOf, aheadOf, lastFilledOf, behindOf, alongTo, alongOf, leaveOf, nextOf, Shown, endIn};
 ghost use Rattle.walk.specs.AidGives.{Begins};
 ghost use Rattle.walk.specs.AidStands.{before, StoodIn, Sits, fromFound, uptoFound, FirstFrom, beginsFrom, BeginsAt, endedBy};
+ghost use Rattle.walk.specs.AidStands.{begunFrom};
 use area_find::KeyPlace;
 use index_walk::Edge;
 use index_walk::Met;
@@ -399,6 +400,7 @@ pub fn walk_from(area: &[u8], numbers: Numbers, forward: bool, given: &[u8]) -> 
     ensures begins { λ r. ⌜ Begins (now (area .entry)) (numbers .size) forward
         (walkFromOf (asked numbers) (now (area .entry)) forward (now (given .entry))) r ⌝ }
     ensures there { λ r. ⌜ BeginsAt (asked numbers) (now (area .entry)) forward (now (given .entry)) r ⌝ }
+    ensures is { λ r. ⌜ r ≡ begunFrom (asked numbers) (now (area .entry)) forward (now (given .entry)) ⌝ }
 {
     match opening::open(area, numbers) {
         Opened::Refused { answer } => Begun::Refused(answer),

@@ -1,0 +1,3 @@
+pub mod Told
+pub mod Kinds
+pub mod Asking
