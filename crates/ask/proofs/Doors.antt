@@ -9,7 +9,6 @@ use native.Mathlib.Omega.{arith}
 use borrow.Author.Tests.{not-true, not-false, lt-ltb, le-ltb, ltb-false, le-leb, lt-leb, ne-eqb}
 use denote.Enum.Declared.{tagOf}
 use types.Run.{OneOf, miss}
-use Rattle.fields.specs.Choice.{pick}
 use Rattle.fields.specs.Bytes.{splice}
 use Rattle.measures.specs.Judgement.{asked}
 use Rattle.measures.specs.declared.Numbers.{Numbers}

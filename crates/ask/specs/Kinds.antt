@@ -4,7 +4,7 @@ use mathlib.Core.Bool.{Bool, true, false}
 use mathlib.Core.List.{List}
 use lib.ListN.{length, getD}
 use lib.Dec.{eqb, ltb}
-use Rattle.fields.specs.Choice.{pick, both, either}
+use Rattle.fields.specs.Choice.{pick, both}
 use Rattle.ask.specs.declared.ReadKind.the-variants.{Check, Get, GetAt, WalkFrom, WalkEnd, Step, Record}
 use Rattle.ask.specs.declared.ChangeKind.the-variants.{Insert, Update, Erase}
 use Rattle.ask.specs.declared.Asked.{Asked}
@@ -16,7 +16,8 @@ row a n d = record { asks = a; numbers = n; directed = d }
 
 -- The table of kinds: which request it is, how many numbers it must have, and whether the fifth is a direction. The
 -- first four are the measures: size, offset, key, most. Behind them a get by address has the address, a walk from bytes
--- or from an end its direction, a step its direction and its place, a record its place. A place is seven numbers.
+-- or from an end its direction, 0 down and 1 up, a step its direction and its place, a record its place. A place is
+-- seven numbers.
 abbrev pub rowOf : ℕ → Row
 rowOf k =
     pick (eqb k 1) (row (Reads Check) 4 false)

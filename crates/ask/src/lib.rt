@@ -187,6 +187,7 @@ pub(crate) fn place_in(numbers: &[u64], from: usize) -> Place
     }
 }
 
+// A row of the table.
 pub(crate) fn kind_row(asks: Asked, numbers: usize, directed: bool) -> Row
     ensures { λ r. ⌜ r ≡ row asks numbers directed ⌝ }
 {

@@ -41,7 +41,7 @@ use Rattle.walk.specs.declared.Begun.{Begun}
 use Rattle.walk.specs.declared.Begun.the-variants.{At, Refused}
 use Rattle.walk.specs.AidSteps.{edgePastOf, aheadOf, behindOf, endIn, stepsFrom}
 use Rattle.walk.specs.AidGives.{Gives, Begins}
-use Rattle.walk.specs.AidStands.{before, edgeAt, Stood, StoodIn, beginsFrom, BeginsAt, endedBy, begunBy, begunFrom}
+use Rattle.walk.specs.AidStands.{before, Stood, StoodIn, beginsFrom, BeginsAt, endedBy, begunBy, begunFrom}
 use Rattle.walk.proofs.Holdings.{before-zero, before-all}
 use Rattle.walk.proofs.Standing.{ahead-stood, behind-stood}
 use Rattle.walk.proofs.Giving.{steps-up, steps-down, gives-up, gives-down, stood-same}
