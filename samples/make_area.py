@@ -1,9 +1,11 @@
 #!/usr/bin/env python3
-"""make_area.py: samples/certificates.txt to samples/register/area.ci, a control area as the bureau would send it.
+"""make_area.py [LIST FILE]: certificates as a text list to a control area as the bureau would send it.
 
-A line of the list is one certificate, its first 8 characters the key. Blank lines and lines that begin with # are passed
-over. Records are laid out in the order of their keys, each interval filled to about two thirds so that new ones find room;
-the intervals left over are free.
+A line is one certificate of 8 to 60 characters, its first 8 the key. Blank lines and lines that
+begin with # are passed over. Records are laid out in the order of their keys, each interval filled
+to about two thirds so that new ones find room; the intervals left over are free. A bad line is told
+with its number, and then nothing is written. With no names it goes from samples/certificates.txt to
+samples/register/area.ci.
 """
 import os
 import sys
@@ -11,25 +13,32 @@ import sys
 HERE = os.path.dirname(os.path.abspath(__file__))
 sys.path.insert(0, os.path.join(HERE, "..", "tests"))
 import layout  # noqa: E402
+import texts  # noqa: E402
 
 SIZE, KEY, MOST = 512, 8, 60
 INTERVALS = 14
 FILLED = 340
 
 
+def wrong(text, found):
+    """Why a line is no certificate beside those found, or nothing."""
+    if not text.isascii():
+        return "a character that is not ASCII"
+    if not KEY <= len(text) <= MOST:
+        return "a certificate of %d characters, not %d to %d" % (len(text), KEY, MOST)
+    if text[:KEY] in found:
+        return "key %s is there already" % text[:KEY]
+    return ""
+
+
 def certificates(path):
-    """The records by key; a line that is no record, or a key that comes twice, ends the run with its line number."""
+    """The records in the order of their keys; the first bad line ends the run."""
     found = {}
-    with open(path, encoding="ascii") as lines:
-        for place, line in enumerate(lines, 1):
-            text = line.rstrip("\n")
-            if not text or text.startswith("#"):
-                continue
-            if not KEY <= len(text) <= MOST:
-                sys.exit("%s:%d: %d characters, not %d to %d" % (path, place, len(text), KEY, MOST))
-            if text[:KEY] in found:
-                sys.exit("%s:%d: key %s is there already" % (path, place, text[:KEY]))
-            found[text[:KEY]] = text.encode("ascii")
+    for place, text in texts.lines(path):
+        reason = wrong(text, found)
+        if reason:
+            sys.exit("%s:%d: %s" % (path, place, reason))
+        found[text[:KEY]] = text.encode("ascii")
     return [found[key] for key in sorted(found)]
 
 
@@ -52,13 +61,14 @@ def separators(parts):
 
 
 def main():
-    parts = spread(certificates(os.path.join(HERE, "certificates.txt")))
+    own_list, own_file = os.path.join(HERE, "certificates.txt"), os.path.join(HERE, "register", "area.ci")
+    path, file = texts.names(__doc__, own_list, own_file)
+    parts = spread(certificates(path))
     if len(parts) > INTERVALS:
-        sys.exit("%d intervals are needed, and the area has %d" % (len(parts), INTERVALS))
+        sys.exit("%s: %d intervals are needed, and the area has %d" % (path, len(parts), INTERVALS))
     entries = [(separator, number) for number, separator in enumerate(separators(parts))]
     free = list(reversed(range(len(parts), INTERVALS)))
-    with open(os.path.join(HERE, "register", "area.ci"), "wb") as out:
-        out.write(layout.area_of(SIZE, entries, free, dict(enumerate(parts))))
+    texts.write(file, layout.area_of(SIZE, entries, free, dict(enumerate(parts))))
 
 
 if __name__ == "__main__":

@@ -1,9 +1,9 @@
 #!/usr/bin/env python3
-"""make_requests.py [LIST [FILE]]: requests as a text list to the 64-byte requests that the depot's program reads.
+"""make_requests.py [LIST FILE]: requests as a text list to the 64-byte requests of the depot's program.
 
-A line is a letter, a blank, and for G and E a key of 8 characters, for I and U a record of 8 to 60. Blank lines and lines
-that begin with # are passed over. A bad line is told with its number, and then nothing is written. With no names it goes
-from samples/requests.txt to samples/register/requests.rec.
+A line is a letter, a blank, and for G and E a key of 8 characters, for I and U a record of 8 to 60.
+Blank lines and lines that begin with # are passed over. A bad line is told with its number, and then
+nothing is written. With no names it goes from samples/requests.txt to samples/register/requests.rec.
 """
 import os
 import sys
@@ -11,6 +11,7 @@ import sys
 HERE = os.path.dirname(os.path.abspath(__file__))
 sys.path.insert(0, os.path.join(HERE, "..", "tests"))
 import layout  # noqa: E402
+import texts  # noqa: E402
 
 KEY, MOST = 8, 60
 
@@ -30,28 +31,24 @@ def wrong(text):
 
 
 def requests(path):
-    out, bad = [], 0
-    with open(path, encoding="utf-8") as lines:
-        for place, line in enumerate(lines, 1):
-            text = line.rstrip("\n")
-            if not text or text.startswith("#"):
-                continue
-            reason = wrong(text)
-            if reason:
-                print("%s:%d: %s" % (path, place, reason), file=sys.stderr)
-                bad += 1
-                continue
-            out.append(layout.request_line(text[:1].encode("ascii"), text[2:].encode("ascii")))
+    """The requests in their order; a line on standard error for each bad line, and then none."""
+    out, bad = [], False
+    for place, text in texts.lines(path):
+        reason = wrong(text)
+        if reason:
+            print("%s:%d: %s" % (path, place, reason), file=sys.stderr)
+            bad = True
+            continue
+        out.append(layout.request_line(text[:1].encode("ascii"), text[2:].encode("ascii")))
     if bad:
-        sys.exit("%d bad lines, nothing written" % bad)
+        sys.exit(1)
     return b"".join(out)
 
 
 def main():
-    names = sys.argv[1:] + ["", ""]
-    made = requests(names[0] or os.path.join(HERE, "requests.txt"))
-    with open(names[1] or os.path.join(HERE, "register", "requests.rec"), "wb") as out:
-        out.write(made)
+    own_list, own_file = os.path.join(HERE, "requests.txt"), os.path.join(HERE, "register", "requests.rec")
+    path, file = texts.names(__doc__, own_list, own_file)
+    texts.write(file, requests(path))
 
 
 if __name__ == "__main__":

@@ -74,7 +74,10 @@ def case(name, stdout, area=None, requests=None, after=None, before=None, stderr
 def served(name, area, requests, before=None, missing=False):
     """A case with a sound area: the model says what comes out."""
     text, after = day(area, requests)
-    case(name, text, area, None if missing else requests, after, before)
+    if missing:
+        case(name, text, area, None, after, before, b"requests.rec: No such file or directory\n")
+    else:
+        case(name, text, area, requests, after, before)
 
 
 def refused(name, text, area, before=None):

@@ -1,9 +1,10 @@
 // The depot's program. It takes the area of the file area.ci, serves the requests of requests.rec in their order, prints
-// what each of them is answered and how the area stands at the end, and leaves the area in area.out.
+// what each of them is answered and how the area stands at the end, leaves the area in area.out, and tells how it ended.
 mod files;
 mod print;
 mod serve;
 
+use depot_io::End;
 use requests::Answer;
 ghost use Rattle.lines_history.specs.Day.{Leads};
 
@@ -12,41 +13,43 @@ fn check(area: &[u8]) -> Answer {
     register::check(area, 512, 0, 8, 60)
 }
 
-fn refused(answer: Answer) {
-    if !depot_io::refused(answer) {
-        os::fail(b"standard output");
-    }
-}
-
 // The closing line, and the area in its file; or, for an area that is not sound, the line that says so and no file. An
 // area whose lines could not all be printed is not stored: nobody would know what was accepted.
-fn close(area: &[u8]) {
+fn close(area: &[u8], served: End) -> End {
     match check(area) {
         Answer::Intact { records, free } => {
             if !print::closing(records, free) {
-                os::fail(b"standard output");
-                return;
+                return depot_io::failed(b"standard output");
             }
-            files::store(area);
+            if !files::store(area) {
+                return End::Failed;
+            }
+            served
         }
-        other => refused(other),
+        other => depot_io::refused(other),
+    }
+}
+
+// The requests, and then the end, unless one of them could not be read or its line not be printed.
+fn day(area: &mut [u8]) -> End
+    ensures { λ r. ⌜ Leads (now (area .entry)) (now (area .exit)) ⌝ }
+{
+    match serve::file(area) {
+        End::Failed => End::Failed,
+        served => close(area, served),
     }
 }
 
 // An area that is refused is told in one line, and then nothing else is read or written.
-fn open(area: &mut [u8])
+fn open(area: &mut [u8]) -> End
     ensures { λ r. ⌜ Leads (now (area .entry)) (now (area .exit)) ⌝ }
 {
     match check(area) {
         Answer::Intact {
             records: _,
             free: _,
-        } => {
-            if serve::file(area) {
-                close(area);
-            }
-        }
-        other => refused(other),
+        } => day(area),
+        other => depot_io::refused(other),
     }
 }
 
@@ -54,5 +57,5 @@ fn open(area: &mut [u8])
 fn main() {
     let mut space = [0u8; 65537];
     let n = depot_io::load(&mut space);
-    open(&mut space[..n]);
+    depot_io::tell(open(&mut space[..n]));
 }

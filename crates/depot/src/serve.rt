@@ -1,12 +1,14 @@
 // The requests, 64 bytes each, read and served one after another.
 use crate::print;
+use depot_io::End;
 use lines::Line;
 ghost use Rattle.lines_history.specs.Day.{Leads};
 
-// What became of one turn: a request was served, the file was at its end, or it could not be read or its line not be
-// printed.
+// What became of one turn: a request was done, or was refused; the file was at its end; or it could not be read or its line
+// not be printed.
 enum Turn {
-    Served,
+    Done,
+    Refused,
     Ended,
     Failed,
 }
@@ -38,40 +40,46 @@ fn one(fd: i32, area: &mut [u8], place: u64) -> Turn
         os::fail(b"standard output");
         return Turn::Failed;
     }
-    Turn::Served
+    if lines::number(told) != 0 {
+        return Turn::Refused;
+    }
+    Turn::Done
 }
 
 // Nothing says that a file ends, and a proved loop does. So places are counted up to a number that no file of requests
 // reaches.
-fn all(fd: i32, area: &mut [u8]) -> bool
+fn all(fd: i32, area: &mut [u8]) -> End
     ensures { λ r. ⌜ Leads (now (area .entry)) (now (area .exit)) ⌝ }
 {
     let mut place = 1;
+    let mut end = End::Whole;
     while place < u64::MAX {
         match one(fd, area, place) {
-            Turn::Served => {}
-            Turn::Ended => return true,
-            Turn::Failed => return false,
+            Turn::Done => {}
+            Turn::Refused => end = End::Partly,
+            Turn::Ended => return end,
+            Turn::Failed => return End::Failed,
         }
         place += 1;
     }
-    false
+    End::Failed
 }
 
-// Serves the requests of the file, none where there is no such file, and gives whether it was read to its end and every
-// line printed.
-pub(crate) fn file(area: &mut [u8]) -> bool
+// Serves the requests of the file, and gives whether all were done or some refused; or that it was not read to its end or
+// not every line printed. Where there is no such file, none is served, and standard error says so.
+pub(crate) fn file(area: &mut [u8]) -> End
     ensures { λ r. ⌜ Leads (now (area .entry)) (now (area .exit)) ⌝ }
 {
     let fd = os::open_read(b"requests.rec");
     if fd < 0 {
-        if os::errno() == libc::ENOENT {
-            return true;
-        }
+        let missing = os::errno() == libc::ENOENT;
         os::fail(b"requests.rec");
-        return false;
+        if missing {
+            return End::Whole;
+        }
+        return End::Failed;
     }
-    let ended = all(fd, area);
+    let end = all(fd, area);
     libc::close(fd);
-    ended
+    end
 }

@@ -1,4 +1,5 @@
-// What the programs of a depot have in common: the area's file read, and words, numbers, bytes and refusals printed.
+// What the programs of a depot have in common: the area's file read; words, numbers, bytes and refusals printed; and how a
+// run ended, told to the script that started it.
 ghost use Rattle.io.specs.Counts.{Counts};
 use libc::STDOUT_FILENO;
 use requests::Answer;
@@ -70,8 +71,43 @@ pub fn hex(bytes: &[u8]) -> bool {
     words(&text[..n])
 }
 
-// The one line for an area that is not taken: its number, and for damage its place.
-pub fn refused(answer: Answer) -> bool {
+// How a run ended: all was done; some request was refused, and all the others are stored; or nothing is stored, or not all of
+// a list printed.
+pub enum End {
+    Whole,
+    Partly,
+    Failed,
+}
+
+fn digit(end: End) -> u8 {
+    match end {
+        End::Whole => b'0',
+        End::Partly => b'1',
+        End::Failed => b'2',
+    }
+}
+
+// The last that a program does: one digit on descriptor 3, where the script listens. Where nobody does, nothing is told.
+pub fn tell(end: End) {
+    io::write_all(3, &[digit(end)]);
+}
+
+// Says on standard error what failed and why.
+pub fn failed(what: &[u8]) -> End {
+    os::fail(what);
+    End::Failed
+}
+
+// The one line for an area that is not taken. Nothing comes after it.
+pub fn refused(answer: Answer) -> End {
+    if !refusal(answer) {
+        return failed(b"standard output");
+    }
+    End::Failed
+}
+
+// Its number, and for damage its place.
+fn refusal(answer: Answer) -> bool {
     words(b"area ") && number(requests::number(answer) as u64) && place(answer) && words(b"\n")
 }
 

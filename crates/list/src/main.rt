@@ -1,8 +1,9 @@
 // The printed list. It takes the area of the file area.ci and prints a line for each record in the order of their keys: its place from 1, its key and the whole record
-// in hexadecimal digits, and with the word --text the record as text; then how many there are.
+// in hexadecimal digits, and with the word --text the record as text; then how many there are. At the end it tells whether all of that was printed.
 mod print;
 
 ghost use Rattle.list.specs.Listed.{Lists};
+use depot_io::End;
 use fields::Order;
 use measures::Numbers;
 use walk::Begun;
@@ -32,10 +33,17 @@ fn records(area: &[u8], begun: Place, with_text: bool) -> bool
     print::closing(area, n)
 }
 
+fn ended(printed: bool) -> End {
+    if !printed {
+        return depot_io::failed(b"standard output");
+    }
+    End::Whole
+}
+
 // The list, or the line for an area that is refused.
-fn listed(area: &[u8], with_text: bool) -> bool {
+fn listed(area: &[u8], with_text: bool) -> End {
     match walk::walk_end(area, MEASURES, true) {
-        Begun::At(p) => records(area, p, with_text),
+        Begun::At(p) => ended(records(area, p, with_text)),
         Begun::Refused(answer) => depot_io::refused(answer),
     }
 }
@@ -65,20 +73,22 @@ fn wanted() -> Kind {
 }
 
 // One byte more than the largest area, so that a longer file shows: no area has that length.
-fn list(with_text: bool) {
+fn list(with_text: bool) -> End {
     let mut space = [0u8; 65537];
     let n = depot_io::load(&mut space);
-    if !listed(&space[..n], with_text) {
-        os::fail(b"standard output");
-    }
+    listed(&space[..n], with_text)
+}
+
+fn usage() -> End {
+    io::write_all(libc::STDERR_FILENO, b"usage: list [--text]\n");
+    End::Failed
 }
 
 fn main() {
-    match wanted() {
+    let end = match wanted() {
         Kind::Plain => list(false),
         Kind::Text => list(true),
-        Kind::Unknown => {
-            io::write_all(libc::STDERR_FILENO, b"usage: list [--text]\n");
-        }
-    }
+        Kind::Unknown => usage(),
+    };
+    depot_io::tell(end);
 }

@@ -10,11 +10,8 @@ check-requires c κs = search needs
 enum-told : tie.Need-enum-told
 enum-told c = search needs
 
-file-requires : tie.Need-file-requires
-file-requires c κs = search needs
-
-close-requires : tie.Need-close-requires
-close-requires c κs = search needs
+day-requires : tie.Need-day-requires
+day-requires c κs = search needs
 
 refused-requires : tie.Need-refused-requires
 refused-requires c κs = search needs
@@ -29,13 +26,7 @@ same-length-2 : tie.Need-same-length-2
 same-length-2 c = search needs
 
 returns-2 : tie.Need-returns-2
-returns-2 c = search needs
-
-same-length-3 : tie.Need-same-length-3
-same-length-3 c = search needs
-
-returns-3 : tie.Need-returns-3
-returns-3 c = led-nowhere _
+returns-2 c = led-nowhere _
 
 pub open-spec : {M : Type 1} → statement M
 open-spec =
@@ -43,12 +34,9 @@ open-spec =
     (tie.spec
     check-requires
     enum-told
-    file-requires
-    close-requires
+    day-requires
     refused-requires
     same-length
     returns
     same-length-2
-    returns-2
-    same-length-3
-    returns-3)
+    returns-2)

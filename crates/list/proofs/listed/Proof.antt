@@ -16,6 +16,9 @@ records-requires c κs =
     let w = c .before .before .before in
     end-lists (now (w .before .before .args .area)) (w .walk-end .result) (c .before .p .given .0 .0) (c .before .p .given .1) (w .walk-end .ensures .0)
 
+ended-requires : tie.Need-ended-requires
+ended-requires c κs = search needs
+
 enum-known-answer : tie.Need-enum-known-answer
 enum-known-answer c = search needs
 
@@ -35,6 +38,7 @@ listed-spec =
     walk-end-requires
     enum-known-p
     records-requires
+    ended-requires
     enum-known-answer
     refused-requires
     returns

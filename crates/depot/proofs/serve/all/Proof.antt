@@ -10,10 +10,10 @@ use Rattle.lines_history.specs.Day.{Leads}
 use Rattle.lines_history.proofs.Led.{led-nowhere, led-on}
 
 abbrev Inv-loop : tie.InvT-loop
-Inv-loop fd area₀ place₀ area place = (length area ≡ length area₀) × Leads area₀ area
+Inv-loop fd area₀ place₀ end₀ area place end = (length area ≡ length area₀) × Leads area₀ area
 
 abbrev μ-loop : tie.MeasureT-loop
-μ-loop fd area₀ place₀ area place = 18446744073709551615 - place
+μ-loop fd area₀ place₀ end₀ area place end = 18446744073709551615 - place
 
 loop-holds : tie.Need-loop-holds Inv-loop μ-loop
 loop-holds c = (refl, led-nowhere _)
@@ -27,6 +27,9 @@ enum-told c = search needs
 enum-told-2 : tie.Need-enum-told-2 Inv-loop μ-loop
 enum-told-2 c = search needs
 
+enum-told-3 : tie.Need-enum-told-3 Inv-loop μ-loop
+enum-told-3 c = search needs
+
 same-length : tie.Need-same-length Inv-loop μ-loop
 same-length c = search needs
 
@@ -36,8 +39,8 @@ returns c =
     let o = k .before .before .before .loop in
     led-on _ (o .area) (k .one .last .1 .0) (o .inv .1) (k .one .ensures)
 
-enum-told-3 : tie.Need-enum-told-3 Inv-loop μ-loop
-enum-told-3 c = search needs
+enum-told-4 : tie.Need-enum-told-4 Inv-loop μ-loop
+enum-told-4 c = search needs
 
 same-length-2 : tie.Need-same-length-2 Inv-loop μ-loop
 same-length-2 c = search needs
@@ -56,7 +59,7 @@ loop-less c = search needs
 
 loop-again : tie.Need-loop-again Inv-loop μ-loop
 loop-again c =
-    let k = c .before .before .before .before in
+    let k = c .before .before .before in
     let o = k .before .before .before .loop in
     (k .one .kept .1 .0 ∙ o .inv .0, led-on _ (o .area) (k .one .last .1 .0) (o .inv .1) (k .one .ensures))
 
@@ -76,9 +79,10 @@ all-spec =
     one-requires
     enum-told
     enum-told-2
+    enum-told-3
     same-length
     returns
-    enum-told-3
+    enum-told-4
     same-length-2
     returns-2
     add-place

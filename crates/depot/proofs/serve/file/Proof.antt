@@ -13,14 +13,14 @@ open-read-requires c κs = search needs
 errno-requires : tie.Need-errno-requires
 errno-requires c κs = search needs
 
-returns : tie.Need-returns
-returns c = led-nowhere _
-
 slice-aggregate-fail : tie.Need-slice-aggregate-fail
 slice-aggregate-fail c = search needs
 
 fail-requires : tie.Need-fail-requires
 fail-requires c κs = search needs
+
+returns : tie.Need-returns
+returns c = led-nowhere _
 
 returns-2 : tie.Need-returns-2
 returns-2 c = led-nowhere _
@@ -44,9 +44,9 @@ file-spec =
     slice-aggregate-open-read
     open-read-requires
     errno-requires
-    returns
     slice-aggregate-fail
     fail-requires
+    returns
     returns-2
     all-requires
     close-requires

@@ -52,11 +52,20 @@ same-length c = search needs
 returns-3 : tie.Need-returns-3
 returns-3 c = search needs
 
+number-requires : tie.Need-number-requires
+number-requires c κs = search needs
+
 same-length-2 : tie.Need-same-length-2
 same-length-2 c = search needs
 
 returns-4 : tie.Need-returns-4
 returns-4 c = search needs
+
+same-length-3 : tie.Need-same-length-3
+same-length-3 c = search needs
+
+returns-5 : tie.Need-returns-5
+returns-5 c = search needs
 
 pub one-spec : {M : Type 1} → statement M
 one-spec =
@@ -78,5 +87,8 @@ one-spec =
     fail-requires-2
     same-length
     returns-3
+    number-requires
     same-length-2
-    returns-4)
+    returns-4
+    same-length-3
+    returns-5)
