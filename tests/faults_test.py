@@ -34,7 +34,7 @@ END = "logic=not-proved\n"
 
 
 def error(function, message):
-    return f"/tmp/target/must-fail/toy/bodies/proofs/{function}/Proof.antt:7:5: error: `returns`: {message}\n"
+    return f"target/must-fail/toy/bodies/proofs/{function}/Proof.antt:7:5: error: `returns`: {message}\n"
 
 
 FALSE_LOW = error("low", "`omega`: the goal does not follow from what it read")
