@@ -1,4 +1,6 @@
 // A record of a sound area, sought by its key or by its address.
+#![tactic(auto)]
+
 ghost use Rattle.std.specs.Prelude.{◌+◌, ◌≡◌, length};
 ghost use Rattle.measures.specs.Judgement.{Fits};
 ghost use Rattle.area_find.specs.AidSought.{Whole, Sought, sought_at, Inside};
@@ -7,7 +9,7 @@ use interval::{Found, Started};
 use measures::Measures;
 
 // Where a key belongs: the entry that it leads to, that entry's interval, and the key's place among the records there.
-#[derive(Drop)]
+#[derive(Clone, Copy)]
 pub struct KeyPlace {
     pub entry: usize,
     pub number: usize,
@@ -33,7 +35,7 @@ pub fn find(area: &[u8], m: Measures, n: usize, key: &[u8]) -> KeyPlace
 }
 
 // A record that lies in the area: where it begins, and how long it is.
-#[derive(Drop)]
+#[derive(Clone, Copy)]
 pub enum Lying {
     Here { from: usize, length: usize },
     Nowhere,

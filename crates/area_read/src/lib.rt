@@ -1,4 +1,6 @@
 // Whether a whole control area is sound: the index record, then every data interval in its role, in one pass in key order.
+#![tactic(auto)]
+
 ghost use Rattle.std.specs.Prelude.{◌+◌, ◌*◌, ◌≤◌, ◌<◌, min, ◌≡◌, true, false, [], length};
 ghost use Rattle.fields.specs.Choice.{pick};
 ghost use Rattle.measures.specs.Judgement.{Fits, width_for};
@@ -20,14 +22,14 @@ use interval_read::Opened;
 use measures::Measures;
 
 // An entry's interval as it was seen: sound in its role or not, and how many records it has.
-#[derive(Drop)]
+#[derive(Clone, Copy)]
 pub struct Seen {
     pub ok: bool,
     pub count: usize,
 }
 
 // The lowest unsound number so far, and how many records were counted.
-#[derive(Drop)]
+#[derive(Clone, Copy)]
 pub struct Tally {
     pub worst: usize,
     pub records: usize,

@@ -1,4 +1,6 @@
 // A record sought by its key in an area of which only what is read is judged: the index record, and the interval that the key leads to.
+#![tactic(auto)]
+
 ghost use Rattle.std.specs.Prelude.{◌+◌, ◌≤◌, ◌≡◌, [], length};
 ghost use Rattle.fields.specs.Choice.{pick};
 ghost use Rattle.measures.specs.Judgement.{Fits};
@@ -16,7 +18,7 @@ use measures::Measures;
 const LONGEST: usize = 255;
 
 // Where the record begins in the area, and how long it is; that there is none; or the place of the damage.
-#[derive(Drop)]
+#[derive(Clone, Copy)]
 pub enum Looked {
     Here { from: usize, length: usize },
     Nowhere,

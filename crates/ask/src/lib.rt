@@ -2,6 +2,8 @@
 // answer is a number. `belquita_read` serves the requests that only read, and is lent its areas to read;
 // `belquita_ask` serves every request. Neither asks anything of its caller: whatever is lent, each answers, and every
 // byte of the lent buffers and every value is said by crates/ask/specs.
+#![tactic(auto)]
+
 ghost use Rattle.std.specs.Prelude.{◌≤◌, ◌≡◌, length, get_or, ltb};
 ghost use Rattle.fields.specs.Choice.{pick};
 ghost use Rattle.fields.specs.Bytes.{splice};
@@ -16,7 +18,7 @@ use requests::Answer;
 use walk::{Begun, Place};
 
 // The requests that only read. A new one stands last.
-#[derive(Drop)]
+#[derive(Clone, Copy)]
 pub enum ReadKind {
     Check,
     Get,
@@ -28,7 +30,7 @@ pub enum ReadKind {
 }
 
 // The requests that change an area. A new one stands last.
-#[derive(Drop)]
+#[derive(Clone, Copy)]
 pub enum ChangeKind {
     Insert,
     Update,
@@ -36,7 +38,7 @@ pub enum ChangeKind {
 }
 
 // What is asked for; nothing where it is not there.
-#[derive(Drop)]
+#[derive(Clone, Copy)]
 pub enum Asked {
     Reads(ReadKind),
     Changes(ChangeKind),
@@ -44,7 +46,7 @@ pub enum Asked {
 }
 
 // What is said of a kind: which request it is, how many numbers it must have, and whether the fifth is a direction.
-#[derive(Drop)]
+#[derive(Clone, Copy)]
 pub struct Row {
     pub asks: Asked,
     pub numbers: usize,
@@ -52,7 +54,7 @@ pub struct Row {
 }
 
 // The number and the eight values, 0 where there are fewer.
-#[derive(Drop)]
+#[derive(Clone, Copy)]
 pub struct Told {
     pub number: usize,
     pub first: usize,

@@ -1,8 +1,9 @@
 // A change of an area as a list of stores, what it wrote, and the laws of what is stored. Only a type, definitions and proofs: the code that makes a change stands above.
+#![tactic(auto)]
 
 // What an accepted change tells: how many intervals it wrote, and their buffer numbers, ascending: the index record is 0, data interval i is i + 1. Past the
 // count stands 0.
-#[derive(Drop)]
+#[derive(Clone, Copy)]
 pub struct Written {
     pub count: usize,
     pub first: usize,

@@ -1,4 +1,6 @@
 // What an edit of one interval of a sound area comes to: 6, 7, or a plan. It only reads, and copies nothing out of the area but a few keys.
+#![tactic(auto)]
+
 ghost use Rattle.std.specs.Prelude.{◌+◌, ◌*◌, ◌≤◌, ◌<◌, ◌≡◌, length, drop};
 ghost use Rattle.fields.specs.Bytes.{part};
 ghost use Rattle.fields.specs.Lists.{swap};
@@ -15,7 +17,7 @@ use interval_edit::Site;
 use measures::Measures;
 
 // Into how many parts the records fall, and the cuts: before record `first`, and before record `second` where there are three.
-#[derive(Drop)]
+#[derive(Clone, Copy)]
 pub struct Parts {
     pub many: usize,
     pub first: usize,
@@ -23,7 +25,7 @@ pub struct Parts {
 }
 
 // How an edit is made: where; in which parts; the free intervals that the later parts take; the size of the renewed index record.
-#[derive(Drop)]
+#[derive(Clone, Copy)]
 pub struct Spread {
     pub site: Site,
     pub parts: Parts,
@@ -33,7 +35,7 @@ pub struct Spread {
 }
 
 // A plan; or 6, too few intervals are free; or 7, the index record has no room.
-#[derive(Drop)]
+#[derive(Clone, Copy)]
 pub enum Planned {
     Ready { spread: Spread },
     NoInterval,

@@ -1,5 +1,7 @@
 // A plan of a change, carried out in the area: it cannot be refused any more. Nothing but lengths and a few keys is copied out of the area; records are
 // moved within it.
+#![tactic(auto)]
+
 ghost use Rattle.std.specs.Prelude.{◌+◌, ◌≤◌, ◌<◌, ◌≡◌, [], length, take};
 ghost use Rattle.room.specs.Room.{need};
 ghost use Rattle.interval.specs.Reading.{records_in};
@@ -19,7 +21,7 @@ use interval_edit::Site;
 use measures::Measures;
 
 // Which intervals were written; or why none was: too few are free, or the index record has no room.
-#[derive(Drop)]
+#[derive(Clone, Copy)]
 pub enum Made {
     Done(Written),
     NoInterval,
@@ -27,14 +29,14 @@ pub enum Made {
 }
 
 // Some bytes of the edited records.
-#[derive(Drop)]
+#[derive(Clone, Copy)]
 pub(crate) struct Span {
     pub(crate) from: usize,
     pub(crate) to: usize,
 }
 
 // Some of the edited records, and the interval of the buffer that they go to.
-#[derive(Drop)]
+#[derive(Clone, Copy)]
 pub(crate) struct Stretch {
     pub(crate) place: usize,
     pub(crate) first: usize,

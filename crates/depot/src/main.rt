@@ -1,5 +1,7 @@
 // The depot's program. It takes the area of the file area.ci, serves the requests of requests.rec in their order, prints
 // what each of them is answered and how the area stands at the end, leaves the area in area.out, and tells how it ended.
+#![tactic(auto)]
+
 mod files;
 mod print;
 mod serve;

@@ -7,7 +7,7 @@ use lines::Line;
 
 // What became of one turn: a request was done, or was refused; the file was at its end; or it could not be read or its line
 // not be printed.
-#[derive(Drop)]
+#[derive(Clone, Copy)]
 enum Turn {
     Done,
     Refused,

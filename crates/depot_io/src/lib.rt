@@ -1,5 +1,7 @@
 // What the programs of a depot have in common: the area's file read; words, numbers, bytes and refusals printed; and how a
 // run ended, told to the script that started it.
+#![tactic(auto)]
+
 ghost use Rattle.io.specs.Counts.{IsPrefixLen};
 
 use libc::STDOUT_FILENO;
@@ -7,7 +9,7 @@ use requests::Answer;
 
 // How many bytes a read brought to the front of a buffer, and whether it failed before the buffer was full or the file
 // ended.
-#[derive(Drop)]
+#[derive(Clone, Copy)]
 pub struct Got {
     pub bytes: usize,
     pub failed: bool,
@@ -75,7 +77,7 @@ pub fn hex(bytes: &[u8]) -> bool {
 
 // How a run ended: all was done; some request was refused, and all the others are stored; or nothing is stored, or not all of
 // a list printed.
-#[derive(Drop)]
+#[derive(Clone, Copy)]
 pub enum End {
     Whole,
     Partly,

@@ -1,4 +1,6 @@
 // Over how many intervals records are spread, and where they are cut: document 01, 'Dividing an interval'.
+#![tactic(auto)]
+
 ghost use Rattle.std.specs.Prelude.{◌+◌, ◌*◌, ◌≤◌, ◌<◌, ◌≡◌, length};
 ghost use Rattle.room.specs.AidSteps.{room_of};
 ghost use Rattle.division.specs.Division.{distance, best_cut, division_of};
@@ -8,7 +10,7 @@ use room::Room;
 
 // Rule 1: the records stay. Rule 2: two parts, the first with `cut` records. Rule 3: those before the changed record, it alone,
 // those after.
-#[derive(Drop)]
+#[derive(Clone, Copy)]
 pub enum Division {
     Stays,
     Two { cut: usize },
@@ -16,7 +18,7 @@ pub enum Division {
 }
 
 // The best cut so far, 0 for none yet, and what the record bytes of its parts differ in.
-#[derive(Drop)]
+#[derive(Clone, Copy)]
 pub(crate) struct Chosen {
     pub(crate) cut: usize,
     pub(crate) difference: usize,

@@ -1,5 +1,7 @@
 // The register for programs in C: every request on numbers and byte buffers, for tests and measurements. Below the requests stand
 // three functions of lower floors that are worth timing alone; each asks what the function that it calls asks.
+#![tactic(auto)]
+
 mod walks;
 
 ghost use Rattle.std.specs.Prelude.{◌≡◌, ◌≤◌, length, nat_lt};
@@ -18,7 +20,7 @@ use measures::Measures;
 use requests::Answer;
 
 // An answer as C reads it: its number, and the values that come with it, 0 where there are fewer.
-#[derive(Drop)]
+#[derive(Clone, Copy)]
 pub struct Values {
     pub number: usize,
     pub first: usize,

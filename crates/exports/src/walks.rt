@@ -8,7 +8,7 @@ use requests::Answer;
 use walk::{Begun, Place};
 
 // What a walk begins with, as C reads it: 0 and the place; or a refusal's number and, in the place of an entry, the place of damage.
-#[derive(Drop)]
+#[derive(Clone, Copy)]
 pub(crate) struct Start {
     pub number: usize,
     pub place: Place,

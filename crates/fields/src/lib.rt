@@ -1,10 +1,12 @@
 // Numbers and parts of byte lists: what every layout is read and written by.
+#![tactic(auto)]
+
 ghost use Rattle.std.specs.Prelude.{◌+◌, ◌-◌, ◌*◌, ◌^◌, ◌≤◌, ◌<◌, ◌≡◌, ◌⊎◌, length, replicate};
 ghost use Rattle.fields.specs.Bytes.{part, number, digits, splice};
 ghost use Rattle.fields.specs.Order.{order_of, common};
 
 // How one byte list stands to another.
-#[derive(Drop)]
+#[derive(Clone, Copy)]
 pub enum Order {
     Less,
     Same,

@@ -1,4 +1,6 @@
 // Where a key leads in a sound index record.
+#![tactic(auto)]
+
 ghost use Rattle.std.specs.Prelude.{◌+◌, ◌≤◌, ◌<◌, ◌≡◌, length, take};
 ghost use Rattle.fields.specs.Order.{less};
 ghost use Rattle.index_find.specs.AidLocate.{Searchable, Leads};
@@ -7,7 +9,7 @@ use fields::Order;
 use index_step::BUFFER;
 
 // The entry that a key leads to: its place among the entries, from 0, and the number of its interval.
-#[derive(Drop)]
+#[derive(Clone, Copy)]
 pub struct Located {
     pub ordinal: usize,
     pub number: usize,

@@ -1,5 +1,7 @@
 // The pen that writes the entries of an index record one after another, in the writer's sections. Lent no record, no more than the seven bytes behind one, it only counts
 // the bytes that they take.
+#![tactic(auto)]
+
 ghost use Rattle.std.specs.Prelude.{◌+◌, ◌-◌, ◌≤◌, ◌<◌, min, ◌≡◌, true, false, length};
 ghost use Rattle.fields.specs.Bytes.{splice};
 ghost use Rattle.sections.specs.Form.{section_for};
@@ -8,7 +10,7 @@ ghost use Rattle.index_pen.specs.AidPen.{pen_begun, piece_stored, Linkable, pen_
 // The bytes of a pointer; how many entries a section has, how many are to come in the open one, and in all; the
 // length of the highest of the section before, with which a buffer begins; the bytes that the entries take. Where some section is closed: the places of the
 // first one's highest, of the last one's field, and of the last one's highest, each of these by its control information.
-#[derive(Drop)]
+#[derive(Clone, Copy)]
 pub struct Pen {
     pub width: usize,
     pub most: usize,

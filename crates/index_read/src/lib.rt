@@ -1,4 +1,6 @@
 // The index record, read and judged in one walk.
+#![tactic(auto)]
+
 ghost use Rattle.std.specs.Prelude.{ℕ, ◌+◌, ◌-◌, ◌*◌, ◌≤◌, ◌<◌, ◌≡◌, true, false, List, ◌⊎◌, length, get_or, take, eqb};
 ghost use Rattle.fields.specs.Choice.{pick, both, no};
 ghost use Rattle.fields.specs.Bytes.{part, number};
@@ -19,7 +21,7 @@ use index_step::{BUFFER, PassPlace, Step};
 use measures::LIMIT;
 
 // The entry that a key leads to: its place among the entries, from 0, its number, and how many bytes the separator before it and its own have.
-#[derive(Drop)]
+#[derive(Clone, Copy)]
 pub struct Lead {
     pub ordinal: usize,
     pub number: usize,
@@ -29,7 +31,7 @@ pub struct Lead {
 
 // Which interval numbers were met, whether all that was met kept the rules, and where the key leads that was sought. `free` and `used`, how many numbers are free and how
 // many entries there are, come from the header before the walk. The struct goes through the walk, whose loops have its marks lent.
-#[derive(Drop)]
+#[derive(Clone, Copy)]
 pub(crate) struct Marks {
     pub seen: [u8; LIMIT],
     pub used: usize,
@@ -42,14 +44,14 @@ pub(crate) struct Marks {
 }
 
 // One entry taken apart.
-#[derive(Drop)]
+#[derive(Clone, Copy)]
 pub(crate) enum Parsed {
     Of(Step),
     Bad,
 }
 
 // What the displacements say: how many free numbers there are, and where the entries begin, the last of them with its section's field.
-#[derive(Drop)]
+#[derive(Clone, Copy)]
 pub(crate) enum Places {
     At { free: usize, edge: usize },
     Nowhere,
@@ -57,7 +59,7 @@ pub(crate) enum Places {
 
 // What the entries are judged by: the bytes of a pointer, where the last of them must begin with its section's field, how many intervals there
 // are, how many of them have an entry, the key's length.
-#[derive(Drop)]
+#[derive(Clone, Copy)]
 pub(crate) struct Limits {
     pub width: usize,
     pub edge: usize,
@@ -69,7 +71,7 @@ pub(crate) struct Limits {
 // Where a walk over a section's entries sets out: the place, the entries left, and the reach of the key that is sought. That is 0 where none is sought, or no
 // more. Else the separator before has one byte less than `reach` in common with the key, and its next one is lower, if it has so many at all: so every
 // separator whose F is at least `reach` is below the key, without a look at its characters.
-#[derive(Drop)]
+#[derive(Clone, Copy)]
 pub(crate) struct Leg {
     pub p: PassPlace,
     pub left: usize,
@@ -77,21 +79,21 @@ pub(crate) struct Leg {
 }
 
 // Where a section's highest or the entry sought was met, and how many entries are left from it on.
-#[derive(Drop)]
+#[derive(Clone, Copy)]
 pub(crate) enum Stop {
     At { p: PassPlace, left: usize },
     Wrong,
 }
 
 // What the walk over all entries tells: whether they kept the rules, and where the key leads that was sought.
-#[derive(Drop)]
+#[derive(Clone, Copy)]
 pub(crate) struct Walked {
     pub ok: bool,
     pub spot: Lead,
 }
 
 // A sound record with its free intervals and entries, and where the key leads that was sought.
-#[derive(Drop)]
+#[derive(Clone, Copy)]
 pub(crate) enum Verdict {
     Sound {
         free: usize,
@@ -102,14 +104,14 @@ pub(crate) enum Verdict {
 }
 
 // What the check of an index record answers.
-#[derive(Drop)]
+#[derive(Clone, Copy)]
 pub enum Index {
     Sound { free: usize, entries: usize },
     Unsound,
 }
 
 // What a check of an index record answers that seeks a key.
-#[derive(Drop)]
+#[derive(Clone, Copy)]
 pub enum Sought {
     At(Lead),
     Unsound,

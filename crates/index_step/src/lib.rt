@@ -1,4 +1,6 @@
 // What every pass over an index record goes by: how many numbers are free, one entry taken apart, the separators that run along.
+#![tactic(auto)]
+
 ghost use Rattle.std.specs.Prelude.{◌+◌, ◌-◌, ◌≤◌, ◌<◌, ◌≡◌, length};
 ghost use Rattle.fields.specs.Choice.{pick};
 ghost use Rattle.fields.specs.Bytes.{part, splice};
@@ -18,7 +20,7 @@ pub const BUFFER: usize = 263;
 
 // Where a pass stands: the next entry ends at `right`; the control information of its section's highest lies at `end`. The separator before it
 // are the first `len` bytes of one buffer, the highest of the section before the first `high` bytes of another.
-#[derive(Drop)]
+#[derive(Clone, Copy)]
 pub struct PassPlace {
     pub right: usize,
     pub end: usize,
@@ -27,7 +29,7 @@ pub struct PassPlace {
 }
 
 // An entry: F, how many characters it has and where they begin, its number, and whether it is the highest of its section.
-#[derive(Drop)]
+#[derive(Clone, Copy)]
 pub struct Step {
     pub front: usize,
     pub len: usize,

@@ -1,19 +1,21 @@
 // The entries of an index record one after another, by their lengths alone, without their separators: document 02, L1. Nothing is judged; of a sound record the steps
 // meet its entries, of other bytes they give what their definition says, and look at nothing outside the record.
+#![tactic(auto)]
+
 ghost use Rattle.std.specs.Prelude.{◌≡◌};
 ghost use Rattle.index_walk.specs.AidPasses.{pass_of, edge_first};
 
 use index_step::PassPlace;
 
 // Where the next entry ends, and where the control information of its section's highest lies.
-#[derive(Drop)]
+#[derive(Clone, Copy)]
 pub struct Edge {
     pub right: usize,
     pub end: usize,
 }
 
 // An entry's number, what lies past it, and whether it is the last; or that none can be read there.
-#[derive(Drop)]
+#[derive(Clone, Copy)]
 pub enum Met {
     Entry {
         number: usize,

@@ -1,5 +1,7 @@
 // The writer of an index record after a division. It streams: separators run along the old entries, once for the size of the new record, once for its bytes, which
 // are made from a copy of the old one. The same pass does both, with a pen that stores or one that counts.
+#![tactic(auto)]
+
 ghost use Rattle.std.specs.Prelude.{◌+◌, ◌-◌, ◌≤◌, ◌<◌, ◌^◌, ◌≡◌, false, length, get_or, take};
 ghost use Rattle.fields.specs.Bytes.{splice};
 ghost use Rattle.fields.specs.Order.{common};
@@ -15,7 +17,7 @@ use index_pen::Pen;
 use index_step::{BUFFER, PassPlace, Step};
 
 // Where a pass stands: before which old entry, with the new record as far as it has been made; and how many old entries it is to put.
-#[derive(Drop)]
+#[derive(Clone, Copy)]
 pub(crate) struct Cursor {
     place: PassPlace,
     pen: Pen,
@@ -23,14 +25,14 @@ pub(crate) struct Cursor {
 }
 
 // What is to be done: entry i of a record of n intervals is divided.
-#[derive(Drop)]
+#[derive(Clone, Copy)]
 pub(crate) struct Job {
     n: usize,
     i: usize,
 }
 
 // A division: the cuts, the number of the entry, and the first free number that is taken.
-#[derive(Drop)]
+#[derive(Clone, Copy)]
 pub(crate) struct Division {
     cuts: Cuts,
     number: usize,
@@ -38,7 +40,7 @@ pub(crate) struct Division {
 }
 
 // The separators of the cuts, as parts of some bytes: one cut, or two.
-#[derive(Drop)]
+#[derive(Clone, Copy)]
 pub struct Cuts {
     pub three: bool,
     pub from: usize,
@@ -48,7 +50,7 @@ pub struct Cuts {
 }
 
 // The last cut: where its separator lies, and how many cuts there are.
-#[derive(Drop)]
+#[derive(Clone, Copy)]
 pub(crate) struct LastCut {
     from: usize,
     to: usize,

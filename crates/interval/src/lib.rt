@@ -1,7 +1,8 @@
 // One data interval: its layout, its reading, and the laws between them.
+#![tactic(auto)]
 
 // Where a key stands among the records of an interval, or where it would stand.
-#[derive(Drop)]
+#[derive(Clone, Copy)]
 pub enum Found {
     At {
         ordinal: usize,
@@ -15,7 +16,7 @@ pub enum Found {
 }
 
 // The record that begins at a place, or that none does.
-#[derive(Drop)]
+#[derive(Clone, Copy)]
 pub enum Started {
     Here { length: usize },
     Nothing,

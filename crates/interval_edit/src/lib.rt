@@ -1,4 +1,6 @@
 // Where an interval's records are edited, and their lengths once they are.
+#![tactic(auto)]
+
 ghost use Rattle.std.specs.Prelude.{◌+◌, ◌-◌, ◌≤◌, ◌<◌, ◌≡◌, length};
 ghost use Rattle.fields.specs.Bytes.{part, splice};
 ghost use Rattle.interval_edit.specs.AidChanged.{Tellable, old_lengths, new_lengths};
@@ -6,7 +8,7 @@ ghost use Rattle.interval_edit.specs.AidChanged.{Tellable, old_lengths, new_leng
 use measures::Measures;
 
 // Where an edit is made: an entry and the number of its interval; the `gone` records from `ordinal` on, whose `span` bytes begin at `start`.
-#[derive(Drop)]
+#[derive(Clone, Copy)]
 pub struct Site {
     pub entry: usize,
     pub number: usize,

@@ -1,4 +1,6 @@
 // The records of a sound data interval: searched for a key or a place, and told by their lengths, run by run.
+#![tactic(auto)]
+
 ghost use Rattle.std.specs.Prelude.{◌+◌, ◌-◌, ◌*◌, ◌^◌, ◌≤◌, ◌<◌, ◌≡◌, map, length, replicate};
 ghost use Rattle.fields.specs.Bytes.{splice, part};
 ghost use Rattle.fields.specs.Order.{order_of};
@@ -13,7 +15,7 @@ use measures::Measures;
 use rdf::Front;
 
 // Where the RDFs begin, and how many there are.
-#[derive(Drop)]
+#[derive(Clone, Copy)]
 pub(crate) struct Rdfs {
     at: usize,
     many: usize,
@@ -35,7 +37,7 @@ pub(crate) fn rdfs_of(ci: &[u8]) -> Rdfs
 }
 
 // Records of one length that lie one after another: the ordinal of the first, where it begins, how long each is, and how many follow it.
-#[derive(Drop)]
+#[derive(Clone, Copy)]
 pub(crate) struct Run {
     ordinal: usize,
     start: usize,

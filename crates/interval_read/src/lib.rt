@@ -1,4 +1,6 @@
 // Whether a data interval is sound: one walk over its RDFs and records.
+#![tactic(auto)]
+
 ghost use Rattle.std.specs.Prelude.{◌+◌, ◌-◌, ◌*◌, ◌≤◌, ◌<◌, ◌≡◌, true, false, [], length, eqb};
 ghost use Rattle.fields.specs.Choice.{pick};
 ghost use Rattle.fields.specs.Bytes.{part};
@@ -16,7 +18,7 @@ use measures::Measures;
 use rdf::Front;
 
 // The verdict: how many records, their bytes, how many RDFs, and where the last record begins (0 where there is none).
-#[derive(Drop)]
+#[derive(Clone, Copy)]
 pub enum Verdict {
     Sound {
         count: usize,
@@ -28,7 +30,7 @@ pub enum Verdict {
 }
 
 // What the CIDF says: the records' bytes, where the RDFs begin, how many they are.
-#[derive(Drop)]
+#[derive(Clone, Copy)]
 pub enum Tail {
     Of {
         bytes: usize,
@@ -250,7 +252,7 @@ pub fn free_sound(ci: &[u8], m: Measures) -> bool
 }
 
 // What is known of an interval that is sound and has no key at or below the bound before: how many records, where the last begins.
-#[derive(Drop)]
+#[derive(Clone, Copy)]
 pub enum Opened {
     Sound { count: usize, last: usize },
     Bad,

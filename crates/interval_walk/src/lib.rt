@@ -1,5 +1,7 @@
 // The records of a data interval one after another, in either direction, each from the one before it: document 02, L1. A step judges nothing. Of a sound interval the
 // steps give its records; of other bytes, and from a spot that was made up, they give what their definitions say, and look at nothing outside the interval.
+#![tactic(auto)]
+
 ghost use Rattle.std.specs.Prelude.{◌+◌, ◌≤◌, ◌≡◌, length};
 ghost use Rattle.interval.specs.Reading.{records_in, Readable};
 ghost use Rattle.interval_walk.specs.AidSpots.{no_spot, end_of, left_of, right_of, first_of, last_of, after_of, before_of, SpotOf};
@@ -9,7 +11,7 @@ use rdf::{Control, Front};
 
 // A record: where it begins in the interval, how long it is (0 where there is none), how many records of its run are still to come in the direction, and where the
 // run's RDFs end in that direction: forwards where they begin, backwards where they end.
-#[derive(Drop)]
+#[derive(Clone, Copy)]
 pub struct Spot {
     pub start: usize,
     pub len: usize,

@@ -1,4 +1,6 @@
 // The writer of a data interval: document 01, 'Data interval'. Every byte of the interval is written.
+#![tactic(auto)]
+
 ghost use Rattle.std.specs.Prelude.{◌+◌, ◌-◌, ◌*◌, ◌≤◌, ◌<◌, ◌≡◌, length, take};
 ghost use Rattle.fields.specs.Bytes.{splice};
 ghost use Rattle.fields.specs.Lists.{sum};

@@ -1,4 +1,6 @@
 // One request line of a depot, served at the depot's measures: S 512, keys of 8 bytes at offset 0, records of at most 60 bytes.
+#![tactic(auto)]
+
 ghost use Rattle.std.specs.Prelude.{◌<◌, ◌≡◌};
 ghost use Rattle.lines.specs.Lines.{served_of, Serves, line_number};
 ghost use Rattle.lines.specs.Hex.{hex_text_of, HexWritten, digit_of};
@@ -6,7 +8,7 @@ ghost use Rattle.lines.specs.Hex.{hex_text_of, HexWritten, digit_of};
 use requests::Answer;
 
 // What a request line comes to: it is no request, or the register has told its answer.
-#[derive(Drop)]
+#[derive(Clone, Copy)]
 pub enum Line {
     Bad,
     Told(Answer),

@@ -1,5 +1,7 @@
 // The printed list. It takes the area of the file area.ci and prints a line for each record in the order of their keys: its place from 1, its key and the whole record
 // in hexadecimal digits, and with the word --text the record as text; then how many there are. At the end it tells whether all of that was printed.
+#![tactic(auto)]
+
 mod print;
 
 ghost use Rattle.list.specs.Listed.{Lists};
@@ -49,7 +51,7 @@ fn listed(area: &[u8], with_text: bool) -> End {
 }
 
 // What the program's words ask for.
-#[derive(Drop)]
+#[derive(Clone, Copy)]
 enum Kind {
     Plain,
     Text,

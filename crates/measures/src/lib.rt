@@ -1,10 +1,12 @@
 // The measures of an area: which sizes are permitted, and refusal 1.
+#![tactic(auto)]
+
 ghost use Rattle.std.specs.Prelude.{◌≡◌, length};
 ghost use Rattle.measures.specs.Sizes.{permitted_size};
 ghost use Rattle.measures.specs.Judgement.{asked, judged_of, width_for};
 
 // What every definition and function below the requests goes by. `least` is the shortest record.
-#[derive(Drop)]
+#[derive(Clone, Copy)]
 pub struct Measures {
     pub size: usize,
     pub offset: usize,
@@ -14,7 +16,7 @@ pub struct Measures {
 }
 
 // The four numbers that a request is asked with: the size of an interval, the key's offset and length, the longest record.
-#[derive(Drop)]
+#[derive(Clone, Copy)]
 pub struct Numbers {
     pub size: usize,
     pub offset: usize,
@@ -22,7 +24,7 @@ pub struct Numbers {
     pub most: usize,
 }
 
-#[derive(Drop)]
+#[derive(Clone, Copy)]
 pub enum Judged {
     Fine { measures: Measures, count: usize },
     Outside,

@@ -1,4 +1,6 @@
 // What every request does first: the measures are judged and the area is checked, once.
+#![tactic(auto)]
+
 ghost use Rattle.std.specs.Prelude.{◌≡◌};
 ghost use Rattle.measures.specs.Judgement.{asked};
 ghost use Rattle.opening.specs.AidOpened.{opened_of};
@@ -8,7 +10,7 @@ use measures::{Judged, Measures, Numbers};
 use requests::Answer;
 
 // A sound area with its measures and how many data intervals, records and free intervals it has; or refusal 1 or 2.
-#[derive(Drop)]
+#[derive(Clone, Copy)]
 pub enum Opened {
     Whole {
         measures: Measures,

@@ -1,11 +1,13 @@
 // RDFs: the control byte and the busy flag, taken apart and put together by masks and shifts; and the groups that RDFs make.
+#![tactic(auto)]
+
 ghost use Rattle.std.specs.Prelude.{◌+◌, ◌-◌, ◌*◌, ◌/◌, ◌%◌, ◌≤◌, ◌<◌, ◌≡◌, length, eqb};
 ghost use Rattle.interval.specs.Reading.{rdfs};
 ghost use Rattle.rdf.specs.Control.{control_of};
 ghost use Rattle.rdf.specs.AidFront.{front_of, pair_of, Small};
 
 // The kinds of control byte: one record's length, a run's length, a run's count, or none of the three that are sound.
-#[derive(Drop)]
+#[derive(Clone, Copy)]
 pub enum Control {
     Single,
     Paired,
@@ -66,7 +68,7 @@ pub fn with_flag(busy: usize, unused: usize) -> usize
 }
 
 // The first group of some RDFs: its record length, how many records, how many RDFs it takes.
-#[derive(Drop)]
+#[derive(Clone, Copy)]
 pub enum Front {
     Run {
         len: usize,

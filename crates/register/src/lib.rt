@@ -1,5 +1,7 @@
 // The register: the requests that a depot may make of a control area. None of them asks anything of its caller; whatever is lent,
 // each answers, and a refusal leaves area and output byte for byte as they were.
+#![tactic(auto)]
+
 ghost use Rattle.std.specs.Prelude.{◌+◌, ◌≤◌, ◌≡◌, [], ◌∷◌, length};
 ghost use Rattle.fields.specs.Choice.{pick};
 ghost use Rattle.fields.specs.Bytes.{part};
@@ -155,7 +157,7 @@ pub fn get_at(
 }
 
 // Which change is asked for.
-#[derive(Drop)]
+#[derive(Clone, Copy)]
 pub(crate) enum Kind {
     Insert,
     Update,
@@ -163,7 +165,7 @@ pub(crate) enum Kind {
 }
 
 // Where a change is made, or why it may not be.
-#[derive(Drop)]
+#[derive(Clone, Copy)]
 pub(crate) enum Aim {
     At { site: Site },
     Not { answer: Answer },

@@ -1,11 +1,13 @@
 // What the requests answer: the kinds of answer, their numbers, and the meaning of each request.
+#![tactic(auto)]
+
 ghost use Rattle.std.specs.Prelude.{◌≡◌};
 ghost use Rattle.requests.specs.Answers.{number_of};
 
 use change::Written;
 
 // The kinds of answer, each with its own values. Document 01's number for each is given by `number`.
-#[derive(Drop)]
+#[derive(Clone, Copy)]
 pub enum Answer {
     Done(Written),
     Found(usize),

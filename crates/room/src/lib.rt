@@ -1,4 +1,6 @@
 // Room that records of given lengths take in an interval.
+#![tactic(auto)]
+
 ghost use Rattle.std.specs.Prelude.{ℕ, ◌+◌, ◌*◌, ◌≤◌, ◌<◌, ◌≡◌, List, length, get_or, take, drop};
 ghost use Rattle.fields.specs.Lists.{sum};
 ghost use Rattle.room.specs.Room.{need};
@@ -6,7 +8,7 @@ ghost use Rattle.room.specs.AidSteps.{ahead, room_of, also, also_run, RunAt};
 
 // What records take so far, as much as is needed to add one more: their bytes; their RDFs; the last length; and 0, 1 or 2
 // where no record, a single one or a run stands at the end.
-#[derive(Drop)]
+#[derive(Clone, Copy)]
 pub struct Room {
     pub bytes: usize,
     pub rdfs: usize,

@@ -1,4 +1,6 @@
 // The register for the scanners' program in C: check and get by key, on numbers and byte buffers. include/belquita.h is what that program sees of it.
+#![tactic(auto)]
+
 ghost use Rattle.std.specs.Prelude.{◌+◌, ◌*◌, ◌≤◌, ◌<◌, ◌≡◌};
 ghost use Rattle.measures.specs.Judgement.{limit, measures};
 ghost use Rattle.requests.specs.Reading.{check_of, get_of};

@@ -1,1 +1,2 @@
 // The index record in sections. Only definitions and proofs.
+#![tactic(auto)]

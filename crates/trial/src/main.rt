@@ -1,4 +1,6 @@
 // Carries out the steps of the file `script` with the register, one after another, and prints what comes out.
+#![tactic(auto)]
+
 mod print;
 mod request;
 mod script;
@@ -7,7 +9,7 @@ mod walks;
 use script::Head;
 
 // What became of a step: so many bytes are the area from now on, the script was at its end, or this is no step.
-#[derive(Drop)]
+#[derive(Clone, Copy)]
 enum Turn {
     Held(usize),
     Ended,

@@ -11,14 +11,14 @@ ghost use Rattle.io.specs.Counts.{IsPrefixLen};
 use measures::Numbers;
 
 // How many bytes came to the front of a buffer, and whether all of them did.
-#[derive(Drop)]
+#[derive(Clone, Copy)]
 pub(crate) struct Got {
     pub bytes: usize,
     pub whole: bool,
 }
 
 // A request as the script has it, but for its key or record. `lent` and `out` are lengths, of its area and of its output.
-#[derive(Drop)]
+#[derive(Clone, Copy)]
 pub(crate) struct Ask {
     pub letter: u8,
     pub numbers: Numbers,
@@ -27,7 +27,7 @@ pub(crate) struct Ask {
     pub address: u64,
 }
 
-#[derive(Drop)]
+#[derive(Clone, Copy)]
 pub(crate) enum Head {
     Whole(Ask),
     Cut,

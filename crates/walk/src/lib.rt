@@ -2,6 +2,8 @@
 // record to record in one direction. A place carries what makes a step quick, and a step judges nothing. From a place that a walk began with or that a step gave, on
 // the area as it was when the walk began, the steps give the records of the walk, each once, and then the end for ever. Between steps a caller may do what it
 // likes but change the area: then, and from a place that was made up, each step gives a place whose record is empty or a part of the area, and nothing more is promised.
+#![tactic(auto)]
+
 ghost use Rattle.std.specs.Prelude.{◌+◌, ◌-◌, ◌*◌, ◌^◌, ◌≤◌, ◌<◌, ◌≡◌, true, false, length};
 ghost use Rattle.measures.specs.Judgement.{Fits, asked, width_for};
 ghost use Rattle.interval.specs.Reading.{records_in, Readable};
@@ -25,7 +27,7 @@ use requests::Answer;
 // Where a walk stands: at a record, or at the end, where the length is 0. `entry` is its entry, from 0, `start` where it begins in the area. The rest makes steps quick:
 // how many records of its run are still to come, and where the run's RDFs end in the direction, in the interval; forwards also where the next entry of the
 // index record ends, 0 after the last, and where its section's highest lies.
-#[derive(Drop)]
+#[derive(Clone, Copy)]
 pub struct Place {
     pub entry: usize,
     pub start: usize,
@@ -37,7 +39,7 @@ pub struct Place {
 }
 
 // A walk begun at a place, or refused.
-#[derive(Drop)]
+#[derive(Clone, Copy)]
 pub enum Begun {
     At(Place),
     Refused(Answer),
@@ -123,7 +125,7 @@ pub(crate) fn ahead(area: &[u8], size: usize, n: usize, entry: usize, from: Edge
 }
 
 // An entry whose interval has records, by its ordinal and its interval's number and one; 0 for none.
-#[derive(Drop)]
+#[derive(Clone, Copy)]
 pub(crate) struct Filled {
     pub entry: usize,
     pub place: usize,

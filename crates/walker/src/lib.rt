@@ -1,5 +1,7 @@
 // A walker over the register: it borrows the area and remembers its place in it: document 02, L1. Thin functions over the steps of crate walk. A walk begins there, with its
 // refusals, before there is a walker.
+#![tactic(auto)]
+
 ghost use Rattle.std.specs.Prelude.{◌≡◌};
 ghost use Rattle.walk.specs.AidSteps.{next_of, Shown};
 ghost use Rattle.walker.specs.Walkers.{walker_at, walker_next};
@@ -7,7 +9,7 @@ ghost use Rattle.walker.specs.Walkers.{walker_at, walker_next};
 use walk::Place;
 
 // The area, the size of its intervals, the direction, and the place.
-#[derive(Drop)]
+#[derive(Clone, Copy)]
 pub struct Walker<'a> {
     pub area: &'a [u8],
     pub size: usize,
