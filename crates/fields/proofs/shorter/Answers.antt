@@ -1,0 +1,11 @@
+-- Arithmetic alone: the test a < b says in each arm that the result is at most both numbers, and it is one of the two.
+use mathlib.Core.Path.{refl}
+use mathlib.Core.Logic.{inl, inr}
+use native.Mathlib.Omega.{arith}
+use Rattle.fields.proofs.shorter.Goals as goal
+
+pub returns-then-a-b : goal.returns-then-a-b
+returns-then-a-b c = (omega arith, omega arith, inl refl)
+
+pub returns-else-a-b : goal.returns-else-a-b
+returns-else-a-b c = (omega arith, omega arith, inr refl)
