@@ -11,8 +11,7 @@ use Rattle.fields.proofs.Masks.{below_eq}
 use Rattle.rdf.specs.Control.{control_of}
 use Rattle.rdf.specs.declared.Control.{Control}
 use Rattle.rdf.specs.declared.Control.TheVariants.{Single, Paired, Count, Bad}
-use Rattle.rdf.proofs.take_apart.Statement.{statement}
-use Rattle.rdf.proofs.take_apart.Tie as tie
+use Rattle.rdf.proofs.take_apart.Goals as goal
 
 -- what the code does, as a function of its tests
 abbrev by_mask : ℕ → Control
@@ -46,28 +45,25 @@ agree c h =
     ∙ ap back (below_eq 256 (λ k. code (by_mask k)) (λ k. code (control_of k)) tt c h)
     ∙ back-code (control_of c)
 
-returns : tie.Need-returns
-returns c = rw (← agree c.before.args.control (search rules)) (simp (ne_eqb _ _ c.if1.true))
+pub returns-then-control-ne0 : goal.returns-then-control-ne0
+returns-then-control-ne0 c = rw (← agree c.args.control (search rules)) (simp (ne_eqb _ _ c.if-control-ne0.true))
 
-returns-2 : tie.Need-returns-2
-returns-2 c =
-    rw (← agree c.before.before.before.args.control (search rules))
-    (simp (eq-eqb _ _ c.before.before.if1.false, ne_eqb _ _ c.before.if2.true, ne_eqb _ _ c.if3.true))
+pub returns-then-control-ne0-3 : goal.returns-then-control-ne0-3
+returns-then-control-ne0-3 c =
+    rw (← agree c.args.control (search rules))
+    (simp (eq-eqb _ _ c.if-control-ne0.false, ne_eqb _ _ c.if-control-ne0-2.true, ne_eqb _ _ c.if-control-ne0-3.true))
 
-returns-3 : tie.Need-returns-3
-returns-3 c =
-    rw (← agree c.before.before.before.args.control (search rules))
-    (simp (eq-eqb _ _ c.before.before.if1.false, ne_eqb _ _ c.before.if2.true, eq-eqb _ _ c.if3.false))
+pub returns-then-control-ne0-2 : goal.returns-then-control-ne0-2
+returns-then-control-ne0-2 c =
+    rw (← agree c.args.control (search rules))
+    (simp (eq-eqb _ _ c.if-control-ne0.false, ne_eqb _ _ c.if-control-ne0-2.true, eq-eqb _ _ c.if-control-ne0-3.false))
 
-returns-4 : tie.Need-returns-4
-returns-4 c =
-    rw (← agree c.before.before.before.args.control (search rules))
-    (simp (eq-eqb _ _ c.before.before.if1.false, eq-eqb _ _ c.before.if2.false, ne_eqb _ _ c.if4.true))
+pub returns-then-control-ne0-4 : goal.returns-then-control-ne0-4
+returns-then-control-ne0-4 c =
+    rw (← agree c.args.control (search rules))
+    (simp (eq-eqb _ _ c.if-control-ne0.false, eq-eqb _ _ c.if-control-ne0-2.false, ne_eqb _ _ c.if-control-ne0-4.true))
 
-returns-5 : tie.Need-returns-5
-returns-5 c =
-    rw (← agree c.before.before.before.args.control (search rules))
-    (simp (eq-eqb _ _ c.before.before.if1.false, eq-eqb _ _ c.before.if2.false, eq-eqb _ _ c.if4.false))
-
-pub take-apart-spec : {M : Type 1} → statement M
-take-apart-spec = tie.close (tie.spec returns returns-2 returns-3 returns-4 returns-5)
+pub returns-else-control-ne0-4 : goal.returns-else-control-ne0-4
+returns-else-control-ne0-4 c =
+    rw (← agree c.args.control (search rules))
+    (simp (eq-eqb _ _ c.if-control-ne0.false, eq-eqb _ _ c.if-control-ne0-2.false, eq-eqb _ _ c.if-control-ne0-4.false))
