@@ -14,6 +14,7 @@ use Rattle.fields.specs.Choice.{pick}
 use Rattle.fields.proofs.Choices.{false-true}
 use Rattle.index.specs.Meaning as meaning
 use Rattle.index.specs.Meaning.{numbers}
+use Rattle.fields.specs.Bytes.{number}
 use Rattle.index.specs.Reading.{last_at, length_at, free_count}
 use Rattle.sections.specs.Parts.{Part, part_size, parts_size, ends_closed}
 use Rattle.sections.specs.Layout.{last_long}
@@ -23,6 +24,7 @@ use Rattle.index_step.specs.AidStep.{chars_at, step_at, place_past}
 use Rattle.index_step.specs.AidEntries.{Here, here_first, part_here, entry_here, here_next}
 use Rattle.index_step.proofs.Passing.{Next, next-there}
 use Rattle.index_step.proofs.Stepping.{Standing, entries-count, standing-start, Stepped, standing-step}
+use Rattle.index.specs.Reading.{piece_at}
 use Rattle.index_walk.specs.declared.Edge.{Edge}
 use Rattle.index_walk.specs.declared.Met.TheVariants.{Entry}
 use Rattle.index_walk.specs.AidPasses.{edge, edge_first, place_of, edge_of, pass_of}
@@ -33,7 +35,9 @@ use Rattle.index_walk.proofs.Reading.{pass-is}
 pub parts-long : (w : ℕ) (ib : List ℕ) (r end k : ℕ) → length (parts_at w ib r end k) ≡ k
 unfolding parts_at
 parts-long w ib r end zero = refl
-parts-long w ib r end (suc k) = ap suc (parts-long w ib _ _ k)
+parts-long w ib r end (suc k) =
+    let rest = r - part_size w (record { piece = piece_at w ib r; closes = eqb (r - (w + 2)) end }) in
+    ap suc (parts-long w ib rest (pick (eqb (r - (w + 2)) end) (end - number 2 ib rest) end) k)
 
 -- the last entry's control information, its characters and its section's field lie among the entries
 last-inside : (w : ℕ) (ps : List Part) → ends_closed ps ≡ true → last_long ps + 2 + (w + 2) ≤ parts_size w ps

@@ -147,7 +147,7 @@ module _ {w : ℕ} {ib : List ℕ} {c : Cursor} {b₀ buf₀ high₀ top₀ : Li
         going_on pen' top' b' pen-is top-is b-is q q-is =
             let on : Drawn (draft_put x (entry sep num)) b' pen' top' =
             draft-on x b pen top g.drawn f sep num (entries_here w ib (here_next w ib h) (left - 1)) front-is short fitting-two pen' top' b'
-            (rw (sep-is, number_is) at pen-is) (rw sep-is at top-is) (rw (sep-is, number_is) at b-is) in
+            (rw sep-is at pen-is) (rw sep-is at top-is) (rw (sep-is, number_is) at b-is) in
             record {
               here = here_next w ib h;
               draft = draft_put x (entry sep num);

@@ -1,0 +1,11 @@
+-- No loop. The request's contract, told in numbers.
+use Rattle.std.proofs.Common.{ap, ◌∙◌}
+use Rattle.exports.specs.Values.{values_told}
+use Rattle.exports.specs.declared.Values.{Values}
+use Rattle.exports.proofs.belquita_get_at.Goals as goal
+
+pub returns : goal.returns
+returns c =
+    let g = c.get_at in
+    let e = c.told-v.ensures ∙ ap values_told g.ensures.answers in
+    record { number = ap (λ (v : Values). v.number) e; value-is = ap (λ (v : Values). v.first) e; outputs = g.ensures.outputs }

@@ -1,0 +1,5 @@
+-- No loop: the numbers fill the bytes from place 24 up to the unused space.
+use Rattle.index_step.proofs.free_count.Goals as goal
+
+pub returns : goal.returns
+returns c = rw c.read_two.ensures.0

@@ -1,0 +1,40 @@
+use Prim.Native.Nat.{◌-◌}
+use mathlib.Core.Path.{◌≡◌, ap, ◌∙◌}
+use lib.ListN.{length}
+use native.Mathlib.Omega.{arith}
+use Rattle.fields.proofs.Splices.{fill_step, filled-length, filled_none}
+use Rattle.interval_find.proofs.fill_lengths.Goals as goal
+
+pub loop-i-init : goal.loop-i-init
+loop-i-init c = (omega arith, omega arith, filled_none c.args.lens.now c.args.to c.args.len)
+
+pub offset_bounds-lens-i : goal.offset_bounds-lens-i
+offset_bounds-lens-i c =
+    let a = c.args in
+    let o = c.loop-i in
+    omega (arith, (ap length o.invariant.2 ∙ filled-length a.lens.now o.i a.to a.len (omega arith) (omega arith)))
+
+pub bounds-lens-i : goal.bounds-lens-i
+bounds-lens-i c =
+    let a = c.args in
+    let o = c.loop-i in
+    omega (arith, (ap length o.invariant.2 ∙ filled-length a.lens.now o.i a.to a.len (omega arith) (omega arith)))
+
+pub loop-i-preserved : goal.loop-i-preserved
+loop-i-preserved c =
+    let a = c.args in
+    let o = c.loop-i in
+    (omega arith, omega arith, rw o.invariant.2 (fill_step a.lens.now o.i a.to a.len (omega arith) (omega arith) (omega arith)))
+
+pub shape_of-lens : goal.shape_of-lens
+shape_of-lens c =
+    let a = c.args in
+    let o = c.loop-i in
+    (ap length o.invariant.2 ∙ filled-length a.lens.now o.i a.to a.len (omega arith) (omega arith))
+
+pub returns : goal.returns
+returns c =
+    let a = c.args in
+    let o = c.loop-i in
+    let e : o.i ≡ a.from = omega arith in
+    o.invariant.2 ∙ rw e
