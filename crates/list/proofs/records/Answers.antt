@@ -1,5 +1,4 @@
-use Rattle.std.proofs.Common.{◌<◌, length, arith}
-use Rattle.list.specs.Listed.{list_of}
+use Rattle.std.proofs.Common.{arith}
 use Rattle.list.proofs.Listing.{list-small, more, closing, line-is, rest-on}
 use Rattle.list.proofs.records.Goals as goal
 
