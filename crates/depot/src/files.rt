@@ -1,14 +1,20 @@
 // The file that the area is stored in.
+use depot_io::failed;
+use std::fs;
+use std::fs::OpenFile;
+use std::io::{Result, Write};
+use std::rt::Files;
 
-// Whether all of the bytes went into an open file and it was closed; if not, standard error says why.
-fn written(fd: i32, bytes: &[u8]) -> bool {
-    if !io::write_all(fd, bytes) || libc::fsync(fd) < 0 {
-        os::fail(b"area.out.new");
-        libc::close(fd);
-        return false;
-    }
-    if libc::close(fd) < 0 {
-        os::fail(b"area.out.new");
+// The bytes go into an open file, and on to the disk.
+fn brought(file: &mut (impl Write + OpenFile), bytes: &[u8]) -> Result<()> {
+    file.write_all(bytes)?;
+    file.sync_all()
+}
+
+// Whether all of the bytes went into an open file, which is then closed; if not, standard error says why.
+fn written(mut file: impl Write + OpenFile + Drop, bytes: &[u8]) -> bool {
+    if let Err(error) = brought(&mut file, bytes) {
+        failed(b"area.out.new", error);
         return false;
     }
     true
@@ -16,28 +22,30 @@ fn written(fd: i32, bytes: &[u8]) -> bool {
 
 // The area goes into a file of its own, which takes the name area.out only when it is whole. So an area.out is never half
 // of one area, and nothing of an older and longer one is left behind it.
-fn put(area: &[u8]) -> bool {
-    let fd = os::open_overwrite(b"area.out.new");
-    if fd < 0 {
-        os::fail(b"area.out.new");
+fn put(rt: &impl Files, area: &[u8]) -> bool {
+    let file = match fs::create(rt, "area.out.new") {
+        Ok(file) => file,
+        Err(error) => {
+            failed(b"area.out.new", error);
+            return false;
+        }
+    };
+    if !written(file, area) {
+        let _ = fs::remove_file(rt, "area.out.new");
         return false;
     }
-    if !written(fd, area) {
-        os::unlink(b"area.out.new");
-        return false;
-    }
-    if os::rename(b"area.out.new", b"area.out") < 0 {
-        os::fail(b"area.out");
-        os::unlink(b"area.out.new");
+    if let Err(error) = fs::rename(rt, "area.out.new", "area.out") {
+        failed(b"area.out", error);
+        let _ = fs::remove_file(rt, "area.out.new");
         return false;
     }
     true
 }
 
 // Whether the folder is on the disk with the name that the file has taken.
-fn kept(folder: i32) -> bool {
-    if libc::fsync(folder) < 0 {
-        os::fail(b"the folder of area.out");
+fn kept(folder: &impl OpenFile) -> bool {
+    if let Err(error) = folder.sync_all() {
+        failed(b"the folder of area.out", error);
         return false;
     }
     true
@@ -45,13 +53,12 @@ fn kept(folder: i32) -> bool {
 
 // Whether the area is in area.out, and will be there after a power cut; if not, standard error says why. A folder that
 // cannot be opened is found before anything is written.
-pub(crate) fn store(area: &[u8]) -> bool {
-    let folder = os::open_read(b".");
-    if folder < 0 {
-        os::fail(b"the folder of area.out");
-        return false;
+pub(crate) fn store(rt: &impl Files, area: &[u8]) -> bool {
+    match fs::open(rt, ".") {
+        Ok(folder) => put(rt, area) && kept(&folder),
+        Err(error) => {
+            failed(b"the folder of area.out", error);
+            false
+        }
     }
-    let stored = put(area) && kept(folder);
-    libc::close(folder);
-    stored
 }

@@ -10,6 +10,7 @@ ghost use Rattle.lines_history.specs.Day.{Leads};
 
 use depot_io::End;
 use requests::Answer;
+use std::rt::Files;
 
 // How the depot's areas are measured: intervals of 512 bytes, keys of 8 bytes at the front of records of at most 60.
 fn check(area: &[u8]) -> Answer {
@@ -18,47 +19,47 @@ fn check(area: &[u8]) -> Answer {
 
 // The closing line, and the area in its file; or, for an area that is not sound, the line that says so and no file. An
 // area whose lines could not all be printed is not stored: nobody would know what was accepted.
-fn close(area: &[u8], served: End) -> End {
+fn close(rt: &(impl Print + Files), area: &[u8], served: End) -> End {
     match check(area) {
         Answer::Intact { records, free } => {
-            if !print::closing(records, free) {
-                return depot_io::failed(b"standard output");
+            if let Err(error) = print::closing(rt, records, free) {
+                return depot_io::failed(b"standard output", error);
             }
-            if !files::store(area) {
+            if !files::store(rt, area) {
                 return End::Failed;
             }
             served
         }
-        other => depot_io::refused(other),
+        other => depot_io::refused(rt, other),
     }
 }
 
 // The requests, and then the end, unless one of them could not be read or its line not be printed.
-fn day(area: &mut [u8]) -> End
+fn day(rt: &(impl Print + Files), area: &mut [u8]) -> End
     ensures { Leads area.old area.new }
 {
-    match serve::file(area) {
+    match serve::file(rt, area) {
         End::Failed => End::Failed,
-        served => close(area, served),
+        served => close(rt, area, served),
     }
 }
 
 // An area that is refused is told in one line, and then nothing else is read or written.
-fn open(area: &mut [u8]) -> End
+fn open(rt: &(impl Print + Files), area: &mut [u8]) -> End
     ensures { Leads area.old area.new }
 {
     match check(area) {
         Answer::Intact {
             records: _,
             free: _,
-        } => day(area),
-        other => depot_io::refused(other),
+        } => day(rt, area),
+        other => depot_io::refused(rt, other),
     }
 }
 
 // One byte more than the largest area, so that a longer file shows: no area has that length.
-fn main() {
+fn main(rt: HostRuntime) {
     let mut space = [0u8; 65537];
-    let n = depot_io::load(&mut space);
-    depot_io::tell(open(&mut space[..n]));
+    let n = depot_io::load(&rt, &mut space);
+    depot_io::tell(open(&rt, &mut space[..n]));
 }

@@ -1,39 +1,41 @@
-// The lines that the depot reads. Each function gives whether all of it was written.
+// The lines that the depot reads. Each function gives the error where not all of it was written.
 use depot_io::{number, words};
 use lines::Line;
 use requests::Answer;
+use std::io::Result;
 
-pub(crate) fn closing(records: usize, free: usize) -> bool {
-    words(b"records ")
-        && number(records as u64)
-        && words(b" free ")
-        && number(free as u64)
-        && words(b"\n")
+pub(crate) fn closing(rt: &impl Print, records: usize, free: usize) -> Result<()> {
+    words(rt, b"records ")?;
+    number(rt, records as u64)?;
+    words(rt, b" free ")?;
+    number(rt, free as u64)?;
+    words(rt, b"\n")
 }
 
 // Where a get found its record, a blank and the record's bytes in hexadecimal; nothing for any other answer.
-fn found(answer: Answer, out: &[u8]) -> bool {
+fn found(rt: &impl Print, answer: Answer, out: &[u8]) -> Result<()> {
     let Answer::Found(length) = answer else {
-        return true;
+        return Ok(());
     };
     if out.len() < length {
-        return false;
+        return Err(depot_io::unprinted());
     }
-    words(b" ") && depot_io::hex(&out[..length])
+    words(rt, b" ")?;
+    depot_io::hex(rt, &out[..length])
 }
 
-fn after(told: Line, out: &[u8]) -> bool {
+fn after(rt: &impl Print, told: Line, out: &[u8]) -> Result<()> {
     let Line::Told(answer) = told else {
-        return true;
+        return Ok(());
     };
-    found(answer, out)
+    found(rt, answer, out)
 }
 
 // The line for one request: its place, its number, and the record that it found.
-pub(crate) fn line(place: u64, told: Line, out: &[u8]) -> bool {
-    number(place)
-        && words(b" ")
-        && number(lines::number(told) as u64)
-        && after(told, out)
-        && words(b"\n")
+pub(crate) fn line(rt: &impl Print, place: u64, told: Line, out: &[u8]) -> Result<()> {
+    number(rt, place)?;
+    words(rt, b" ")?;
+    number(rt, lines::number(told) as u64)?;
+    after(rt, told, out)?;
+    words(rt, b"\n")
 }

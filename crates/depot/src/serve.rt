@@ -4,6 +4,9 @@ ghost use Rattle.lines_history.specs.Day.{Leads};
 use crate::print;
 use depot_io::End;
 use lines::Line;
+use std::fs;
+use std::io::{ErrorKind, Read};
+use std::rt::Files;
 
 // What became of one turn: a request was done, or was refused; the file was at its end; or it could not be read or its line
 // not be printed.
@@ -23,14 +26,14 @@ fn served(area: &mut [u8], request: &[u8], out: &mut [u8]) -> Line
 }
 
 // Reads one request, serves it and prints its line. What is left of a file that ends inside a request goes to `step` too.
-fn one(fd: i32, area: &mut [u8], place: u64) -> Turn
+fn one(rt: &impl Print, file: &mut impl Read, area: &mut [u8], place: u64) -> Turn
     ensures { Leads area.old area.new }
 {
     let mut request = [0u8; 64];
-    let got = depot_io::fill(fd, &mut request);
+    let got = depot_io::fill(file, &mut request);
     let n = got.bytes;
-    if got.failed {
-        os::fail(b"requests.rec");
+    if let Some(error) = got.failed {
+        depot_io::failed(b"requests.rec", error);
         return Turn::Failed;
     }
     if n == 0 {
@@ -38,8 +41,8 @@ fn one(fd: i32, area: &mut [u8], place: u64) -> Turn
     }
     let mut out = [0u8; 64];
     let told = served(area, &request[..n], &mut out);
-    if !print::line(place, told, &out) {
-        os::fail(b"standard output");
+    if let Err(error) = print::line(rt, place, told, &out) {
+        depot_io::failed(b"standard output", error);
         return Turn::Failed;
     }
     if lines::number(told) != 0 {
@@ -50,13 +53,13 @@ fn one(fd: i32, area: &mut [u8], place: u64) -> Turn
 
 // Nothing says that a file ends, and a proved loop does. So places are counted up to a number that no file of requests
 // reaches.
-fn all(fd: i32, area: &mut [u8]) -> End
+fn all(rt: &impl Print, file: &mut impl Read, area: &mut [u8]) -> End
     ensures { Leads area.old area.new }
 {
     let mut place = 1;
     let mut end = End::Whole;
     while place < u64::MAX {
-        match one(fd, area, place) {
+        match one(rt, file, area, place) {
             Turn::Done => {}
             Turn::Refused => end = End::Partly,
             Turn::Ended => return end,
@@ -69,19 +72,17 @@ fn all(fd: i32, area: &mut [u8]) -> End
 
 // Serves the requests of the file, and gives whether all were done or some refused; or that it was not read to its end or
 // not every line printed. Where there is no such file, none is served, and standard error says so.
-pub(crate) fn file(area: &mut [u8]) -> End
+pub(crate) fn file(rt: &(impl Print + Files), area: &mut [u8]) -> End
     ensures { Leads area.old area.new }
 {
-    let fd = os::open_read(b"requests.rec");
-    if fd < 0 {
-        let missing = os::errno() == libc::ENOENT;
-        os::fail(b"requests.rec");
-        if missing {
-            return End::Whole;
+    match fs::open(rt, "requests.rec") {
+        Ok(mut file) => all(rt, &mut file, area),
+        Err(error) => {
+            depot_io::failed(b"requests.rec", error);
+            if error.kind() == ErrorKind::NotFound {
+                return End::Whole;
+            }
+            End::Failed
         }
-        return End::Failed;
     }
-    let end = all(fd, area);
-    libc::close(fd);
-    end
 }

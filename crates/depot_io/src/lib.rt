@@ -4,75 +4,82 @@
 
 ghost use Rattle.io.specs.Counts.{IsPrefixLen};
 
-use libc::STDOUT_FILENO;
 use requests::Answer;
+use std::fs;
+use std::io::{Cursor, Error, Read, Result, Write};
+use std::rt::Files;
 
-// How many bytes a read brought to the front of a buffer, and whether it failed before the buffer was full or the file
+const STDERR: i32 = 2;
+
+// How many bytes a read brought to the front of a buffer, and why it failed if it did before the buffer was full or the file
 // ended.
 #[derive(Clone, Copy)]
 pub struct Got {
     pub bytes: usize,
-    pub failed: bool,
+    pub failed: Option<Error>,
 }
 
 // Reads until the buffer is full, the file ends or a read fails; a read that brings less than it was asked is gone on with.
-pub fn fill(fd: i32, buf: &mut [u8]) -> Got
+pub fn fill(file: &mut impl Read, buf: &mut [u8]) -> Got
     ensures { IsPrefixLen result.bytes buf.new }
 {
     let mut n = 0;
     while n < buf.len() {
-        let got = libc::read(fd, &mut buf[n..]);
-        if got < 0 {
-            return Got {
-                bytes: n,
-                failed: true,
-            };
+        match file.read(&mut buf[n..]) {
+            Ok(0) => break,
+            Ok(more) => n += more,
+            Err(error) => {
+                return Got {
+                    bytes: n,
+                    failed: Some(error),
+                };
+            }
         }
-        let more = io::count(got, &buf[n..]);
-        if more == 0 {
-            break;
-        }
-        n += more;
     }
     Got {
         bytes: n,
-        failed: false,
+        failed: None,
     }
 }
 
 // The area's file, at the front of the buffer, and its length: 0, which no area has, where it cannot be read.
-pub fn load(buf: &mut [u8]) -> usize
+pub fn load(rt: &impl Files, buf: &mut [u8]) -> usize
     ensures { IsPrefixLen result buf.new }
 {
-    let fd = os::open_read(b"area.ci");
-    if fd < 0 {
+    let Ok(mut file) = fs::open(rt, "area.ci") else {
         return 0;
-    }
-    let got = fill(fd, buf);
-    libc::close(fd);
-    if got.failed {
+    };
+    let got = fill(&mut file, buf);
+    if got.failed.is_some() {
         return 0;
     }
     got.bytes
 }
 
-// Prints, and gives whether all of it was written; so do the others.
-pub fn words(text: &[u8]) -> bool {
-    io::write_all(STDOUT_FILENO, text)
+// Prints, and gives the error where not all of it was written; so do the others.
+pub fn words(rt: &impl Print, text: &[u8]) -> Result<()> {
+    rt.write_all(text)
 }
 
-pub fn number(n: u64) -> bool {
-    io::print_decimal(STDOUT_FILENO, n)
+pub fn number(rt: &impl Print, n: u64) -> Result<()> {
+    let mut text = [0u8; 20];
+    let k = io::decimal(n, &mut text);
+    words(rt, &text[..k])
+}
+
+// What is given for bytes that no line has. The text of this error is "Success".
+pub fn unprinted() -> Error {
+    Error::from_raw_os_error(0)
 }
 
 // At most 64 bytes in capital hexadecimal digits.
-pub fn hex(bytes: &[u8]) -> bool {
+pub fn hex(rt: &impl Print, bytes: &[u8]) -> Result<()> {
     let mut text = [0u8; 128];
     let n = lines::hex(bytes, &mut text);
     if 128 < n || 64 < bytes.len() {
-        return false;
+        return Err(unprinted());
     }
-    words(&text[..n])
+    words(rt, &text[..n])
 }
 
 // How a run ended: all was done; some request was refused, and all the others are stored; or nothing is stored, or not all of
@@ -98,27 +105,49 @@ pub fn tell(end: End) {
 }
 
 // Says on standard error what failed and why.
-pub fn failed(what: &[u8]) -> End {
-    os::fail(what);
+pub fn failed(what: &[u8], error: Error) -> End {
+    let mut text = Cursor::new([0u8; 128]);
+    let _ = write!(text, "{error}");
+    let n = (text.position() as usize).min(128);
+    let whole = text.into_inner();
+    io::write_all(STDERR, what);
+    io::write_all(STDERR, b": ");
+    io::write_all(STDERR, reason(&whole[..n]));
+    io::write_all(STDERR, b"\n");
     End::Failed
 }
 
+// The C library's words for an error, of which `Display` prints the number too, behind them.
+fn reason(text: &[u8]) -> &[u8] {
+    let Ok(whole) = str::from_utf8(text) else {
+        return text;
+    };
+    match whole.split_once(" (os error ") {
+        Some((words, _)) => words.as_bytes(),
+        None => text,
+    }
+}
+
 // The one line for an area that is not taken. Nothing comes after it.
-pub fn refused(answer: Answer) -> End {
-    if !refusal(answer) {
-        return failed(b"standard output");
+pub fn refused(rt: &impl Print, answer: Answer) -> End {
+    if let Err(error) = refusal(rt, answer) {
+        return failed(b"standard output", error);
     }
     End::Failed
 }
 
 // Its number, and for damage its place.
-fn refusal(answer: Answer) -> bool {
-    words(b"area ") && number(requests::number(answer) as u64) && place(answer) && words(b"\n")
+fn refusal(rt: &impl Print, answer: Answer) -> Result<()> {
+    words(rt, b"area ")?;
+    number(rt, requests::number(answer) as u64)?;
+    place(rt, answer)?;
+    words(rt, b"\n")
 }
 
-fn place(answer: Answer) -> bool {
+fn place(rt: &impl Print, answer: Answer) -> Result<()> {
     let Answer::Damaged(place) = answer else {
-        return true;
+        return Ok(());
     };
-    words(b" ") && number(place as u64)
+    words(rt, b" ")?;
+    number(rt, place as u64)
 }

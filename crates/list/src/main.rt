@@ -9,6 +9,9 @@ ghost use Rattle.list.specs.Listed.{Lists};
 use depot_io::End;
 use fields::Order;
 use measures::Numbers;
+use std::env::FillError;
+use std::io::Result;
+use std::rt::{Env, Files};
 use walk::{Begun, Place};
 
 // How the depot's areas are measured: intervals of 512 bytes, keys of 8 bytes at the front of records of at most 60.
@@ -20,33 +23,31 @@ const MEASURES: Numbers = Numbers {
 };
 
 // The lines for the records from a place on, and the closing line. The walk goes by a walker.
-fn records(area: &[u8], begun: Place, with_text: bool) -> bool
+fn records(rt: &impl Print, area: &[u8], begun: Place, with_text: bool) -> Result<()>
     requires { Lists area.now begun }
 {
     let mut p = begun;
     let mut n = 0;
     while p.length != 0 {
         n += 1;
-        if !print::line(area, n, walker::seen_at(area, 512, true, p), with_text) {
-            return false;
-        }
+        print::line(rt, area, n, walker::seen_at(area, 512, true, p), with_text)?;
         p = walker::next_place(area, 512, true, p);
     }
-    print::closing(area, n)
+    print::closing(rt, area, n)
 }
 
-fn ended(printed: bool) -> End {
-    if !printed {
-        return depot_io::failed(b"standard output");
+fn ended(printed: Result<()>) -> End {
+    if let Err(error) = printed {
+        return depot_io::failed(b"standard output", error);
     }
     End::Whole
 }
 
 // The list, or the line for an area that is refused.
-fn listed(area: &[u8], with_text: bool) -> End {
+fn listed(rt: &impl Print, area: &[u8], with_text: bool) -> End {
     match walk::walk_end(area, MEASURES, true) {
-        Begun::At(p) => ended(records(area, p, with_text)),
-        Begun::Refused(answer) => depot_io::refused(answer),
+        Begun::At(p) => ended(records(rt, area, p, with_text)),
+        Begun::Refused(answer) => depot_io::refused(rt, answer),
     }
 }
 
@@ -58,16 +59,27 @@ enum Kind {
     Unknown,
 }
 
-fn wanted() -> Kind {
-    let count = os::arg_count();
-    if count < 2 {
+// Whether the program was started with this word or with more.
+fn given(rt: &impl Env, place: usize) -> bool {
+    let mut word = [0u8; 8];
+    match rt.arg(place, &mut word) {
+        Ok(_) => true,
+        Err(FillError::TooLong) => true,
+        Err(FillError::NotPresent) => false,
+    }
+}
+
+fn wanted(rt: &impl Env) -> Kind {
+    if !given(rt, 1) {
         return Kind::Plain;
     }
-    let mut word = [0u8; 8];
-    let n = os::arg(1, &mut word);
-    if 2 < count {
+    if given(rt, 2) {
         return Kind::Unknown;
     }
+    let mut word = [0u8; 8];
+    let Ok(n) = rt.arg(1, &mut word) else {
+        return Kind::Unknown;
+    };
     match fields::compare(&word[..n], b"--text") {
         Order::Same => Kind::Text,
         Order::Less => Kind::Unknown,
@@ -76,21 +88,21 @@ fn wanted() -> Kind {
 }
 
 // One byte more than the largest area, so that a longer file shows: no area has that length.
-fn list(with_text: bool) -> End {
+fn list(rt: &(impl Print + Files), with_text: bool) -> End {
     let mut space = [0u8; 65537];
-    let n = depot_io::load(&mut space);
-    listed(&space[..n], with_text)
+    let n = depot_io::load(rt, &mut space);
+    listed(rt, &space[..n], with_text)
 }
 
 fn usage() -> End {
-    io::write_all(libc::STDERR_FILENO, b"usage: list [--text]\n");
+    io::write_all(2, b"usage: list [--text]\n");
     End::Failed
 }
 
-fn main() {
-    let end = match wanted() {
-        Kind::Plain => list(false),
-        Kind::Text => list(true),
+fn main(rt: HostRuntime) {
+    let end = match wanted(&rt) {
+        Kind::Plain => list(&rt, false),
+        Kind::Text => list(&rt, true),
         Kind::Unknown => usage(),
     };
     depot_io::tell(end);

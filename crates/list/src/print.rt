@@ -1,7 +1,8 @@
-// The lines of the list. Each function gives whether all of it was written.
+// The lines of the list. Each function gives the error where not all of it was written.
 ghost use Rattle.list.specs.Listed.{Line, Closing};
 
 use depot_io::{number, words};
+use std::io::Result;
 
 // A byte as it stands in text: printable ASCII as it is, a dot for any other.
 fn shown(byte: u8) -> u8 {
@@ -12,39 +13,50 @@ fn shown(byte: u8) -> u8 {
 }
 
 // A blank, and at most 64 bytes as text.
-fn text(bytes: &[u8]) -> bool {
+fn text(rt: &impl Print, bytes: &[u8]) -> Result<()> {
     let mut line = [0u8; 64];
     if line.len() < bytes.len() {
-        return false;
+        return Err(depot_io::unprinted());
     }
     let mut i = 0;
     while i < bytes.len() {
         line[i] = shown(bytes[i]);
         i += 1;
     }
-    words(b" ") && words(&line[..i])
+    words(rt, b" ")?;
+    words(rt, &line[..i])
 }
 
 // The line for one record: its place, its key, all of it; and as text, if that is asked for. The area is there for the contract: it is the record with that place that
 // is printed.
-pub(crate) fn line(area: &[u8], place: usize, record: &[u8], with_text: bool) -> bool
+pub(crate) fn line(
+    rt: &impl Print,
+    area: &[u8],
+    place: usize,
+    record: &[u8],
+    with_text: bool,
+) -> Result<()>
     requires { Line area.now place «record».now }
 {
     if record.len() < 8 {
-        return false;
+        return Err(depot_io::unprinted());
     }
-    number(place as u64)
-        && words(b" ")
-        && depot_io::hex(&record[..8])
-        && words(b" ")
-        && depot_io::hex(record)
-        && (!with_text || text(record))
-        && words(b"\n")
+    number(rt, place as u64)?;
+    words(rt, b" ")?;
+    depot_io::hex(rt, &record[..8])?;
+    words(rt, b" ")?;
+    depot_io::hex(rt, record)?;
+    if with_text {
+        text(rt, record)?;
+    }
+    words(rt, b"\n")
 }
 
 // How many records there are in the area.
-pub(crate) fn closing(area: &[u8], records: usize) -> bool
+pub(crate) fn closing(rt: &impl Print, area: &[u8], records: usize) -> Result<()>
     requires { Closing area.now records }
 {
-    words(b"records ") && number(records as u64) && words(b"\n")
+    words(rt, b"records ")?;
+    number(rt, records as u64)?;
+    words(rt, b"\n")
 }

@@ -7,6 +7,10 @@ mod script;
 mod walks;
 
 use script::Head;
+use std::fs;
+use std::fs::File;
+use std::os::fd::AsRawFd;
+use std::rt::Files;
 
 // What became of a step: so many bytes are the area from now on, the script was at its end, or this is no step.
 #[derive(Clone, Copy)]
@@ -75,12 +79,12 @@ fn bad() {
 }
 
 // Nothing says that a file ends, and a proved loop does: so steps are counted up to a number that no script reaches.
-fn steps(area: &mut [u8], old: &mut [u8]) {
-    let fd = os::open_read(b"script");
-    if fd < 0 {
+fn steps(rt: &impl Files<File = File>, area: &mut [u8], old: &mut [u8]) {
+    let Ok(script) = fs::open(rt, "script") else {
         bad();
         return;
-    }
+    };
+    let fd = script.as_raw_fd();
     let mut held = 0;
     let mut n = 0;
     while n < u64::MAX {
@@ -97,8 +101,8 @@ fn steps(area: &mut [u8], old: &mut [u8]) {
 }
 
 // The area, and what it was before a change.
-fn main() {
+fn main(rt: HostRuntime) {
     let mut area = [0u8; 1048576];
     let mut old = [0u8; 1048576];
-    steps(&mut area, &mut old);
+    steps(&rt, &mut area, &mut old);
 }

@@ -1,18 +1,18 @@
 // What the cases print: words, numbers, bytes.
-use libc::STDOUT_FILENO;
+const STDOUT: i32 = 1;
 
 pub(crate) fn words(text: &[u8]) {
-    io::write_all(STDOUT_FILENO, text);
+    io::write_all(STDOUT, text);
 }
 
 pub(crate) fn number(n: usize) {
-    io::print_decimal(STDOUT_FILENO, n as u64);
+    io::print_decimal(STDOUT, n as u64);
 }
 
 // A byte as two small hexadecimal digits; where it stands more than once in a row, a star and how often.
 fn item(byte: u8, count: usize) {
     words(b" ");
-    io::print_hex(STDOUT_FILENO, byte as u64, 2);
+    io::print_hex(STDOUT, byte as u64, 2);
     if 1 < count {
         words(b"*");
         number(count);

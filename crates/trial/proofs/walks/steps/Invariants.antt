@@ -1,0 +1,10 @@
+-- Invariant: i is at most the count.
+-- Measure: the steps left.
+use Rattle.std.proofs.Common.{◌≤◌, ◌-◌}
+use Rattle.trial.proofs.walks.steps.Given as goal
+
+abbrev pub invariant-loop-i : goal.invariant-loop-i
+invariant-loop-i l = l.i ≤ l.count
+
+abbrev pub decreases-loop-i : goal.decreases-loop-i
+decreases-loop-i l = l.count - l.i
