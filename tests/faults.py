@@ -8,7 +8,10 @@ in a copy outside the checkout that begins with the libraries and the proofs kep
 target/must-fail/CRATE/EDIT/.log keeps what it said. A fault in a body leaves the contract, which is
 all that other proofs go by. What it makes false is therefore false in the proof of its own
 function. Only, rt tries no goal of a function whose callee is not proved: so a fault that the log
-does not tell is run alone, and judged by that log. What is said there is one of
+does not tell is run alone, and judged by that log. And rt names goals and facts after the text of a
+test, as `returns-then-n-lt256`: where a fault changes a test, so that its proof names what went, and
+the new name is plain, it is run once more with the proof's names brought to the new ones, and judged
+by that. What is said there is one of
   later   what it needs was refused before it: says nothing
   fact    what was to be shown does not hold
   unfit   the proof does not fit the code, whose names have changed; or an unknown message
@@ -227,9 +230,33 @@ def edited(crate, faults):
     return texts
 
 
-def run(root, crate, faults, room, log):
-    """Makes the log of a run in a copy of the tree; where rt does not refuse it there is none."""
+def renamed(crate, fault, log):
+    """What of the names in the proof of a fault's function became another by the changed test, and that; None where no pair, or more than one, would do."""
+    function = function_of(crate, *fault.pairs[0][:2]) if fault.pairs else None
+    cited = "".join(text(path) for path in glob.glob(f"{crate}/proofs/{function}/*.antt")) if function else ""
+    gone = {name for said in errors(log, crate, function).get("unfit", []) for name in re.findall(r"has no (?:field )?`([^`]+)`", said)} if function else set()
+    there = set(re.findall(r"[`.]([A-Za-z][\w']*(?:-[\w']+)+)", log)) - gone
+    fits = None
+    for old in gone:
+        pairs = set()
+        for new in there:
+            a, b = old.split("-"), new.split("-")
+            front = next((i for i, (x, y) in enumerate(zip(a, b)) if x != y), min(len(a), len(b)))
+            back = next((i for i, (x, y) in enumerate(zip(a[:front - 1:-1], b[:front - 1:-1])) if x != y), min(len(a), len(b)) - front)
+            pair = "-".join(a[front:len(a) - back]), "-".join(b[front:len(b) - back])
+            if front and all(pair) and not re.search(rf"(?<![\w'-]){re.escape(new)}(?![\w'-])", cited):
+                pairs.add(pair)
+        fits = pairs if fits is None else fits & pairs
+    return (function, *fits.pop()) if fits and len(fits) == 1 else None
+
+
+def run(root, crate, faults, room, log, names=None):
+    """Makes the log of a run in a copy of the tree; where rt does not refuse it there is none. names: a function, and what is put into the names of its proof."""
     texts = edited(f"{root}/crates/{crate}", faults)
+    if texts and names:
+        function, old, new = names
+        for path in glob.glob(f"{root}/crates/{crate}/proofs/{function}/*.antt"):
+            texts[os.path.relpath(path, f"{root}/crates/{crate}")] = re.sub(rf"(?<=-){re.escape(old)}(?![\w'])", new, text(path))
     if os.path.exists(log):
         os.remove(log)
     for file, said in (texts or {}).items():
@@ -239,6 +266,8 @@ def run(root, crate, faults, room, log):
     if ran and ran.returncode == 1:
         os.makedirs(os.path.dirname(log), exist_ok=True)
         with open(log, "wb") as out:
+            if names:
+                out.write(f"faults.py: {names[1]} became {names[2]} in the names of proofs/{names[0]}\n".encode())
             out.write(ran.stdout)
     for file in texts or {}:
         shutil.copyfile(f"{root}/crates/{crate}/{file}", f"{room}/crates/{crate}/{file}")
@@ -253,7 +282,11 @@ def run_all(root, crate, edits):
             run(root, crate, read_edit(edit)[0], room, log_of(root, edit))
             for fault, _ in wrong_in(root, edit)[1]:
                 if fault:
-                    run(root, crate, [fault], room, log_of(root, edit, fault))
+                    log = log_of(root, edit, fault)
+                    run(root, crate, [fault], room, log)
+                    names = renamed(f"{root}/crates/{crate}", fault, read_log(log))
+                    if names and any(each.name == fault.name for each, _ in wrong_in(root, edit)[1] if each):
+                        run(root, crate, [fault], room, log, names)
 
 
 def main(root, crates):

@@ -9,7 +9,7 @@ import os
 import sys
 import tempfile
 
-from faults import edited, read_edit, wrong_in
+from faults import edited, read_edit, renamed, wrong_in
 
 SOURCE = """// The lower of two.
 pub fn low(a: usize, b: usize) -> usize
@@ -128,6 +128,14 @@ def texts_of(edit):
         return edited(f"{root}/crates/toy", read_edit(plant(root, edit))[0])
 
 
+def renaming(said, cited):
+    """What is put into the names of a proof that cites some and whose log says that some went."""
+    with tempfile.TemporaryDirectory() as root:
+        at = plant(root, LOW)
+        write(f"{root}/crates/toy/proofs/low/Answers.antt", cited)
+        return renamed(f"{root}/crates/toy", read_edit(at)[0][0], "\n" + said + END)
+
+
 wrong = 0
 for name, edit, log, expected, *alone in CASES:
     said = said_of(edit, log, *alone or [{}])
@@ -144,5 +152,21 @@ for name, edit, expected in TEXTS:
     if texts_of(edit) != expected:
         wrong += 1
         print(f"{name}: {texts_of(edit)}, where it must be {expected}")
-print(f"faults_test: {len(CASES) + len(TEXTS)} cases, {wrong} wrong")
+GOAL = error("low", "`goal.returns-then-a-lt2`: module `Rattle.toy.proofs.low.Goals` has no `returns-then-a-lt2` that can be named from here")
+FIELD = error("low", "record `Rattle.toy.proofs.low.Lts.Else1` has no field `if-a-lt2` (nearest: .if-a-lt3, .if-a-lt9)")
+ASKS = "help: `Goals` has no `returns-then-a-lt2`; rattle asks for `returns-then-a-lt9`, `returns-then-a-lt3`, `returns`\n"
+NAMES = [
+    ("a test that became another", GOAL + FIELD + ASKS, "returns c = c.if-a-lt9", ("low", "lt2", "lt3")),
+    ("two that it may have become", GOAL + FIELD + ASKS, "returns c = c.args", None),
+    ("both are cited", GOAL + FIELD + ASKS, "pub returns-then-a-lt9 : c.if-a-lt3", None),
+    ("none is like it", GOAL, "", None),
+    ("not the same for all that went", GOAL + FIELD.replace("if-a-lt3", "if-b-lt3") + ASKS, "c.if-a-lt9", None),
+    ("a name that went elsewhere", GOAL.replace("/low/", "/twice/") + ASKS, "", None),
+    ("nothing went", FALSE_LOW + ASKS, "", None),
+]
+for name, said, cited, expected in NAMES:
+    if renaming(said, cited) != expected:
+        wrong += 1
+        print(f"{name}: {renaming(said, cited)}, where it must be {expected}")
+print(f"faults_test: {len(NAMES) + len(CASES) + len(TEXTS)} cases, {wrong} wrong")
 sys.exit(1 if wrong else 0)
