@@ -17,7 +17,7 @@
    A GET VOUCHES FOR TWO PLACES ONLY, the index record and the interval that the key leads to. Damage elsewhere does not refuse it: check each area
    once when it arrives, and use none of it where the check is not answered 0.
 
-   Stack that a call takes, at most, with this archive (measured, not proved):
+   Stack that a call took, at most, with the archive of an older kit (measured, not proved):
    - belquita_get: 6,520 bytes
    - belquita_check: 6,072 bytes (tests/speed/stack.c, whose own frame is in it) */
 #ifndef BELQUITA_H

@@ -27,7 +27,7 @@ def wants(truth, said):
         faults.append(said)
 
 
-CRATES = [line.split(":")[0] for line in text("crates.txt").splitlines() if ":" in line and not line.startswith("#")]
+CRATES = [line.split(":")[0].split()[0] for line in text("crates.txt").splitlines() if ":" in line and not line.startswith("#")]
 
 
 class Function:
@@ -83,8 +83,9 @@ def laws():
 
 def statements():
     page, known = "docs/STATEMENTS.md", laws()
-    for name in re.findall(r"`([a-z][a-z0-9]*(?:-[a-z0-9]+)+)`", text(page)):
-        wants(name == "unique-f" or name in known, f"{page}: there is no statement {name}")
+    others = {f.name for f in FUNCTIONS} | {name for _, name in OTHERS} | set(CRATES) | {"unique-f"}
+    for name in re.findall(r"`([a-z][a-z0-9]*(?:[-_][a-z0-9]+)+)`", text(page)):
+        wants(name in known or name in others, f"{page}: there is no statement {name}")
     listed = {(m.group(1), name) for m in re.finditer(r"^\| `(\w+)` \| (`unique-.*) \|$", text(page), re.M) for name in re.findall(r"`(unique-[\w-]+)`", m.group(2))}
     there = {(crate, name) for name, crates in known.items() if name.startswith("unique-") for crate in crates}
     for crate, name in sorted(there ^ listed):

@@ -1,28 +1,39 @@
 #!/usr/bin/env python3
-"""Holds every fault of the must-fail edits to the log of its run: faults.py [CRATE ..], once
-`rt ci` or `rt must-fail` has left the logs.
+"""Holds every fault of the must-fail edits to the log of a run: faults.py [CRATE ..].
 
 An .edit file may have several faults, each after a line `fault: NAME`: all in bodies, at most one
-in a function. rt proves the crate once, and is content if one of them is refused; so its log is
-read here. A fault in a body leaves the contract, which is all that other proofs go by. What it
-makes false is therefore false in the proof of its own function. An error there is one of
+in a function. rt proves the crate once, and is content if one of them is refused; so each such file
+is run here once more, and the log is read. A run is `rt check` of the crate with the edit applied,
+in a copy outside the checkout that begins with the libraries and the proofs kept in out/ folders;
+target/must-fail/CRATE/EDIT/.log keeps what it said. A fault in a body leaves the contract, which is
+all that other proofs go by. What it makes false is therefore false in the proof of its own
+function. Only, rt tries no goal of a function whose callee is not proved: so a fault that the log
+does not tell is run alone, and judged by that log. And rt names goals and facts after the text of a
+test, as `returns-then-n-lt256`: where a fault changes a test, so that its proof names what went, and
+the new name is plain, it is run once more with the proof's names brought to the new ones, and judged
+by that. What is said there is one of
   later   what it needs was refused before it: says nothing
   fact    what was to be shown does not hold
-  unfit   the proof does not fit the code, its needs have other names now; or an unknown message
-A fault is told if its function has a fact and nothing unfit. A function that the search proves
-has no proof file: it is told by the line that the search does not close it. An edit without
-`fault:` is one fault, and rt alone judges it; its log must be there.
+  unfit   the proof does not fit the code, whose names have changed; or an unknown message
+A fault is told if its function has a fact and nothing unfit. A goal that no file answers is told by
+the line that the search does not prove it. An edit without `fault:` is one fault, and `rt ci` alone
+judges it.
 Prints what is wrong, then `faults: N faults in M runs, K wrong`; the status is 0 only if nothing
 is.
 """
+import concurrent.futures
 import glob
 import os
 import re
+import shutil
+import subprocess
 import sys
+import tempfile
 
 ROOT = os.path.join(os.path.dirname(os.path.abspath(__file__)), "..")
-FACTS = ("the two types", "expected type", "does not follow from what it read", "`search`: no proof of", "`simp`: no equation of the list",
+FACTS = ("the two types", "expected type", "does not follow", "found no proof", "`search`: no proof of", "`simp`: no equation of the list",
          "`rw`: no occurrence of", "give a proof of that", "this binder is annotated")
+UNFITS = ("has no field", "has no `", "is not in scope", "no clause covers", ".Lts.View.")
 
 
 def text(path):
@@ -82,19 +93,38 @@ def function_of(crate, file, old):
 def kind(message):
     if "was not admitted" in message:
         return "later"
-    return "fact" if "Need-" not in message and any(said in message for said in FACTS) else "unfit"
+    return "fact" if any(said in message for said in FACTS) and not any(said in message for said in UNFITS) else "unfit"
+
+
+def lines_of(crate, function):
+    """The source that has a function, and the lines from the end of the one before it to its own."""
+    module, name = os.path.split(function)
+    for file in [f"src/{module}.rt"] if module else ["src/lib.rt", "src/main.rt"]:
+        if os.path.exists(f"{crate}/{file}"):
+            source, before = text(f"{crate}/{file}"), 0
+            for said, _, end in bodies(source):
+                if said == name:
+                    return file, range(source.count("\n", 0, before) + 1, source.count("\n", 0, end) + 3)
+                before = end + len("\n}\n")
+    return "", range(0)
 
 
 def errors(log, crate, function):
-    """The errors that a log has in a function's proof, by kind."""
-    out = {}
-    if os.path.exists(f"{crate}/proofs/{function}/Proof.antt"):
-        place = rf"^.*/proofs/{re.escape(function)}/Proof\.antt:\d+:\d+: error: (.*(?:\n .*)*)"
-        for message in re.findall(place, log, re.M):
-            out.setdefault(kind(message), []).append(message)
-        return out
-    name = os.path.basename(crate) + "::" + function.replace("/", "::")
-    return {"fact": re.findall(rf"^fn {name}: no proof: .*`search` does not close.*$", log, re.M)}
+    """What a log says of a function's proof, by kind."""
+    out, name = {}, os.path.basename(crate) + "::" + function.replace("/", "::")
+    place = rf"^(?:\S*/)?proofs/{re.escape(function)}/\w+\.antt:\d+:\d+: error: (.*(?:\n .*)*)"
+    for message in re.findall(place, log, re.M):
+        out.setdefault(kind(message), []).append(message)
+    for message in re.findall(rf"^fn {re.escape(name)}: (.*)$", log, re.M):
+        if "`search` did not prove `" in message:
+            out.setdefault("fact", []).append(message)
+        elif message not in ("proved", "not proved"):
+            out.setdefault("later" if "which is not proved" in message else "unfit", []).append(message)
+    file, lines = lines_of(crate, function)
+    for said, line, message in re.findall(r"^note: (src/\S+?):(\d+):\d+: (it is not proved that .*)$", log, re.M):
+        if said == file and int(line) in lines:
+            out.setdefault("fact", []).append(message)
+    return out
 
 
 def wrong_with(fault, crate, log, taken):
@@ -114,28 +144,164 @@ def wrong_with(fault, crate, log, taken):
     return None if found.get("fact") else f"nothing is false in the proof of {function}"
 
 
+def crate_of(edit):
+    return os.path.dirname(os.path.dirname(edit))
+
+
+def log_of(root, edit, fault=None):
+    """Where the log of a run lies: of an edit, or of one of its faults alone."""
+    return "/".join([root, "target/must-fail", os.path.basename(crate_of(edit)), label_of(edit)] + ([fault.name] if fault else []) + [".log"])
+
+
+def read_log(path):
+    """A log of a refusal, or nothing."""
+    said = text(path) if os.path.exists(path) else ""
+    return said if "\nlogic=not-proved" in said else ""
+
+
 def wrong_in(root, edit):
-    """The number of an edit's faults, and what is wrong with them."""
-    crate = os.path.dirname(os.path.dirname(edit))
-    where, taken = f"{os.path.basename(crate)}/{label_of(edit)}", set()
-    path = f"{root}/target/must-fail/{where}/.log"
-    log = text(path) if os.path.exists(path) else ""
+    """The number of an edit's faults, and what is wrong with them, each with its fault."""
+    crate, taken, wrong = crate_of(edit), set(), []
+    where = f"{os.path.basename(crate)}/{label_of(edit)}"
     faults, named = read_edit(edit)
-    if "\nlogic=not-proved" not in log:
-        return len(faults), [f"{where}: there is no log of a refusal"]
     if not named:
         return 1, []
-    found = [(fault.name, wrong_with(fault, crate, log, taken)) for fault in faults]
-    return len(faults), [f"{where}, {name}: {said}" for name, said in found if said]
+    log = read_log(log_of(root, edit))
+    if not log:
+        return len(faults), [(None, f"{where}: there is no log of a refusal")]
+    for fault in faults:
+        alone, before = read_log(log_of(root, edit, fault)), set(taken)
+        said = wrong_with(fault, crate, log, taken)
+        if said and alone:
+            said = wrong_with(fault, crate, alone, before)
+        if said:
+            wrong.append((fault, f"{where}, {fault.name}: {said}"))
+    return len(faults), wrong
+
+
+def below(root):
+    """The crates that each crate of crates.txt names, and those that these name."""
+    names = {line.split()[0].rstrip(":"): line.partition(":")[2].split() for line in text(f"{root}/crates.txt").splitlines() if ":" in line.partition("#")[0]}
+
+    def whole(crate):
+        found = {crate}
+        for other in names[crate]:
+            if other in names:
+                found |= whole(other)
+        return found
+
+    return names, {crate: whole(crate) for crate in names}
+
+
+def link_or_copy(one, other):
+    """As rt does it: a check replaces a proof that was kept, and a library, and writes into neither."""
+    try:
+        if "/out/rlib/" in one or one.endswith(".oantt"):
+            return os.link(one, other)
+    except OSError:
+        pass
+    return shutil.copy2(one, other)
+
+
+def copied(root, crate, to):
+    """Puts a crate and those below it into a folder, with the libraries that were built and the crate's own kept proofs."""
+    names, wholes = below(root)
+    with open(f"{to}/crates.txt", "w", encoding="utf-8") as file:
+        file.writelines(f"{each}: {' '.join(names[each])}\n" for each in names if each in wholes[crate])
+    if os.path.exists(f"{root}/HANDLES"):
+        shutil.copy2(f"{root}/HANDLES", to)
+    for each in wholes[crate]:
+        for part in ("src", "specs", "proofs", "out/rlib") + (("out/incremental",) if each == crate else ()):
+            if os.path.isdir(f"{root}/crates/{each}/{part}"):
+                shutil.copytree(f"{root}/crates/{each}/{part}", f"{to}/crates/{each}/{part}", copy_function=link_or_copy)
+
+
+def edited(crate, faults):
+    """The texts of a crate's files with all faults in them, or None where some text is not once in its file."""
+    texts = {}
+    for fault in faults:
+        for file, old, new in fault.pairs:
+            if not os.path.isfile(f"{crate}/{file}"):
+                return None
+            said = texts.setdefault(file, text(f"{crate}/{file}"))
+            if not old or said.count(old) != 1:
+                return None
+            texts[file] = said.replace(old, new)
+    return texts
+
+
+def renamed(crate, fault, log):
+    """What of the names in the proof of a fault's function became another by the changed test, and that; None where no pair, or more than one, would do."""
+    function = function_of(crate, *fault.pairs[0][:2]) if fault.pairs else None
+    cited = "".join(text(path) for path in glob.glob(f"{crate}/proofs/{function}/*.antt")) if function else ""
+    gone = {name for said in errors(log, crate, function).get("unfit", []) for name in re.findall(r"has no (?:field )?`([^`]+)`", said)} if function else set()
+    there = set(re.findall(r"[`.]([A-Za-z][\w']*(?:-[\w']+)+)", log)) - gone
+    fits = None
+    for old in gone:
+        pairs = set()
+        for new in there:
+            a, b = old.split("-"), new.split("-")
+            front = next((i for i, (x, y) in enumerate(zip(a, b)) if x != y), min(len(a), len(b)))
+            back = next((i for i, (x, y) in enumerate(zip(a[:front - 1:-1], b[:front - 1:-1])) if x != y), min(len(a), len(b)) - front)
+            pair = "-".join(a[front:len(a) - back]), "-".join(b[front:len(b) - back])
+            if front and all(pair) and not re.search(rf"(?<![\w'-]){re.escape(new)}(?![\w'-])", cited):
+                pairs.add(pair)
+        fits = pairs if fits is None else fits & pairs
+    return (function, *fits.pop()) if fits and len(fits) == 1 else None
+
+
+def run(root, crate, faults, room, log, names=None):
+    """Makes the log of a run in a copy of the tree; where rt does not refuse it there is none. names: a function, and what is put into the names of its proof."""
+    texts = edited(f"{root}/crates/{crate}", faults)
+    if texts and names:
+        function, old, new = names
+        for path in glob.glob(f"{root}/crates/{crate}/proofs/{function}/*.antt"):
+            texts[os.path.relpath(path, f"{root}/crates/{crate}")] = re.sub(rf"(?<=-){re.escape(old)}(?![\w'])", new, text(path))
+    if os.path.exists(log):
+        os.remove(log)
+    for file, said in (texts or {}).items():
+        with open(f"{room}/crates/{crate}/{file}", "w", encoding="utf-8") as out:
+            out.write(said)
+    ran = subprocess.run(["rt", "check"], cwd=f"{room}/crates/{crate}", stdin=subprocess.DEVNULL, stdout=subprocess.PIPE, stderr=subprocess.STDOUT) if texts else None
+    if ran and ran.returncode == 1:
+        os.makedirs(os.path.dirname(log), exist_ok=True)
+        with open(log, "wb") as out:
+            if names:
+                out.write(f"faults.py: {names[1]} became {names[2]} in the names of proofs/{names[0]}\n".encode())
+            out.write(ran.stdout)
+    for file in texts or {}:
+        shutil.copyfile(f"{root}/crates/{crate}/{file}", f"{room}/crates/{crate}/{file}")
+
+
+def run_all(root, crate, edits):
+    """Makes the logs of a crate's edits, one after another over the same kept proofs."""
+    with tempfile.TemporaryDirectory(prefix="faults-") as room:
+        copied(root, crate, room)
+        for edit in edits:
+            shutil.rmtree(os.path.dirname(log_of(root, edit)), ignore_errors=True)
+            run(root, crate, read_edit(edit)[0], room, log_of(root, edit))
+            for fault, _ in wrong_in(root, edit)[1]:
+                if fault:
+                    log = log_of(root, edit, fault)
+                    run(root, crate, [fault], room, log)
+                    names = renamed(f"{root}/crates/{crate}", fault, read_log(log))
+                    if names and any(each.name == fault.name for each, _ in wrong_in(root, edit)[1] if each):
+                        run(root, crate, [fault], room, log, names)
 
 
 def main(root, crates):
     edits = sorted(edit for crate in crates or ["*"] for edit in glob.glob(f"{root}/crates/{crate}/must-fail/*.edit"))
+    named = {}
+    for edit in edits:
+        if read_edit(edit)[1]:
+            named.setdefault(os.path.basename(crate_of(edit)), []).append(edit)
+    with concurrent.futures.ThreadPoolExecutor(max(1, len(os.sched_getaffinity(0)) // 2)) as pool:
+        list(pool.map(lambda crate: run_all(root, crate, named[crate]), named))
     count, wrong = 0, []
     for edit in edits:
         faults, said = wrong_in(root, edit)
         count += faults
-        wrong += said
+        wrong += [each for _, each in said]
     for said in wrong:
         print(said)
     print(f"faults: {count} faults in {len(edits)} runs, {len(wrong)} wrong")
@@ -143,4 +309,4 @@ def main(root, crates):
 
 
 if __name__ == "__main__":
-    sys.exit(main(ROOT, sys.argv[1:]))
+    sys.exit(main(os.path.abspath(ROOT), sys.argv[1:]))

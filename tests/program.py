@@ -20,16 +20,21 @@ def built(path=None):
         return os.path.abspath(path)
     path = os.path.join(ROOT, "target", "exports.called")
     if not os.path.exists(path) or os.path.getmtime(path) < newest_source():
-        ran = subprocess.run(["rt", "staticlib", "exports"], cwd=ROOT, capture_output=True, text=True)
+        ran = subprocess.run([os.path.join(ROOT, ".ci", "archive"), "exports"], capture_output=True, text=True)
         if ran.returncode:
-            raise SystemExit("rt staticlib exports: " + ran.stderr[-500:])
+            raise SystemExit(".ci/archive exports: " + (ran.stdout + ran.stderr)[-500:])
         calls.made(os.path.join(ROOT, "target", "staticlib", "libexports.a"), path)
     return path
 
 
 def newest_source():
-    sources = [os.path.join(folder, name) for folder, _, names in os.walk(os.path.join(ROOT, "crates")) for name in names]
-    return max(os.path.getmtime(path) for path in sources + [os.path.join(ROOT, "crates.txt")])
+    """When a source was last changed; what rt keeps in crates/NAME/out is none."""
+    crates, newest = os.path.join(ROOT, "crates"), os.path.getmtime(os.path.join(ROOT, "crates.txt"))
+    for folder, folders, names in os.walk(crates):
+        if os.path.dirname(folder) == crates:
+            folders[:] = [name for name in folders if name != "out"]
+        newest = max([newest] + [os.path.getmtime(os.path.join(folder, name)) for name in names])
+    return newest
 
 
 class Lent:

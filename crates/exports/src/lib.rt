@@ -2,7 +2,7 @@
 // three functions of lower floors that are worth timing alone; each asks what the function that it calls asks.
 #![tactic(auto)]
 
-mod walks;
+pub mod walks;
 
 ghost use Rattle.std.specs.Prelude.{◌≡◌, ◌≤◌, length, nat_lt};
 ghost use Rattle.fields.specs.Choice.{pick};
