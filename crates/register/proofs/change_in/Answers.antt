@@ -24,8 +24,8 @@ Joined2-state = Lts.Joined2 Tie.the-claims Reads.Pre Reads.Post Tie.handed_claus
 wrong : (j : Joined2-state) → within j.args.m.least j.args.m.most (length j.args.given.now) ≡ false
 wrong j =
     let a = j.args in
-    ⊎_elim (λ t. length-short a.m (length a.given.now) t.true)
-    (λ t. length-long a.m (length a.given.now) t.0.left (ltb-true a.m.most (length a.given.now) t.2.true)) j.then-given-m-2.branch-raw
+    ⊎_elim (λ t. length-short a.m (length a.given.now) t.if-given-m-2.true)
+    (λ t. length-long a.m (length a.given.now) t.if-given-m-2.false (ltb-true a.m.most (length a.given.now) t.if-m-given.true-raw)) j.then-given-m-2.branch-raw
 
 fine : (p : Else3-state) → within p.args.m.least p.args.m.most (length p.args.given.now) ≡ true
 fine p =
