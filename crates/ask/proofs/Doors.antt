@@ -7,8 +7,6 @@ use lib.ListN.{length, get_or}
 use lib.Dec.{eqb, ltb}
 use native.Mathlib.Omega.{arith}
 use borrow.Author.Tests.{not-true, not-false, lt-ltb, le-ltb, ltb-false, le-leb, lt-leb, ne_eqb}
-use denote.Enum.Declared.{tag_of}
-use types.Run.{OneOf, miss}
 use Rattle.fields.specs.Bytes.{splice}
 use Rattle.measures.specs.Judgement.{asked}
 use Rattle.measures.specs.declared.Numbers.{Numbers}
@@ -92,15 +90,15 @@ changes-not k e = let z : ◌≡◌ {A = ℕ} 0 1 = cc in omega arith
 
 module _ (q : Question) (values : List ℕ) where
   -- the door that reads: not served where it does not read
-  pub read-not : (a : Asked) → OneOf (1 ∷ 2 ∷ []) (tag_of the_type a) → left 255 q.area q.second q.out values ≡ read_asked a q values
-  read-not (Reads k) h = absurd (miss (1 ∷ 2 ∷ []) 0 tt h)
+  pub read-not : (a : Asked) → ((k : ReadKind) → a ≡ Reads k → ⊥) → left 255 q.area q.second q.out values ≡ read_asked a q values
+  read-not (Reads k) h = absurd (h k refl)
   read-not (Changes k) h = refl
   read-not Nothing h = refl
 
   -- the door for every request: what does not change is as at the other
-  pub ask-handed : (a : Asked) (l : Left) → OneOf (0 ∷ 2 ∷ []) (tag_of the_type a) → l ≡ read_asked a q values → l ≡ ask_asked a q values
+  pub ask-handed : (a : Asked) (l : Left) → ((k : ChangeKind) → a ≡ Changes k → ⊥) → l ≡ read_asked a q values → l ≡ ask_asked a q values
   ask-handed (Reads k) l h e = e
-  ask-handed (Changes k) l h e = absurd (miss (0 ∷ 2 ∷ []) 1 tt h)
+  ask-handed (Changes k) l h e = absurd (h k refl)
   ask-handed Nothing l h e = e
 
   module _ (a : Asked) (t : Told) (area second out after : List ℕ) (f : after ≡ splice values 0 (listed t)) where

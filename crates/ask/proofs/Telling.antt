@@ -7,28 +7,33 @@ use lib.ListN.{get_or, take, length-take, get_or-eq_default}
 use lib.Seq.{get_or-take}
 use lib.Dec.{ltb}
 use native.Mathlib.Omega.{arith}
-use denote.Enum.Declared.{tag_of}
-use types.Run.{OneOf, miss}
 use borrow.Author.Tests.{ltb-true, ltb-false}
 use Rattle.fields.specs.Choice.{pick}
 use Rattle.change.specs.declared.Written.{Written}
 use Rattle.requests.specs.Answers.{number_of, values_of}
 use Rattle.requests.specs.declared.Answer.{Answer}
 use Rattle.requests.specs.declared.Answer.TheVariants.{Done, Found, Intact, Damaged, Short, Outside, WrongLength, Present, Absent, NoInterval, NoRoom, NoRecord}
-use Rattle.requests.specs.contracts.Answer.{the_type}
 use Rattle.ask.specs.Told.{eight, eight_of, told_of}
 
 -- the values of an answer that is known to be b
 pub told-as : (a b : Answer) (n : ℕ) → a ≡ b → n ≡ number_of a → eight_of n (values_of b) ≡ told_of a
 told-as a b n e k = rw (k, e)
 
+-- an answer that has no values is none of the five kinds that have some
+pub record Bare (a : Answer) : Type 0 where
+  pub not-done : (w : Written) → a ≡ Done w → ⊥
+  pub not-found : (length : ℕ) → a ≡ Found length → ⊥
+  pub not-intact : (records free : ℕ) → a ≡ Intact records free → ⊥
+  pub not-damaged : (place : ℕ) → a ≡ Damaged place → ⊥
+  pub not-short : (needed : ℕ) → a ≡ Short needed → ⊥
+
 -- the refusals that have no values
-none-valued : (a : Answer) → OneOf (5 ∷ 6 ∷ 7 ∷ 8 ∷ 9 ∷ 10 ∷ 11 ∷ []) (tag_of the_type a) → values_of a ≡ []
-none-valued (Done w) h = absurd (miss (5 ∷ 6 ∷ 7 ∷ 8 ∷ 9 ∷ 10 ∷ 11 ∷ []) 0 tt h)
-none-valued (Found length) h = absurd (miss (5 ∷ 6 ∷ 7 ∷ 8 ∷ 9 ∷ 10 ∷ 11 ∷ []) 1 tt h)
-none-valued (Intact records free) h = absurd (miss (5 ∷ 6 ∷ 7 ∷ 8 ∷ 9 ∷ 10 ∷ 11 ∷ []) 2 tt h)
-none-valued (Damaged place) h = absurd (miss (5 ∷ 6 ∷ 7 ∷ 8 ∷ 9 ∷ 10 ∷ 11 ∷ []) 3 tt h)
-none-valued (Short needed) h = absurd (miss (5 ∷ 6 ∷ 7 ∷ 8 ∷ 9 ∷ 10 ∷ 11 ∷ []) 4 tt h)
+none-valued : (a : Answer) → Bare a → values_of a ≡ []
+none-valued (Done w) h = absurd (h.not-done w refl)
+none-valued (Found length) h = absurd (h.not-found length refl)
+none-valued (Intact records free) h = absurd (h.not-intact records free refl)
+none-valued (Damaged place) h = absurd (h.not-damaged place refl)
+none-valued (Short needed) h = absurd (h.not-short needed refl)
 none-valued Outside h = refl
 none-valued WrongLength h = refl
 none-valued Present h = refl
@@ -37,7 +42,7 @@ none-valued NoInterval h = refl
 none-valued NoRoom h = refl
 none-valued NoRecord h = refl
 
-pub told_none : (a : Answer) (n : ℕ) → OneOf (5 ∷ 6 ∷ 7 ∷ 8 ∷ 9 ∷ 10 ∷ 11 ∷ []) (tag_of the_type a) → n ≡ number_of a → eight_of n [] ≡ told_of a
+pub told_none : (a : Answer) (n : ℕ) → Bare a → n ≡ number_of a → eight_of n [] ≡ told_of a
 told_none a n h k = rw (k, none-valued a h)
 
 -- of so many first elements, the one at a place is the list's, and past them there is none

@@ -4,8 +4,6 @@ use mathlib.Core.Path.{◌≡◌, refl, ◌∙◌, sym, ap}
 use mathlib.Core.Bool.{true, false}
 use mathlib.Core.List.{List, [], ◌∷◌, map}
 use mathlib.Core.Logic.{⊎_elim}
-use types.Run.{OneOf}
-use denote.Enum.Declared.{tag_of}
 use lib.ListN.{length, take, drop, length-map, length-drop}
 use lib.Seq.{take_all, drop-drop}
 use native.Mathlib.Omega.{arith}
@@ -90,9 +88,9 @@ fresh-small m [] f h = omega arith
 fresh-small m (b ∷ bs) f h = omega (arith, within-high m.least m.most (length (b ∷ bs)) [] f, h)
 
 -- A division that is neither the first nor the second is the third.
-pub is-three : (d : Division) → OneOf (1 ∷ 2 ∷ []) (tag_of the_type d) → OneOf (0 ∷ 2 ∷ []) (tag_of the_type d) → d ≡ Three
-is-three Stays h g = absurd (⊎_elim (λ z. omega arith) (λ z. omega arith) h)
-is-three (Two k) h g = absurd (⊎_elim (λ z. omega arith) (λ z. omega arith) g)
+pub is-three : (d : Division) → (d ≡ Stays → ⊥) → ((k : ℕ) → d ≡ Two k → ⊥) → d ≡ Three
+is-three Stays h g = absurd (h refl)
+is-three (Two k) h g = absurd (g k refl)
 is-three Three h g = refl
 
 -- ---- the edit

@@ -6,8 +6,6 @@ use mathlib.Core.List.{List, [], ◌∷◌, map}
 use mathlib.Core.Logic.{⊎_elim}
 use lib.ListN.{length, take, drop}
 use native.Mathlib.Omega.{arith}
-use types.Run.{OneOf}
-use denote.Enum.Declared.{tag_of}
 use Rattle.fields.specs.Bytes.{splice}
 use Rattle.fields.proofs.Splices.{take-front}
 use Rattle.measures.specs.Judgement.{limit}
@@ -37,10 +35,10 @@ use Rattle.change_write.proofs.Carrying.{is-ready}
 
 -- ---- what is left of a plan when `let .. else` has ruled the others out
 
-pub is_none : (r : Planned) → OneOf (1 ∷ 2 ∷ []) (tag_of the_type r) → OneOf (0 ∷ 1 ∷ []) (tag_of the_type r) → r ≡ planned.NoInterval
-is_none (planned.Ready s) h g = absurd (⊎_elim (λ z. omega arith) (λ z. omega arith) h)
+pub is_none : (r : Planned) → ((s : Spread) → r ≡ planned.Ready s → ⊥) → (r ≡ planned.NoRoom → ⊥) → r ≡ planned.NoInterval
+is_none (planned.Ready s) h g = absurd (h s refl)
 is_none planned.NoInterval h g = refl
-is_none planned.NoRoom h g = absurd (⊎_elim (λ z. omega arith) (λ z. omega arith) g)
+is_none planned.NoRoom h g = absurd (g refl)
 
 none-planned : (q : Plan) (x : Spread) → planned.NoInterval ≡ planned_as q x → q ≡ no_interval
 none-planned no_interval x e = refl

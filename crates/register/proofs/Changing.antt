@@ -7,8 +7,6 @@ use mathlib.Core.List.{List, [], ◌∷◌}
 use mathlib.Core.Logic.{⊎_elim}
 use lib.ListN.{length, take, drop}
 use native.Mathlib.Omega.{arith}
-use types.Run.{OneOf}
-use denote.Enum.Declared.{tag_of}
 use borrow.Author.Tests.{le-leb, lt-leb, eq-eqb, ne_eqb}
 use Rattle.fields.proofs.Splices.{part-is}
 use Rattle.measures.specs.declared.Measures.{Measures}
@@ -93,20 +91,20 @@ module _ (m : Measures) (given : List ℕ) where
   key_in : key ≡ key_of m given
   key_in = part-is given m.offset m.key
 
-  pub record-length : (kind : Kind) → OneOf (0 ∷ 1 ∷ []) (tag_of the_type kind) → (b : Bool) → within m.least m.most (length given) ≡ b → length_fine m (change_for kind given) ≡ b
+  pub record-length : (kind : Kind) → (kind ≡ Erase → ⊥) → (b : Bool) → within m.least m.most (length given) ≡ b → length_fine m (change_for kind given) ≡ b
   record-length Insert h b f = f
   record-length Update h b f = f
-  record-length Erase h b f = absurd (⊎_elim (λ z. omega arith) (λ z. omega arith) h)
+  record-length Erase h b f = absurd (h refl)
 
-  pub record-asked : (kind : Kind) → OneOf (0 ∷ 1 ∷ []) (tag_of the_type kind) → within m.least m.most (length given) ≡ true → Asked m kind key given
+  pub record-asked : (kind : Kind) → (kind ≡ Erase → ⊥) → within m.least m.most (length given) ≡ true → Asked m kind key given
   record-asked Insert h f = record { is = key_in; fine = f; none = tt }
   record-asked Update h f = record { is = key_in; fine = f; none = tt }
-  record-asked Erase h f = absurd (⊎_elim (λ z. omega arith) (λ z. omega arith) h)
+  record-asked Erase h f = absurd (h refl)
 
-  pub record_same : (kind : Kind) → OneOf (0 ∷ 1 ∷ []) (tag_of the_type kind) → change_at kind key given ≡ change_for kind given
+  pub record_same : (kind : Kind) → (kind ≡ Erase → ⊥) → change_at kind key given ≡ change_for kind given
   record_same Insert h = refl
   record_same Update h = refl
-  record_same Erase h = absurd (⊎_elim (λ z. omega arith) (λ z. omega arith) h)
+  record_same Erase h = absurd (h refl)
 
 -- the same change by another name
 pub makes-same : (m : Measures) (n : ℕ) (area : List ℕ) (ch dh : Change) → ch ≡ dh → (a : Answer) (after : List ℕ) → MakesIn m n area (λ c. keyed_in m c area ch) a after

@@ -79,7 +79,7 @@ pub record Run (area : Bor (List ℕ)) (size : ℕ) (forward : Bool) (places : �
 -- The parts are those of the items, one after another, none of them empty: the item's bytes, lent where it begins in the area; then they are empty for ever.
 pub record Given (area : Bor (List ℕ)) (items : List Item) (parts : ℕ → Bor (List ℕ)) : Type 0 where
   pub there : (k : ℕ) → k < length items → (parts k).now ≡ (get_or items k none).bytes
-  pub lies : (k : ℕ) → k < length items → (parts k).ptr ≡ (area.ref_ptr.0, area.ref_ptr.1 + (get_or items k none).start)
+  pub lies : (k : ℕ) → k < length items → (parts k).ref_ptr ≡ (area.ref_ptr.0, area.ref_ptr.1 + (get_or items k none).start)
   pub inside : (k : ℕ) → k < length items → (parts k).now ≡ part area.now (get_or items k none).start (length (parts k).now)
   pub some : (k : ℕ) → k < length items → 0 < length (parts k).now
   pub ends : (k : ℕ) → length items ≤ k → (parts k).now ≡ []
@@ -155,7 +155,7 @@ module _ (area : Bor (List ℕ)) (size : ℕ) (forward : Bool) (places : ℕ →
       start : (k : ℕ) → k < length items → (places k).start ≡ (get_or items k none).start
       start k h = ap (λ (p : Place). p.start) (run-steps k) ∙ (g.there k h).0
 
-      lies : (k : ℕ) → k < length items → (parts k).ptr ≡ (area.ptr.0, area.ptr.1 + (get_or items k none).start)
+      lies : (k : ℕ) → k < length items → (parts k).ref_ptr ≡ (area.ref_ptr.0, area.ref_ptr.1 + (get_or items k none).start)
       lies k h =
           (shows k).lies
           ∙ ap (λ (s : ℕ). (area.ref_ptr.0, area.ref_ptr.1 + s)) (begins-there area.now (places k) (omega (arith, ap length (at k), some k h)) ∙ start k h)

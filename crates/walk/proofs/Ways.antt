@@ -69,7 +69,7 @@ module _ (area : Bor (List ℕ)) (p : Place) (r : Bor (List ℕ)) where
   shown-none o b l = let z : 0 + area.ref_ptr.1 ≡ area.ref_ptr.1 + 0 = omega arith in record { bytes = b ∙ rw o; lies = l ∙ rw (o, z) }
 
   pub shown-part : outside area.now p ≡ false → r.now ≡ part area.now p.start p.length → r.ref_ptr ≡ (area.ref_ptr.0, p.start + area.ref_ptr.1) → Shown area p r
-  shown-part o b l = let z : p.start + area.ptr.1 ≡ area.ptr.1 + p.start = omega arith in record { bytes = b ∙ rw o; lies = l ∙ rw (o, z) }
+  shown-part o b l = let z : p.start + area.ref_ptr.1 ≡ area.ref_ptr.1 + p.start = omega arith in record { bytes = b ∙ rw o; lies = l ∙ rw (o, z) }
 
 -- ---- in a sound interval, the record of an ordinal
 

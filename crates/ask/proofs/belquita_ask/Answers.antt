@@ -10,7 +10,7 @@ use Rattle.ask.proofs.belquita_ask.Goals as goal
 pub returns-in_default : goal.returns-in_default
 returns-in_default c =
     let a = c.args in
-    ask-handed (question a.numbers.now a.area.now a.second.now a.given.now a.out.now) a.values.now (asked_of a.kind a.numbers.now (length a.values.now)) _ (rw c.asked_of.ensures at c.in_default.in_default-own.keys2) c.belquita_read.ensures
+    ask-handed (question a.numbers.now a.area.now a.second.now a.given.now a.out.now) a.values.now (asked_of a.kind a.numbers.now (length a.values.now)) _ (rw c.asked_of.ensures at c.in_default.not-Changes) c.belquita_read.ensures
 
 pub put-requires : goal.put-requires
 put-requires c =

@@ -10,7 +10,7 @@ use Rattle.ask.proofs.belquita_read.Goals as goal
 pub returns-in_default : goal.returns-in_default
 returns-in_default c =
     let a = c.args in
-    read-not (question a.numbers.now a.area.now a.second.now a.given.now a.out.now) a.values.now (asked_of a.kind a.numbers.now (length a.values.now)) (rw c.asked_of.ensures at c.in_default.in_default-own.keys2)
+    read-not (question a.numbers.now a.area.now a.second.now a.given.now a.out.now) a.values.now (asked_of a.kind a.numbers.now (length a.values.now)) (rw c.asked_of.ensures at c.in_default.not-Reads)
 
 pub put-requires : goal.put-requires
 put-requires c =

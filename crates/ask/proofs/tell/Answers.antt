@@ -27,4 +27,4 @@ returns-in-Short c =
 
 pub returns-in_default : goal.returns-in_default
 returns-in_default c =
-    c.two-in_default.ensures ∙ told_none c.args.answer c.number-number.result c.in_default.in_default-own.keys6 c.number-number.ensures
+    c.two-in_default.ensures ∙ told_none c.args.answer c.number-number.result record { not-done = c.in_default.not-Done; not-found = c.in_default.not-Found; not-intact = c.in_default.not-Intact; not-damaged = c.in_default.not-Damaged; not-short = c.in_default.not-Short } c.number-number.ensures

@@ -31,7 +31,7 @@ two : (k : After-known_told-state) → division_of k.args.m.size k.args.lens.now
 two k = sym k.divide-division.ensures ∙ k.in-Two.is
 
 three : (k : After-struct_known-state) → division_of k.args.m.size k.args.lens.now ≡ Three
-three k = sym k.divide-division.ensures ∙ is-three k.divide-division.result k.in_default.in_default-own.keys2 k.in_default-division.in_default-division-own.keys2
+three k = sym k.divide-division.ensures ∙ is-three k.divide-division.result k.in_default.not-Stays k.in_default-division.not-Two
 
 -- what of the edit is seen in the interval
 seen : (s : Start-state) → Seen s.args.m s.args.area.now s.args.site s.args.new.now s.args.lens.now

@@ -66,7 +66,7 @@ pub returns-in_default-planned : goal.returns-in_default-planned
 returns-in_default-planned c =
     let a = c.args in
     refused-interval a.m a.n a.area.now a.site (edit_at a.site (fresh_in a.new.now)) c.plan-planned.result c.plan-planned.ensures
-    (is_none c.plan-planned.result c.in_default.in_default-own.keys2 c.in_default-planned.in_default-planned-own.keys2)
+    (is_none c.plan-planned.result c.in_default.not-Ready c.in_default-planned.not-NoRoom)
 
 pub returns-in_default : goal.returns-in_default
 returns-in_default c =

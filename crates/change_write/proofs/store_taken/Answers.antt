@@ -16,21 +16,12 @@ use Rattle.change_write.proofs.store_taken.Goals as goal
 abbrev Joined1-state : Type 0
 Joined1-state = Lts.Joined1 Tie.the-claims Reads.Pre Reads.Post
 
-abbrev After-store-arg2-state : Type 0
-After-store-arg2-state = Lts.After-store-arg2 Tie.the-claims Reads.Pre Reads.Post
-
-abbrev Then2-state : Type 0
-Then2-state = Lts.Then2 Tie.the-claims Reads.Pre Reads.Post
-
-abbrev third_of : After-store-arg2-state → Then2-state
-third_of k = k.before.before
-
 -- where the first of the later parts ends
 last-is : (j : Joined1-state)
-    → j.if-parts-eq3.new ≡ pick (three_of j.args.spread.parts) j.args.spread.parts.second (length j.args.lens.now)
+    → j.if-parts-eq3.last ≡ pick (three_of j.args.spread.parts) j.args.spread.parts.second (length j.args.lens.now)
 last-is j =
     let p = j.args.spread.parts in
-    ⊎_elim (λ h. h.1 ∙ rw (eq-eqb p.many 3 h.0.true)) (λ h. h.1 ∙ rw (ne_eqb p.many 3 h.0.left)) j.if-parts-eq3.branch-raw
+    ⊎_elim (λ h. h.last-is ∙ rw (eq-eqb p.many 3 h.if-parts-eq3.true)) (λ h. h.last-is ∙ rw (ne_eqb p.many 3 h.if-parts-eq3.false)) j.if-parts-eq3.branch-raw
 
 pub overflow_add-middle : goal.overflow_add-middle
 overflow_add-middle c =
@@ -40,29 +31,28 @@ overflow_add-middle c =
 pub store-requires : goal.store-requires
 store-requires c =
     let a = c.args in
-    (c.requires.seen, later-storable a.m a.area.now a.new.now a.lens.now a.spread c.requires c.if-parts-eq3.new (last-is c.before.before.before.before))
+    (c.requires.seen, later-storable a.m a.area.now a.new.now a.lens.now a.spread c.requires c.if-parts-eq3.last (last-is c.before.before.before.before))
+
+pub overflow_add-end : goal.overflow_add-end
+overflow_add-end c =
+    let a = c.args in
+    let z = eq-eqb a.spread.parts.many 3 c.if-parts-eq3-2.true in
+    omega (arith, place-small a.m a.area.now a.new.now a.lens.now a.spread c.requires a.spread.b (c.requires.b_there z))
 
 pub store-requires-then-parts-eq3-2 : goal.store-requires-then-parts-eq3-2
 store-requires-then-parts-eq3-2 c =
-    let k = third_of c.before.before.before.before.before.before.before.before.before in
-    let t = stored_of k.before in
-    let j = joined t in
-    let s = start-of t in
-    let a = s.args in
-    let z = eq-eqb a.spread.parts.many 3 k.if2.true in (
-      later-seen a.m a.area.now a.new.now a.lens.now a.spread s.requires j.if1.last (last-is j) t.store.last.0 t.store.ensures,
-      last-storable a.m a.area.now a.new.now a.lens.now a.spread s.requires j.if1.last (last-is j) t.store.last.0 t.store.ensures z,
+    let a = c.args in
+    let z = eq-eqb a.spread.parts.many 3 c.if-parts-eq3-2.true in
+    let told = last-is c.before.before.before.before.before.before.before.before.before.before.before.before in (
+      later-seen a.m a.area.now a.new.now a.lens.now a.spread c.requires c.if-parts-eq3.last told c.store.new.area c.store.ensures,
+      last-storable a.m a.area.now a.new.now a.lens.now a.spread c.requires c.if-parts-eq3.last told c.store.new.area c.store.ensures z,
     )
 
 pub returns-then-parts-eq3-2 : goal.returns-then-parts-eq3-2
 returns-then-parts-eq3-2 c =
-    let k = third_of c.before.before.before.before.before.before.before.before.before.before.before.before in
-    let t = stored_of k.before in
-    let j = joined t in
-    let s = start-of t in
-    let a = s.args in
-    let z = eq-eqb a.spread.parts.many 3 k.if2.true in
-    two-taken a.m a.area.now a.new.now a.lens.now a.spread s.requires j.if1.last (last-is j) t.store.last.0 t.store.ensures z
+    let a = c.args in
+    let z = eq-eqb a.spread.parts.many 3 c.if-parts-eq3-2.true in
+    two-taken a.m a.area.now a.new.now a.lens.now a.spread c.requires c.if-parts-eq3.last (last-is c.before.before.before.before.before.before.before.before.before.before.before.before.before.before.before) c.store.new.area c.store.ensures z
     c.store-then-parts-eq3-2.new.area c.store-then-parts-eq3-2.ensures
 
 pub returns-else-parts-eq3-2 : goal.returns-else-parts-eq3-2

@@ -3,6 +3,7 @@ use Rattle.change_write.proofs.three_written.Lts
 use Rattle.change_write.proofs.three_written.Reads
 use Rattle.change_write.proofs.three_written.Tie
 use mathlib.Core.Path.{◌≡◌}
+use mathlib.Core.Logic.{⊎_elim, inl, inr}
 use lib.Dec.{ltb}
 use borrow.Author.Tests.{lt-ltb, le-ltb}
 use Rattle.fields.specs.Choice.{pick}
@@ -24,19 +25,22 @@ abbrev two : Joined1-state → Written
 two k = k.two_written-two.result
 
 second : (k : Joined1-state) → k.if-x-low.second ≡ pick (ltb k.args.x (two k).second) k.args.x (two k).second
-second k = let x = k.args.x in chosen x (two k).second x (two k).second k.if-x-low.second (λ t. t.true) (λ t. t.left) k.if-x-low.branch-raw
+second k = let x = k.args.x in chosen x (two k).second x (two k).second k.if-x-low.second (λ t. t) (λ t. t)
+    (⊎_elim (λ h. inl (h.if-x-low.true, h.second-is)) (λ h. inr (h.if-x-low.false, h.second-is)) k.if-x-low.branch-raw)
 
 rest : (k : Joined2-state) → k.if-x-low-2.rest ≡ pick (ltb k.args.x (two k.before).second) (two k.before).second k.args.x
 rest k =
     let x = k.args.x in
     let low = (two k.before).second in
-    chosen x low low x k.if-x-low-2.rest (λ t. t.true) (λ t. t.left) k.if-x-low-2.branch-raw
+    chosen x low low x k.if-x-low-2.rest (λ t. t) (λ t. t)
+    (⊎_elim (λ h. inl (h.if-x-low-2.true, h.rest-is)) (λ h. inr (h.if-x-low-2.false, h.rest-is)) k.if-x-low-2.branch-raw)
 
 third : (k : Joined3-state) → k.if-rest-high.third ≡ pick (ltb k.if-x-low-2.rest (two k.before.before).third) k.if-x-low-2.rest (two k.before.before).third
 third k =
     let r = k.if-x-low-2.rest in
     let high = (two k.before.before).third in
-    chosen r high r high k.if-rest-high.third (λ t. t.true) (λ t. t.left) k.if-rest-high.branch-raw
+    chosen r high r high k.if-rest-high.third (λ t. t) (λ t. t)
+    (⊎_elim (λ h. inl (h.if-rest-high.true, h.third-is)) (λ h. inr (h.if-rest-high.false, h.third-is)) k.if-rest-high.branch-raw)
 
 pub returns-then-rest-high-2 : goal.returns-then-rest-high-2
 returns-then-rest-high-2 c =

@@ -2,6 +2,7 @@
 use Rattle.change_write.proofs.two_written.Lts
 use Rattle.change_write.proofs.two_written.Reads
 use mathlib.Core.Path.{◌≡◌}
+use mathlib.Core.Logic.{⊎_elim, inl, inr}
 use lib.Dec.{ltb}
 use borrow.Author.Tests.{lt-ltb, le-ltb}
 use Rattle.fields.specs.Choice.{pick}
@@ -12,7 +13,8 @@ abbrev Joined1-state : Type 0
 Joined1-state = Lts.Joined1 Reads.Pre Reads.Post
 
 low : (c : Joined1-state) → c.if-x-y.low ≡ pick (ltb c.args.x c.args.y) c.args.x c.args.y
-low c = let a = c.args in chosen a.x a.y a.x a.y c.if-x-y.low (λ t. t.true) (λ t. t.left) c.if-x-y.branch-raw
+low c = let a = c.args in chosen a.x a.y a.x a.y c.if-x-y.low (λ t. t) (λ t. t)
+    (⊎_elim (λ h. inl (h.if-x-y.true, h.low-is)) (λ h. inr (h.if-x-y.false, h.low-is)) c.if-x-y.branch-raw)
 
 pub returns-then-x-y-2 : goal.returns-then-x-y-2
 returns-then-x-y-2 c =

@@ -24,8 +24,8 @@ Joined2-state = Lts.Joined2 Tie.the-claims Reads.Pre Reads.Post Tie.handed_claus
 wrong : (j : Joined2-state) → within j.args.m.least j.args.m.most (length j.args.given.now) ≡ false
 wrong j =
     let a = j.args in
-    ⊎_elim (λ t. length-short a.m (length a.given.now) t.true)
-    (λ t. length-long a.m (length a.given.now) t.0.left (ltb-true a.m.most (length a.given.now) t.2.true)) j.then-given-m-2.branch-raw
+    ⊎_elim (λ t. length-short a.m (length a.given.now) t.if-given-m-2.true)
+    (λ t. length-long a.m (length a.given.now) t.if-given-m-2.false (ltb-true a.m.most (length a.given.now) t.if-m-given.true-raw)) j.then-given-m-2.branch-raw
 
 fine : (p : Else3-state) → within p.args.m.least p.args.m.most (length p.args.given.now) ≡ true
 fine p =
@@ -54,17 +54,17 @@ pub returns-then-given-m-2 : goal.returns-then-given-m-2
 returns-then-given-m-2 c =
     let a = c.args in
     wrong-makes a.m a.n a.area.now (change_for a.kind a.given.now)
-    (record-length a.m a.given.now a.kind c.in_default.in_default-own.keys2 false (wrong c.before))
+    (record-length a.m a.given.now a.kind c.in_default.not-Erase false (wrong c.before))
 
 pub change_at-requires-2 : goal.change_at-requires-2
 change_at-requires-2 c =
     let a = c.args in
-    record { fits = (c.requires.0, c.requires.1); asked = record-asked a.m a.given.now a.kind c.in_default.in_default-own.keys2 (fine c.before.before.before.before); }
+    record { fits = (c.requires.0, c.requires.1); asked = record-asked a.m a.given.now a.kind c.in_default.not-Erase (fine c.before.before.before.before); }
 
 pub returns : goal.returns
 returns c =
     let a = c.args in
-    let k = c.in_default.in_default-own.keys2 in
+    let k = c.in_default.not-Erase in
     fine-makes a.m a.n a.area.now (change_for a.kind a.given.now) (record-length a.m a.given.now a.kind k true (fine c.before.before.before.before.before.before.before)) c.change_at-2.result c.change_at-2.new.area
     (makes-same a.m a.n a.area.now (change_at a.kind (key a.m a.given.now) a.given.now) (change_for a.kind a.given.now) (record_same a.m a.given.now a.kind k)
     c.change_at-2.result c.change_at-2.new.area c.change_at-2.ensures)

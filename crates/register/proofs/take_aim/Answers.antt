@@ -2,11 +2,6 @@
 -- are refused at a gap and aim at a record (other-gap, other-record).
 use Prim.Native.Nat.{ℕ}
 use mathlib.Core.Path.{◌≡◌, refl, ◌∙◌, sym}
-use mathlib.Core.List.{[], ◌∷◌}
-use mathlib.Core.Logic.{⊎_elim}
-use native.Mathlib.Omega.{arith}
-use denote.Enum.Declared.{tag_of}
-use types.Run.{OneOf}
 use Rattle.interval.specs.declared.Found.{Found}
 use Rattle.interval.specs.declared.Found.TheVariants.{At, Gap}
 use Rattle.area_find.specs.declared.KeyPlace.{KeyPlace}
@@ -15,7 +10,6 @@ use Rattle.register.specs.AidChange.{record_site, aim_at, aim_of}
 use Rattle.register.specs.declared.Kind.{Kind}
 use Rattle.register.specs.declared.Kind.TheVariants.{Insert, Update, Erase}
 use Rattle.register.specs.declared.Aim.TheVariants as aim
-use Rattle.register.specs.contracts.Kind.{the_type}
 use Rattle.register.proofs.take_aim.Goals as goal
 
 -- what is found and what is asked for, by their names
@@ -23,21 +17,21 @@ aims-as : (kind k : Kind) (spot : KeyPlace) (f : Found) → kind ≡ k → spot.
 aims-as kind k spot f e h = sym (rw (e, h))
 
 -- an update and an erase
-other-gap : (kind : Kind) (entry number i s : ℕ) → OneOf (1 ∷ 2 ∷ []) (tag_of the_type kind) → aim.Not Absent ≡ aim_at kind entry number (Gap i s)
-other-gap Insert entry number i s h = absurd (⊎_elim (λ z. omega arith) (λ z. omega arith) h)
+other-gap : (kind : Kind) (entry number i s : ℕ) → (kind ≡ Insert → ⊥) → aim.Not Absent ≡ aim_at kind entry number (Gap i s)
+other-gap Insert entry number i s h = absurd (h refl)
 other-gap Update entry number i s h = refl
 other-gap Erase entry number i s h = refl
 
-other-record : (kind : Kind) (entry number i s l : ℕ) → OneOf (1 ∷ 2 ∷ []) (tag_of the_type kind)
+other-record : (kind : Kind) (entry number i s l : ℕ) → (kind ≡ Insert → ⊥)
     → aim.At (record_site entry number i s l) ≡ aim_at kind entry number (At i s l)
-other-record Insert entry number i s l h = absurd (⊎_elim (λ z. omega arith) (λ z. omega arith) h)
+other-record Insert entry number i s l h = absurd (h refl)
 other-record Update entry number i s l h = refl
 other-record Erase entry number i s l h = refl
 
 pub returns-in_default : goal.returns-in_default
 returns-in_default c =
     let a = c.args in
-    other-gap a.kind a.spot.entry a.spot.number c.in-Gap.ordinal c.in-Gap.start c.in_default.in_default-own.keys2 ∙ aims-as a.kind a.kind a.spot (Gap c.in-Gap.ordinal c.in-Gap.start) refl c.in-Gap.is
+    other-gap a.kind a.spot.entry a.spot.number c.in-Gap.ordinal c.in-Gap.start c.in_default.not-Insert ∙ aims-as a.kind a.kind a.spot (Gap c.in-Gap.ordinal c.in-Gap.start) refl c.in-Gap.is
 
 pub returns-in-Insert-kind : goal.returns-in-Insert-kind
 returns-in-Insert-kind c =
@@ -52,5 +46,5 @@ returns-in-Insert c =
 pub returns-in_default-kind : goal.returns-in_default-kind
 returns-in_default-kind c =
     let a = c.args in
-    other-record a.kind a.spot.entry a.spot.number c.in-At.ordinal c.in-At.start c.in-At.length c.in_default-kind.in_default-kind-own.keys2
+    other-record a.kind a.spot.entry a.spot.number c.in-At.ordinal c.in-At.start c.in-At.length c.in_default-kind.not-Insert
     ∙ aims-as a.kind a.kind a.spot (At c.in-At.ordinal c.in-At.start c.in-At.length) refl c.in-At.is

@@ -54,7 +54,7 @@ past-told : (j : Joined3-state)
     → edge j.if-last.right j.in-Entry.next.end
     ≡ beyond_of j.in-Entry.last j.in-Entry.next
 past-told j =
-    ⊎_elim (λ x. beyond-last j.in-Entry.last j.in-Entry.next j.if-last.right x.0.true x.1) (λ x. beyond-more j.in-Entry.last j.in-Entry.next j.if-last.right x.0.left x.1) j.if-last.branch-raw
+    ⊎_elim (λ x. beyond-last j.in-Entry.last j.in-Entry.next j.if-last.right x.if-last.true x.right-is) (λ x. beyond-more j.in-Entry.last j.in-Entry.next j.if-last.right x.if-last.false x.right-is) j.if-last.branch-raw
 
 -- the first record of its interval
 first-told : (d : After-first-state)

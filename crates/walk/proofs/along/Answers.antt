@@ -22,7 +22,7 @@ returns-then-long-p c =
     let a = c.args in
     along-forward a.long a.forward a.p c.ended.result c.if-forward.true
     (c.ended.ensures
-    ∙ ⊎_elim (λ w. along-past a.long a.p w.true) (λ w. along-cut a.long a.p w.0.left (ltb-true _ _ w.3.true)) c.then-long-p.branch-raw)
+    ∙ ⊎_elim (λ w. along-past a.long a.p w.if-long-p.true) (λ w. along-cut a.long a.p w.if-long-p.false (ltb-true _ _ w.if-long-p-2.true-raw)) c.then-long-p.branch-raw)
 
 pub overflow_add-p : goal.overflow_add-p
 overflow_add-p c = omega (arith, lies c, c.ranges)

@@ -24,7 +24,7 @@ After-copy-state = Lts.After-copy Tie.the-claims Reads.Pre Reads.Post
 filled-told : (j : Joined1-state) → j.if-not-forward.key ≡ replicate 255 (filler j.args.forward)
 filled-told j =
     let a = j.args in
-    ⊎_elim (λ x. key-high 255 0 a.forward j.if-not-forward.key x.0.true (x.4 ∙ x.2.ensures)) (λ x. key-low 255 a.forward j.if-not-forward.key x.0.left x.1) j.if-not-forward.branch-raw
+    ⊎_elim (λ x. key-high 255 0 a.forward j.if-not-forward.key x.if-not-forward.true-raw (x.key-is ∙ x.fill.ensures)) (λ x. key-low 255 a.forward j.if-not-forward.key x.if-not-forward.false-raw x.key-is) j.if-not-forward.branch-raw
 
 octets : (k : After-copy-state) → Octets k.args.given.now
 octets k i = omega (arith, k.shared_slice_known-2-1.given i)

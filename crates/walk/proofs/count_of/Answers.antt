@@ -7,7 +7,7 @@ use Rattle.walk.proofs.count_of.Goals as goal
 pub returns-then-size-lt512 : goal.returns-then-size-lt512
 returns-then-size-lt512 c =
     let a = c.args in
-    ⊎_elim (λ w. count_small a.long a.size w.true) (λ w. count-short a.long a.size w.0.left (ltb-true _ _ w.1.true)) c.then-size-lt512.branch-raw
+    ⊎_elim (λ w. count_small a.long a.size w.if-size-lt512.true) (λ w. count-short a.long a.size w.if-size-lt512.false (ltb-true _ _ w.if-long-size.true-raw)) c.then-size-lt512.branch-raw
 
 pub overflow_sub-result : goal.overflow_sub-result
 overflow_sub-result c =

@@ -26,7 +26,7 @@ met_of q =
 past-told : (c : Joined1-state)
     → edge c.if-last.right c.in-Entry.next.end ≡ beyond_of c.in-Entry.last c.in-Entry.next
 past-told c =
-    ⊎_elim (λ x. beyond-last c.in-Entry.last c.in-Entry.next c.if-last.right x.0.true x.1) (λ x. beyond-more c.in-Entry.last c.in-Entry.next c.if-last.right x.0.left x.1) c.if-last.branch-raw
+    ⊎_elim (λ x. beyond-last c.in-Entry.last c.in-Entry.next c.if-last.right x.if-last.true x.right-is) (λ x. beyond-more c.in-Entry.last c.in-Entry.next c.if-last.right x.if-last.false x.right-is) c.if-last.branch-raw
 
 pub loop-i-init : goal.loop-i-init
 loop-i-init c =

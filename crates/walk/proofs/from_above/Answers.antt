@@ -39,8 +39,8 @@ there j =
     let a = j.args in
     let lent = lent-data a.m a.n a.area.now j.requires.0 a.sought.number j.requires.2.within in
     ⊎_elim
-    (λ x. above_at a.m a.n a.area.now a.sought j.requires.2 x.4.result j.match-found.s x.5 x.1.given.0.0 x.1.given.0.1.0 x.1.given.0.1.1.0 x.1.given.1 (rw lent at x.4.ensures))
-    (λ x. above-gap a.m a.n a.area.now a.sought j.requires.2 x.4.result j.match-found.s x.5 x.1.given.0.0 x.1.given.0.1.0 x.1.given.1 (rw lent at x.4.ensures))
+    (λ x. above_at a.m a.n a.area.now a.sought j.requires.2 x.spot_at-s.result j.match-found.s x.s-is x.in-At.ordinal x.in-At.start x.in-At.length x.in-At.is (rw lent at x.spot_at-s.ensures))
+    (λ x. above-gap a.m a.n a.area.now a.sought j.requires.2 x.first_from-s.result j.match-found.s x.s-is x.in-Gap.ordinal x.in-Gap.start x.in-Gap.is (rw lent at x.first_from-s.ensures))
     j.match-found.branch-raw
 
 pub overflow_mul-a : goal.overflow_mul-a
@@ -61,7 +61,7 @@ slice_bounds-edge_past-end c =
 pub overflow_add-entry : goal.overflow_add-entry
 overflow_add-entry c =
     let a = c.args in
-    omega (arith, sits-few a.m a.n a.area.now c.requires.0 c.requires.1 a.sought c.requires.2, c.before.before.before)
+    omega (arith, sits-few a.m a.n a.area.now c.requires.0 c.requires.1 a.sought c.requires.2)
 
 pub slice_bounds-spot_at-end : goal.slice_bounds-spot_at-end
 slice_bounds-spot_at-end c =
@@ -108,7 +108,7 @@ returns-then-s-gt0 c =
 pub overflow_add-entry-2 : goal.overflow_add-entry-2
 overflow_add-entry-2 c =
     let a = c.args in
-    omega (arith, sits-few a.m a.n a.area.now c.requires.0 c.requires.1 a.sought c.requires.2, c.before.before.before.before.before.before)
+    omega (arith, sits-few a.m a.n a.area.now c.requires.0 c.requires.1 a.sought c.requires.2)
 
 pub ahead-requires : goal.ahead-requires
 ahead-requires c =

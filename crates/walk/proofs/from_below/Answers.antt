@@ -119,5 +119,5 @@ returns-else-ordinal-eq0 c =
     λ (d : Content) (w : read_area a.m a.n a.area.now ≡ whole d).
     stood-as a.m a.n a.area.now d false (before d.filled a.sought.entry + upto_found a.sought.found) _ c.placed-in-Gap.result c.placed-in-Gap.ensures
     (below-here a.m a.n a.area.now c.requires.0 d w a.sought.entry a.sought.number (sits-inside a.m a.n a.area.now d w a.sought c.requires.2)
-    (sits-number a.m a.n a.area.now d w a.sought c.requires.2) (c.in-Gap.ordinal - 1) c.spot_at-in-Gap.result (stands c.before.before.before.before.before.before.before c.spot_at-in-Gap.result (f.0.0 - 1) c.spot_at-in-Gap.ensures)
+    (sits-number a.m a.n a.area.now d w a.sought c.requires.2) (c.in-Gap.ordinal - 1) c.spot_at-in-Gap.result (stands c.before.before.before.before.before.before.before c.spot_at-in-Gap.result (c.in-Gap.ordinal - 1) c.spot_at-in-Gap.ensures)
     (upto_found a.sought.found) z)

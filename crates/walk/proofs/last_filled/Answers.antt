@@ -86,8 +86,8 @@ loop-i-preserved c =
     let few = filled-few a.area.now a.size a.n c.loop-i.i a.entries c.loop-i.e c.loop-i.found (more c.before.before.before.before.before) c.in-Entry.number c.in-Entry.next c.in-Entry.last (met_of c.before.before.before.before.before ∙ c.in-Entry.is) c.if-n-number.false
     c.read_two.result c.read_two.ensures.0 c.if-read_two-ne0.found in (
       c.loop-i.invariant.0,
-      c.loop-i.invariant.1 ∙ ⊎_elim (λ x. turn x.0.true x.1) (λ x. stay x.0.left x.1) c.if-read_two-ne0.branch-raw,
-      ⊎_elim (λ x. few x.1) (λ x. omega (arith, ap (λ g. g.place) x.1, c.loop-i.invariant.2)) c.if-read_two-ne0.branch-raw,
+      c.loop-i.invariant.1 ∙ ⊎_elim (λ x. turn x.if-read_two-ne0.true x.found-is) (λ x. stay x.if-read_two-ne0.false x.found-is) c.if-read_two-ne0.branch-raw,
+      ⊎_elim (λ x. few x.found-is) (λ x. omega (arith, ap (λ g. g.place) x.found-is, c.loop-i.invariant.2)) c.if-read_two-ne0.branch-raw,
     )
 
 pub returns : goal.returns

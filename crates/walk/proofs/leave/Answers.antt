@@ -93,8 +93,8 @@ pub returns-then-number-eq0 : goal.returns-then-number-eq0
 returns-then-number-eq0 c =
     let a = c.args in
     c.ended-then-number-eq0.ensures
-    ∙ ⊎_elim (λ w. leave-index a.area.now a.size (many c.before.before.before.before) a.forward a.p (told c.before.before.before.before) c.if-n-p.false w.true)
-    (λ w. leave-far a.area.now a.size (many c.before.before.before.before) a.forward a.p (told c.before.before.before.before) c.if-n-p.false (ltb-true _ _ w.1.true))
+    ∙ ⊎_elim (λ w. leave-index a.area.now a.size (many c.before.before.before.before) a.forward a.p (told c.before.before.before.before) c.if-n-p.false w.if-number-eq0.true)
+    (λ w. leave-far a.area.now a.size (many c.before.before.before.before) a.forward a.p (told c.before.before.before.before) c.if-n-p.false (ltb-true _ _ w.if-n-number.true-raw))
     c.then-number-eq0.branch-raw
 
 pub overflow_mul-a : goal.overflow_mul-a

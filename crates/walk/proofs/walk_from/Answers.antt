@@ -29,8 +29,8 @@ returns-then-given-eq0 c =
     let a = c.args in
     let e = opened-told c.before.before in
     let told = from_told (asked a.numbers) a.area.now a.forward a.given.now (Refused WrongLength)
-    (⊎_elim (λ x. from_nothing (asked a.numbers) a.area.now a.forward c.in-Whole.measures c.in-Whole.count c.in-Whole.records c.in-Whole.free e a.given.now x.true)
-    (λ x. from-too-many (asked a.numbers) a.area.now a.forward c.in-Whole.measures c.in-Whole.count c.in-Whole.records c.in-Whole.free e a.given.now (ltb-true _ _ x.2.true))
+    (⊎_elim (λ x. from_nothing (asked a.numbers) a.area.now a.forward c.in-Whole.measures c.in-Whole.count c.in-Whole.records c.in-Whole.free e a.given.now x.if-given-eq0.true)
+    (λ x. from-too-many (asked a.numbers) a.area.now a.forward c.in-Whole.measures c.in-Whole.count c.in-Whole.records c.in-Whole.free e a.given.now (ltb-true _ _ x.if-measures-given.true-raw))
     c.then-given-eq0.branch-raw) in record { begins = told.0; there = told.1.0; is = told.1.1; }
 
 pub begin_at-p-requires : goal.begin_at-p-requires

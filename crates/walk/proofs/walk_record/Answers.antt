@@ -23,17 +23,17 @@ pub returns-then-area-p : goal.returns-then-area-p
 returns-then-area-p c =
     let a = c.args in
     shown-none a.area a.p _
-    (⊎_elim (λ w. place-past a.area.now a.p w.true) (λ w. place-cut a.area.now a.p w.0.left (ltb-true _ _ w.3.true)) c.then-area-p.branch-raw) refl refl
+    (⊎_elim (λ w. place-past a.area.now a.p w.if-area-p.true) (λ w. place-cut a.area.now a.p w.if-area-p.false (ltb-true _ _ w.if-area-p-2.true-raw)) c.then-area-p.branch-raw) refl refl
 
 pub overflow_add-e : goal.overflow_add-e
-overflow_add-e c = omega (arith, lies c, c.before.before.before.before.before.before)
+overflow_add-e c = omega (arith, lies c.before)
 
 pub slice_bounds-result-end-2 : goal.slice_bounds-result-end-2
 slice_bounds-result-end-2 c =
-    let l = lies c in
+    let l = lies c.before in
     search rules
 
 pub returns : goal.returns
 returns c =
     let a = c.args in
-    shown-part a.area a.p _ (place_in a.area.now a.p (lies c.before).0 (lies c.before).1) (part-is a.area.now a.p.start a.p.length) refl
+    shown-part a.area a.p _ (place_in a.area.now a.p (lies c.before.before).0 (lies c.before.before).1) (part-is a.area.now a.p.start a.p.length) refl

@@ -15,7 +15,7 @@ returns-then-p-eq0 c =
 pub loop-n-preserved : goal.loop-n-preserved
 loop-n-preserved c =
     let a = c.args in
-    let e = c.wrapping_add_usize-sum.ensures ∙ ap (λ xs. (c.loop-n.sum + length xs) % 2 ^ 64) c.walk_record.ensures.bytes in
+    let e = c.wrapping_add_usize-sum.ensures.value ∙ ap (λ xs. (c.loop-n.sum + length xs) % 2 ^ 64) c.walk_record.ensures.bytes in
     let inside : c.loop-n.n < length a.area.now = search rules in (
       adding-on a.area.now a.size a.forward a.begun c.loop-n.sum c.loop-n.p c.loop-n.n c.loop-n.invariant.0 inside c.walk_next-p.result c.wrapping_add_usize-sum.result c.walk_next-p.ensures e,
       omega (arith, inside),
