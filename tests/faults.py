@@ -9,9 +9,9 @@ target/must-fail/CRATE/EDIT/.log keeps what it said. A fault in a body leaves th
 all that other proofs go by. What it makes false is therefore false in the proof of its own
 function. Only, rt tries no goal of a function whose callee is not proved: so a fault that the log
 does not tell is run alone, and judged by that log. And rt names goals and facts after the text of a
-test, as `returns-then-n-lt256`: where a fault changes a test, so that its proof names what went, and
-the new name is plain, it is run once more with the proof's names brought to the new ones, and judged
-by that. What is said there is one of
+test, or an arm, as `returns-then-n-lt256`: where a fault changes a test, or two arms change places,
+so that its proof names what went, and the new name is plain, it is run once more with the proof's
+names brought to the new ones, and judged by that. What is said there is one of
   later   what it needs was refused before it: says nothing
   fact    what was to be shown does not hold
   unfit   the proof does not fit the code, whose names have changed; or an unknown message
@@ -91,7 +91,7 @@ def function_of(crate, file, old):
 
 
 def kind(message):
-    if "was not admitted" in message:
+    if "was not admitted" in message or "which was rejected" in message:
         return "later"
     return "fact" if any(said in message for said in FACTS) and not any(said in message for said in UNFITS) else "unfit"
 
@@ -230,33 +230,56 @@ def edited(crate, faults):
     return texts
 
 
+NAME = r"[A-Za-z][\w']*(?:-[\w']+)+"
+
+
+def between(old, new):
+    """What of a name differs from another that begins like it, and what stands there in that; None where one of them has nothing there."""
+    a, b = old.split("-"), new.split("-")
+    front = next((i for i, (x, y) in enumerate(zip(a, b)) if x != y), min(len(a), len(b)))
+    back = next((i for i, (x, y) in enumerate(zip(a[:front - 1:-1], b[:front - 1:-1])) if x != y), min(len(a), len(b)) - front)
+    pair = "-".join(a[front:len(a) - back]), "-".join(b[front:len(b) - back])
+    return pair if front and all(pair) else None
+
+
 def renamed(crate, fault, log):
-    """What of the names in the proof of a fault's function became another by the changed test, and that; None where no pair, or more than one, would do."""
+    """What of the names in the proof of a fault's function became another by the changed test, as a function and the parts of names that are put for others.
+
+    Where names of two arms went, and each is like a name of the other, they have changed places. Else a pair stands for all names that went and are like one that
+    the proof does not cite. None where no pair, or more than one, would do."""
     function = function_of(crate, *fault.pairs[0][:2]) if fault.pairs else None
     cited = "".join(text(path) for path in glob.glob(f"{crate}/proofs/{function}/*.antt")) if function else ""
     gone = {name for said in errors(log, crate, function).get("unfit", []) for name in re.findall(r"has no (?:field )?`([^`]+)`", said)} if function else set()
-    there = set(re.findall(r"[`.]([A-Za-z][\w']*(?:-[\w']+)+)", log)) - gone
-    fits = None
+    there = set(re.findall(rf"[`.]({NAME})", log)) - gone
+    fits = both = None
     for old in gone:
-        pairs = set()
-        for new in there:
-            a, b = old.split("-"), new.split("-")
-            front = next((i for i, (x, y) in enumerate(zip(a, b)) if x != y), min(len(a), len(b)))
-            back = next((i for i, (x, y) in enumerate(zip(a[:front - 1:-1], b[:front - 1:-1])) if x != y), min(len(a), len(b)) - front)
-            pair = "-".join(a[front:len(a) - back]), "-".join(b[front:len(b) - back])
-            if front and all(pair) and not re.search(rf"(?<![\w'-]){re.escape(new)}(?![\w'-])", cited):
-                pairs.add(pair)
-        fits = pairs if fits is None else fits & pairs
-    return (function, *fits.pop()) if fits and len(fits) == 1 else None
+        pairs = {new: between(old, new) for new in there if between(old, new)}
+        fresh = {pair for new, pair in pairs.items() if not re.search(rf"(?<![\w'-]){re.escape(new)}(?![\w'-])", cited)}
+        if fresh:
+            fits = fresh if fits is None else fits & fresh
+        sides = {frozenset(pair) for pair in pairs.values()}
+        both = sides if both is None else both & sides
+    arms = {name.split("-")[-1] for name in gone if re.search(r"(?:^|-)(?i:in)-\w+$", name)}
+    for one, other in map(sorted, both if both and len(both) == 1 else []):
+        if {one, other} <= arms:
+            return function, {one: other, other: one}
+    return (function, dict(fits)) if fits and len(fits) == 1 else None
+
+
+def brought(said, parts):
+    """A proof in whose names, behind the word that says that a test or an arm follows, some parts are put for others."""
+    def name(match):
+        before, word, rest = re.fullmatch(r"((?:[^-]+-)*?)((?i:then|else|if|in|not))-(.*)", match[0]).groups() if re.search(r"(?:^|-)(?i:then|else|if|in|not)-", match[0]) else (match[0], "", "")
+        return f"{before}{word}-" + re.sub(r"(?<![^-])(?:" + "|".join(map(re.escape, parts)) + r")(?![^-])", lambda part: parts[part[0]], rest) if word else before
+    return re.sub(rf"(?<![\w'-]){NAME}", name, said)
 
 
 def run(root, crate, faults, room, log, names=None):
     """Makes the log of a run in a copy of the tree; where rt does not refuse it there is none. names: a function, and what is put into the names of its proof."""
     texts = edited(f"{root}/crates/{crate}", faults)
     if texts and names:
-        function, old, new = names
-        for path in glob.glob(f"{root}/crates/{crate}/proofs/{function}/*.antt"):
-            texts[os.path.relpath(path, f"{root}/crates/{crate}")] = re.sub(rf"(?<=-){re.escape(old)}(?![\w'])", new, text(path))
+        for path in glob.glob(f"{root}/crates/{crate}/proofs/{names[0]}/*.antt"):
+            texts[os.path.relpath(path, f"{root}/crates/{crate}")] = brought(text(path), names[1])
     if os.path.exists(log):
         os.remove(log)
     for file, said in (texts or {}).items():
@@ -267,7 +290,7 @@ def run(root, crate, faults, room, log, names=None):
         os.makedirs(os.path.dirname(log), exist_ok=True)
         with open(log, "wb") as out:
             if names:
-                out.write(f"faults.py: {names[1]} became {names[2]} in the names of proofs/{names[0]}\n".encode())
+                out.write("".join(f"faults.py: {old} became {new} in the names of proofs/{names[0]}\n" for old, new in names[1].items()).encode())
             out.write(ran.stdout)
     for file in texts or {}:
         shutil.copyfile(f"{root}/crates/{crate}/{file}", f"{room}/crates/{crate}/{file}")

@@ -9,7 +9,7 @@ import os
 import sys
 import tempfile
 
-from faults import edited, read_edit, renamed, wrong_in
+from faults import brought, edited, read_edit, renamed, wrong_in
 
 SOURCE = """// The lower of two.
 pub fn low(a: usize, b: usize) -> usize
@@ -52,6 +52,7 @@ def fn(name, said):
 FALSE_LOW = error("low", "`omega`: the goal does not follow from what it read. All of that holds, and the goal fails, at `a` = 1") + fn("low", "not proved")
 FALSE_TWICE = error("twice", "computed as far as they go, the two types differ only where one has `c.args.a` (expected) and the other has `0` (found)")
 LATER_TWICE = error("twice", "`low-spec` was not admitted, so this cannot be checked")
+REJECTED_LOW = error("low", "2 declarations that depend on `most-is`, which was rejected, were not checked: returns-then-a-b, returns")
 WAITS_TWICE = fn("twice", "not proved; it calls `toy::low`, which is not proved")
 NAME_TWICE = error("twice", "record `Rattle.toy.proofs.twice.Lts.View.In-After-low-q` has no field `low-p` (nearest: .low-q)")
 SHAPE_TWICE = error("twice", "expected type `Rattle.toy.proofs.twice.Lts.View.In-if-1`, but this has type `Rattle.toy.proofs.twice.Lts.View.In-if-2`")
@@ -75,6 +76,7 @@ CASES = [
     ("a missing log", LOW + TWICE, None, "no log"),
     ("a log of no refusal", LOW + TWICE, FALSE_LOW + FALSE_TWICE + "logic=proved functions=3\n", "no log"),
     ("a log of a text that was not read", LOW + TWICE, "error[E0425]: not in scope\n", "no log"),
+    ("what comes of a fact that was rejected", LOW, FALSE_LOW + REJECTED_LOW + END, None),
     ("two faults in one function", LOW + SECOND, FALSE_LOW + END, "another fault"),
     ("no edit", LOW + TWICE.replace("+ 0", "+ a"), FALSE_LOW + FALSE_TWICE + END, "changes nothing"),
     ("a name without an edit", LOW + "fault: none\n", FALSE_LOW + END, "changes nothing"),
@@ -155,12 +157,17 @@ for name, edit, expected in TEXTS:
 GOAL = error("low", "`goal.returns-then-a-lt2`: module `Rattle.toy.proofs.low.Goals` has no `returns-then-a-lt2` that can be named from here")
 FIELD = error("low", "record `Rattle.toy.proofs.low.Lts.Else1` has no field `if-a-lt2` (nearest: .if-a-lt3, .if-a-lt9)")
 ASKS = "help: `Goals` has no `returns-then-a-lt2`; rattle asks for `returns-then-a-lt9`, `returns-then-a-lt3`, `returns`\n"
+ARMS = (error("low", "`goal.returns-in-Same`: module `Rattle.toy.proofs.low.Goals` has no `returns-in-Same` (names in it that begin alike: `returns-in-Less`, `returns-in-Greater`)")
+        + error("low", "record `Rattle.toy.proofs.low.Lts.In-In-Same` has no field `in-Less` (nearest: .in-Run, .in-Same)"))
 NAMES = [
-    ("a test that became another", GOAL + FIELD + ASKS, "returns c = c.if-a-lt9", ("low", "lt2", "lt3")),
+    ("a test that became another", GOAL + FIELD + ASKS, "returns c = c.if-a-lt9", ("low", {"lt2": "lt3"})),
     ("two that it may have become", GOAL + FIELD + ASKS, "returns c = c.args", None),
     ("both are cited", GOAL + FIELD + ASKS, "pub returns-then-a-lt9 : c.if-a-lt3", None),
     ("none is like it", GOAL, "", None),
     ("not the same for all that went", GOAL + FIELD.replace("if-a-lt3", "if-b-lt3") + ASKS, "c.if-a-lt9", None),
+    ("one that is like none, beside one that is", GOAL + FIELD.replace("if-a-lt2", "call-of-if-b") + ASKS, "pub returns-then-a-lt9 c", ("low", {"lt2": "lt3"})),
+    ("two arms that changed places", ARMS, "pub returns-in-Same c = c.in-Same.in-Less", ("low", {"Less": "Same", "Same": "Less"})),
+    ("an arm whose name went", ARMS.split("\n")[0] + "\n", "pub returns-in-Same c = c.in-Run.in-Greater", None),
     ("a name that went elsewhere", GOAL.replace("/low/", "/twice/") + ASKS, "", None),
     ("nothing went", FALSE_LOW + ASKS, "", None),
 ]
@@ -168,5 +175,14 @@ for name, said, cited, expected in NAMES:
     if renaming(said, cited) != expected:
         wrong += 1
         print(f"{name}: {renaming(said, cited)}, where it must be {expected}")
-print(f"faults_test: {len(NAMES) + len(CASES) + len(TEXTS)} cases, {wrong} wrong")
+PROOF = "pub returns-then-bytes-end c = c.if-bytes-end.far-end, c.overflow_mul-end\nuse Lts.Then-bytes-end-2 Lts.In-In-Same c.in-Less.before-Less\n"
+BROUGHT = [
+    ("a test's names, and no others", {"end": "at"}, PROOF.replace("bytes-end c", "bytes-at c").replace("if-bytes-end.", "if-bytes-at.").replace("Then-bytes-end-", "Then-bytes-at-")),
+    ("two arms", {"Less": "Same", "Same": "Less"}, PROOF.replace("In-In-Same c.in-Less", "In-In-Less c.in-Same")),
+]
+for name, parts, expected in BROUGHT:
+    if brought(PROOF, parts) != expected:
+        wrong += 1
+        print(f"{name}: {brought(PROOF, parts)}, where it must be {expected}")
+print(f"faults_test: {len(NAMES) + len(CASES) + len(TEXTS) + len(BROUGHT)} cases, {wrong} wrong")
 sys.exit(1 if wrong else 0)
