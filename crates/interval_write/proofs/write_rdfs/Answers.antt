@@ -42,4 +42,4 @@ returns c =
     let a = c.args in
     let o = c.loop-i in
     let q = c.requires in
-    record { place = rw (all a.ci.now a.end a.lens.now o.ci o.at o.i o.invariant q.1 (omega arith)) (o.invariant.place); bytes = rw (all a.ci.now a.end a.lens.now o.ci o.at o.i o.invariant q.1 (omega arith)) (o.invariant.bytes); }
+    record { place = rw (all a.ci.now a.end a.lens.now o.ci o.at o.i o.invariant q.1 (omega arith)) (o.invariant.place); bytes = rw (all a.ci.now a.end a.lens.now o.ci o.at o.i o.invariant q.1 (omega arith)) (o.invariant.bytes) }
