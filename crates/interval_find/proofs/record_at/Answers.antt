@@ -1,7 +1,7 @@
 use Rattle.interval_find.proofs.record_at.Lts
 use Rattle.interval_find.proofs.record_at.Reads
 use Rattle.interval_find.proofs.record_at.Tie
-use Prim.Native.Nat.{ℕ, ◌+◌, ◌-◌, ◌*◌, ◌≤◌, ◌<◌}
+use Prim.Native.Nat.{ℕ, ◌+◌, ◌*◌, ◌≤◌, ◌<◌}
 use mathlib.Core.Path.{◌≡◌, ◌∙◌, sym, ap}
 use mathlib.Core.List.{[]}
 use lib.ListN.{length, get_or}

@@ -1,4 +1,3 @@
-use Prim.Native.Nat.{◌-◌}
 use native.Mathlib.Omega.{arith}
 use Rattle.interval_write.proofs.Written.{start, same_size, room, step, all}
 use Rattle.interval_write.proofs.write_rdfs.Goals as goal
