@@ -1,7 +1,7 @@
 -- The order of byte lists by words: lists that have w bytes from a place on stand to each other from there as the numbers in those bytes do, and where
 -- these are equal as what follows them.
 use Prim.Native.Nat.{ℕ, zero, suc, ◌+◌, ◌*◌, ◌≤◌, ◌<◌}
-use mathlib.Core.Path.{◌≡◌, refl, ◌∙◌, sym, ap}
+use mathlib.Core.Path.{◌≡◌, refl, ◌∙◌, ap}
 use mathlib.Core.Bool.{Bool, true, false}
 use mathlib.Core.List.{List}
 use lib.ListN.{length, get_or, drop, length-drop}

@@ -1,5 +1,5 @@
 -- What a division makes of the meaning of an index record: document 01, 'Dividing an interval'. One cut makes two parts, two cuts three.
-use Rattle.std.specs.Prelude.{ℕ, ◌+◌, ◌-◌, Bool, List, [], ◌∷◌, ◌++◌, length, get_or, take}
+use Rattle.std.specs.Prelude.{ℕ, ◌-◌, Bool, List, [], ◌∷◌, ◌++◌, length, get_or, take}
 use Rattle.fields.specs.Choice.{pick}
 use Rattle.fields.specs.Lists.{swap}
 use Rattle.index.specs.Meaning.{Entry, Meaning, entry}

@@ -1,5 +1,5 @@
 -- Laws of records laid one after another, and of cutting them apart.
-use Prim.Native.Nat.{ℕ, ◌+◌, ◌≤◌, zero, suc, ◌<◌}
+use Prim.Native.Nat.{ℕ, ◌≤◌, zero, suc, ◌<◌}
 use mathlib.Core.Path.{◌≡◌, refl, ap, ◌∙◌}
 use mathlib.Core.List.{List, [], ◌∷◌, ◌++◌, map, append_assoc, append-nil}
 use lib.ListN.{length, take, drop, length-drop, get_or}

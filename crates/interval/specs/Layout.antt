@@ -1,6 +1,6 @@
 -- The layout of a data interval as a grammar, and the writer's form: document 01, 'Data interval'; source document 001, chapter 7.
 -- Bytes are put together by concatenation only; nothing here reads.
-use Rattle.std.specs.Prelude.{ℕ, ◌+◌, ◌-◌, ◌≡◌, true, List, [], ◌∷◌, ◌++◌, map, length, replicate, leb}
+use Rattle.std.specs.Prelude.{ℕ, ◌-◌, ◌≡◌, true, List, [], ◌∷◌, ◌++◌, map, length, replicate, leb}
 use Rattle.fields.specs.Choice.{pick}
 use Rattle.fields.specs.Bytes.{digits}
 use Rattle.fields.specs.Lists.{concat}

@@ -9,7 +9,6 @@ use native.Mathlib.Omega.{arith}
 use Rattle.fields.specs.Choice.{both}
 use Rattle.fields.specs.Bytes.{part}
 use Rattle.fields.specs.Order.{order_of, less}
-use Rattle.fields.specs.declared.Order.TheVariants.{Less}
 use Rattle.interval.specs.Records.{ascend_from}
 use Rattle.interval_read.specs.AidWalk.{keys_at}
 

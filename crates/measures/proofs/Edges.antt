@@ -1,5 +1,4 @@
 -- Measures on both sides of each edge: one table, one statement.
-use Prim.Native.Nat.{◌-◌}
 use mathlib.Core.Path.{◌≡◌, refl}
 use mathlib.Core.Bool.{true}
 use Rattle.measures.specs.Sizes.{any_below, permitted_size}

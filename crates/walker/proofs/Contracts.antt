@@ -1,6 +1,5 @@
--- What callers learn from the contracts of the functions over a walker. The kit reads off a contract what a caller learns from it, but not for functions that are
--- walked by hand; here their contracts are read by the same means. Nothing is written out a second time: a law below says of each what its `ensures` is, and holds
--- by computation only while the contract says just that.
+-- What callers learn from the contracts of the functions over a walker, read off these by the kit's own means. Nothing is written out a second time: a law below says
+-- of each what its `ensures` is, and holds by computation only while the contract says just that.
 use mathlib.Core.Path.{◌≡◌, refl}
 use base.Logic.{emp}
 use contract.Lifetimes.{Lfts}

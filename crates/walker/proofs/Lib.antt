@@ -1,4 +1,3 @@
 pub mod Contracts
-pub mod Held
 pub mod Unique
 pub mod Promised

@@ -26,12 +26,12 @@ base_of-base-requires c =
 pub returns-then-wanted-base : goal.returns-then-wanted-base
 returns-then-wanted-base c =
     let a = c.args in
-    record { is = before-all a.m a.n a.area.now a.address c.base_of-base.result c.base_of-base.ensures.0 c.if-wanted-base.true; inside = tt; }
+    record { is = before-all a.m a.n a.area.now a.address c.base_of-base.result c.base_of-base.ensures.0 c.if-wanted-base.true; inside = tt }
 
 pub returns-then-n-number : goal.returns-then-n-number
 returns-then-n-number c =
     let a = c.args in
-    record { is = behind-all a.m a.n a.area.now a.address c.base_of-base.result c.base_of-base.ensures.0 c.if-wanted-base.false c.if-n-number.true; inside = tt; }
+    record { is = behind-all a.m a.n a.area.now a.address c.base_of-base.result c.base_of-base.ensures.0 c.if-wanted-base.false c.if-n-number.true; inside = tt }
 
 pub overflow_mul-a : goal.overflow_mul-a
 overflow_mul-a c =
@@ -64,7 +64,7 @@ returns-in_default c =
     let a = c.args in
     let b = c.base_of-base in
     let e = rw (lent-data a.m a.n a.area.now c.requires.0 ((a.address - b.result) / a.m.size) c.if-n-number.false) at c.record_at.ensures.is in
-    record { is = none-there a.m a.n a.area.now a.address b.result b.ensures.0 c.if-wanted-base.false c.if-n-number.false (sym c.in_default.is ∙ e); inside = tt; }
+    record { is = none-there a.m a.n a.area.now a.address b.result b.ensures.0 c.if-wanted-base.false c.if-n-number.false (sym c.in_default.is ∙ e); inside = tt }
 
 pub overflow_add-result : goal.overflow_add-result
 overflow_add-result c =
@@ -84,5 +84,8 @@ returns c =
     let f = rw c.in-Here.is at c.record_at.ensures.ends in
     let z = length-lent a.m a.n a.area.now c.requires.0 ((a.address - b.result) / a.m.size) c.if-n-number.false in
     let y = data-ends a.m a.n a.area.now c.requires.0 ((a.address - b.result) / a.m.size) c.if-n-number.false in
-    let e = rw d at c.record_at.ensures.is in record { is = one-there a.m a.n a.area.now a.address b.result b.ensures.0 c.if-wanted-base.false c.if-n-number.false c.in-Here.length
-          (sym c.in-Here.is ∙ e); inside = omega (arith, f, z, y); }
+    let e = rw d at c.record_at.ensures.is in record {
+      is = one-there a.m a.n a.area.now a.address b.result b.ensures.0 c.if-wanted-base.false c.if-n-number.false c.in-Here.length
+          (sym c.in-Here.is ∙ e);
+      inside = omega (arith, f, z, y);
+    }

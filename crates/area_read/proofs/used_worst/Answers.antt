@@ -243,4 +243,4 @@ pub returns : goal.returns
 returns c =
     let a = c.args in
     let o = c.loop-i in
-    let told = arrived a.m a.n a.area.now a.ib.now a.worst o.buf o.high o.p o.i o.lowest o.records o.invariant (omega (arith, c.requires.3)) in record { lowest = told.0; counted = told.1; }
+    let told = arrived a.m a.n a.area.now a.ib.now a.worst o.buf o.high o.p o.i o.lowest o.records o.invariant (omega (arith, c.requires.3)) in record { lowest = told.0; counted = told.1 }

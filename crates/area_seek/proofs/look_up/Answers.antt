@@ -104,14 +104,17 @@ seek-requires c =
     let z = length-index a.m a.n a.area.now c.requires.0 in
     let o = c.requires.0 in
     let k = c.requires.1 in
-    record { in_bounds = (omega (arith, z, fits-large o), omega (arith, z, fits-small o), omega (arith, k, o.key-some), omega (arith, k, o.key-most), o.few); buffers = (omega arith, omega arith); }
+    record { in_bounds = (omega (arith, z, fits-large o), omega (arith, z, fits-small o), omega (arith, k, o.key-some), omega (arith, k, o.key-most), o.few); buffers = (omega arith, omega arith) }
 
 pub returns-in_default : goal.returns-in_default
 returns-in_default c =
     let x = c.seek in
-    let a = c.args in record { is = way-unsound a.m a.n a.area.now a.key.now c.requires.1
+    let a = c.args in record {
+      is = way-unsound a.m a.n a.area.now a.key.now c.requires.1
           (answer-not-led a.n (index_in a.m a.area.now) a.key.now (replicate 255 0) (replicate 255 0) x.result x.new.before x.new.own
-          x.ensures.is c.in_default.is); inside = tt; }
+          x.ensures.is c.in_default.is);
+      inside = tt;
+    }
 
 pub overflow_add-a : goal.overflow_add-a
 overflow_add-a c = omega (arith, (within c.before.before).0, c.requires.0.few)
@@ -158,7 +161,7 @@ overflow_add-result c = omega (arith, (within c.before.before.before.before.befo
 pub returns-then-not-sound_between : goal.returns-then-not-sound_between
 returns-then-not-sound_between c =
     let a = c.args in
-    record { is = way-damaged a.m a.n a.area.now a.key.now (stands c.before.before.before.before.before.before.before.before.before) c.in-At.spot.number (number c.before.before.before.before.before.before.before.before.before) (sym (judged c.before.before.before) ∙ not-true _ c.if-not-sound_between.true-raw); inside = tt; }
+    record { is = way-damaged a.m a.n a.area.now a.key.now (stands c.before.before.before.before.before.before.before.before.before) c.in-At.spot.number (number c.before.before.before.before.before.before.before.before.before) (sym (judged c.before.before.before) ∙ not-true _ c.if-not-sound_between.true-raw); inside = tt }
 
 pub slice_bounds-find-end : goal.slice_bounds-find-end
 slice_bounds-find-end c =
@@ -197,12 +200,18 @@ pub returns-in-At-find : goal.returns-in-At-find
 returns-in-At-find c =
     let a = c.args in
     let p = c.in-At.spot in
-    record { is = way-found a.m a.n a.area.now a.key.now (stands c.before.before.before.before.before.before.before.before.before.before.before) p.number (number c.before.before.before.before.before.before.before.before.before.before.before) (sym (judged c.before.before.before.before.before) ∙ not-false _ c.if-not-sound_between.false-raw) _
-          (lent-data a.m a.n a.area.now c.requires.0 p.number (within c.before.before.before.before.before.before.before.before.before.before.before).0) c.find.result c.in-At-find.ordinal c.in-At-find.start c.in-At-find.length c.in-At-find.is c.find.ensures.is; inside = (lies c.before).1; }
+    record {
+      is = way-found a.m a.n a.area.now a.key.now (stands c.before.before.before.before.before.before.before.before.before.before.before) p.number (number c.before.before.before.before.before.before.before.before.before.before.before) (sym (judged c.before.before.before.before.before) ∙ not-false _ c.if-not-sound_between.false-raw) _
+          (lent-data a.m a.n a.area.now c.requires.0 p.number (within c.before.before.before.before.before.before.before.before.before.before.before).0) c.find.result c.in-At-find.ordinal c.in-At-find.start c.in-At-find.length c.in-At-find.is c.find.ensures.is;
+      inside = (lies c.before).1;
+    }
 
 pub returns-in-Gap : goal.returns-in-Gap
 returns-in-Gap c =
     let a = c.args in
     let p = c.in-At.spot in
-    record { is = way-absent a.m a.n a.area.now a.key.now (stands c.before.before.before.before.before.before.before.before.before.before.before) p.number (number c.before.before.before.before.before.before.before.before.before.before.before) (sym (judged c.before.before.before.before.before) ∙ not-false _ c.if-not-sound_between.false-raw) _
-          (lent-data a.m a.n a.area.now c.requires.0 p.number (within c.before.before.before.before.before.before.before.before.before.before.before).0) c.find.result c.in-Gap.ordinal c.in-Gap.start c.in-Gap.is c.find.ensures.is; inside = tt; }
+    record {
+      is = way-absent a.m a.n a.area.now a.key.now (stands c.before.before.before.before.before.before.before.before.before.before.before) p.number (number c.before.before.before.before.before.before.before.before.before.before.before) (sym (judged c.before.before.before.before.before) ∙ not-false _ c.if-not-sound_between.false-raw) _
+          (lent-data a.m a.n a.area.now c.requires.0 p.number (within c.before.before.before.before.before.before.before.before.before.before.before).0) c.find.result c.in-Gap.ordinal c.in-Gap.start c.in-Gap.is c.find.ensures.is;
+      inside = tt;
+    }

@@ -75,7 +75,7 @@ overflow_add-x c =
 
 pub bytes_out-requires : goal.bytes_out-requires
 bytes_out-requires c =
-    record { small = there c.before.before.before.before.before.before.before.before.before.before; piece = piece c.before.before.before.before.before.before.before.before.before.before (c.args.k - 1) (omega (arith, c.requires.2)) _ _ (omega (arith, c.bytes_to.ensures.is)) c.requires.3; }
+    record { small = there c.before.before.before.before.before.before.before.before.before.before; piece = piece c.before.before.before.before.before.before.before.before.before.before (c.args.k - 1) (omega (arith, c.requires.2)) _ _ (omega (arith, c.bytes_to.ensures.is)) c.requires.3 }
 
 pub overflow_add-y : goal.overflow_add-y
 overflow_add-y c =
@@ -87,7 +87,7 @@ slice_bounds-bytes_out-end c =
 
 pub bytes_out-requires-2 : goal.bytes_out-requires-2
 bytes_out-requires-2 c =
-    record { small = there c.before.before.before.before.before.before.before.before.before.before.before.before.before.before.before.before; piece = piece c.before.before.before.before.before.before.before.before.before.before.before.before.before.before.before.before c.args.k c.requires.2 _ _ (omega (arith, c.bytes_to-2.ensures.is)) (zeros-long c.before.before.before.before.before.before.before.before.before.before.before.before.before.before.before.before); }
+    record { small = there c.before.before.before.before.before.before.before.before.before.before.before.before.before.before.before.before; piece = piece c.before.before.before.before.before.before.before.before.before.before.before.before.before.before.before.before c.args.k c.requires.2 _ _ (omega (arith, c.bytes_to-2.ensures.is)) (zeros-long c.before.before.before.before.before.before.before.before.before.before.before.before.before.before.before.before) }
 
 pub slice_bounds-right-end-2 : goal.slice_bounds-right-end-2
 slice_bounds-right-end-2 c =
@@ -109,4 +109,4 @@ returns c =
     ∙ is_key c.before.before.before.before.before.before.before.before.before.before.before.before.before.before.before.before.before.before.before.before a.k c.requires.2 (c.bytes_to-2.result + a.m.offset) (length (zeros c.before.before.before.before.before.before.before.before.before.before.before.before.before.before.before.before.before.before.before.before)) (omega (arith, c.bytes_to-2.ensures.is)) (zeros-long c.before.before.before.before.before.before.before.before.before.before.before.before.before.before.before.before.before.before.before.before) in
     let e = c.cut_length.ensures in
     let t = right-front c.before.before.before.before (drop a.m.key (replicate {A = ℕ} 255 0)) in
-    record { length = (e.0 ∙ rw (l, t, r), omega (arith, e.2, c.bytes_out.auto.out, c.requires.3)); key = l; }
+    record { length = (e.0 ∙ rw (l, t, r), omega (arith, e.2, c.bytes_out.auto.out, c.requires.3)); key = l }

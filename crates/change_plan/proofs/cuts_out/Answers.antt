@@ -21,5 +21,8 @@ pub returns : goal.returns
 returns c =
     let a = c.args in
     let long : length c.cut_out-to.new.left ≡ a.m.key = c.cut_out-to.auto.left ∙ length-take-le a.m.key a.keys.now (omega (arith, c.requires.2)) in
-    let rs = edited_records a.m a.area.now a.site a.new.now in record { cuts = cuts-told a.m rs a.parts c.cut_out-to.result c.cut_out-n.result c.cut_out-to.ensures.length.0 c.cut_out-n.ensures.length.0; keys = both_halves a.keys.now c.cut_out-to.new.left c.cut_out-n.new.left (left_key_at a.m rs a.parts.first)
-          (left_key_at a.m rs a.parts.second) a.m.key long c.cut_out-to.ensures.key c.cut_out-n.ensures.key; }
+    let rs = edited_records a.m a.area.now a.site a.new.now in record {
+      cuts = cuts-told a.m rs a.parts c.cut_out-to.result c.cut_out-n.result c.cut_out-to.ensures.length.0 c.cut_out-n.ensures.length.0;
+      keys = both_halves a.keys.now c.cut_out-to.new.left c.cut_out-n.new.left (left_key_at a.m rs a.parts.first)
+          (left_key_at a.m rs a.parts.second) a.m.key long c.cut_out-to.ensures.key c.cut_out-n.ensures.key;
+    }

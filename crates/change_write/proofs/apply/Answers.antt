@@ -6,7 +6,7 @@ use Rattle.change_write.proofs.apply.Goals as goal
 
 pub store_own-requires : goal.store_own-requires
 store_own-requires c =
-    let a = c.args in record { seen = told-seen a.m a.n a.area.now a.spread.site a.new.now a.lens.now c.requires.told; fits = one-fits a.m a.n a.area.now a.new.now a.lens.now a.spread c.requires.told c.requires.planned c.if-parts-eq1.true; }
+    let a = c.args in record { seen = told-seen a.m a.n a.area.now a.spread.site a.new.now a.lens.now c.requires.told; fits = one-fits a.m a.n a.area.now a.new.now a.lens.now a.spread c.requires.told c.requires.planned c.if-parts-eq1.true }
 
 pub written_by-requires : goal.written_by-requires
 written_by-requires c =

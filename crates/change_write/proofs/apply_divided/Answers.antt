@@ -81,11 +81,11 @@ pub divide-requires : goal.divide-requires
 divide-requires c =
     let a = c.args in
     let told = divide-asks a.m a.n a.area.now a.new.now a.lens.now a.spread c.requires (later c.before.before.before.before.before) c.store_taken.ensures c.cuts_out-cuts.result
-    (take (two c.before.before.before.before.before.before.before.before.before.before.before.before.before.before.before.before) (told c.before.before.before.before.before.before.before.before ++ behind c.before.before.before.before.before.before.before.before.before.before.before.before.before.before.before.before)) c.cuts_out-cuts.ensures.cuts (front c.before.before.before.before.before.before.before.before ∙ c.cuts_out-cuts.ensures.keys) in record { divisible = told.0; room = told.1; }
+    (take (two c.before.before.before.before.before.before.before.before.before.before.before.before.before.before.before.before) (told c.before.before.before.before.before.before.before.before ++ behind c.before.before.before.before.before.before.before.before.before.before.before.before.before.before.before.before)) c.cuts_out-cuts.ensures.cuts (front c.before.before.before.before.before.before.before.before ∙ c.cuts_out-cuts.ensures.keys) in record { divisible = told.0; room = told.1 }
 
 pub store_own-requires : goal.store_own-requires
 store_own-requires c =
-    let a = c.args in record { seen = first-seen a.m a.n a.area.now a.new.now a.lens.now a.spread c.requires (later c.before.before.before.before.before.before.before.before.before) c.store_taken.ensures c.divide.new.ib (record-long c.before.before.before.before); fits = first_fits a.m a.n a.area.now a.new.now a.lens.now a.spread c.requires; }
+    let a = c.args in record { seen = first-seen a.m a.n a.area.now a.new.now a.lens.now a.spread c.requires (later c.before.before.before.before.before.before.before.before.before) c.store_taken.ensures c.divide.new.ib (record-long c.before.before.before.before); fits = first_fits a.m a.n a.area.now a.new.now a.lens.now a.spread c.requires }
 
 pub returns : goal.returns
 returns c =

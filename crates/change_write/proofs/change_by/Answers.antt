@@ -84,7 +84,7 @@ slice_bounds-apply-end-2 c =
 pub apply-requires : goal.apply-requires
 apply-requires c =
     let a = c.args in
-    record { told = at_told a.m a.n a.area.now a.site a.new.now c.requires.0 (take c.lengths-count.result (buffer c.before.before.before.before.before.before)) (told c.before.before.before.before.before.before) c.in-Ready.spread c.plan-planned.result c.plan-planned.ensures c.in-Ready.is; planned = at-planned a.m a.n a.area.now a.site a.new.now c.requires.0 (take c.lengths-count.result (buffer c.before.before.before.before.before.before)) (told c.before.before.before.before.before.before) c.in-Ready.spread c.plan-planned.result c.plan-planned.ensures c.in-Ready.is; }
+    record { told = at_told a.m a.n a.area.now a.site a.new.now c.requires.0 (take c.lengths-count.result (buffer c.before.before.before.before.before.before)) (told c.before.before.before.before.before.before) c.in-Ready.spread c.plan-planned.result c.plan-planned.ensures c.in-Ready.is; planned = at-planned a.m a.n a.area.now a.site a.new.now c.requires.0 (take c.lengths-count.result (buffer c.before.before.before.before.before.before)) (told c.before.before.before.before.before.before) c.in-Ready.spread c.plan-planned.result c.plan-planned.ensures c.in-Ready.is }
 
 pub returns : goal.returns
 returns c =

@@ -65,8 +65,7 @@ weigh-best-requires c =
 pub loop-i-preserved : goal.loop-i-preserved
 loop-i-preserved c =
     let p = c.loop-i in
-    let a = c.args in
-    (
+    let a = c.args in (
       omega arith,
       holds_on a.s a.lens.now p.i p.left p.bytes p.need p.best p.invariant.1 c.ahead_at-a.result c.ahead_at-a.ensures
           (omega arith) (elem c.before.before) c.add-left.result c.add-left.ensures c.weigh-best.result c.weigh-best.ensures,

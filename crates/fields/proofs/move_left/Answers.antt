@@ -1,7 +1,7 @@
 use Rattle.fields.proofs.move_left.Lts
 use Rattle.fields.proofs.move_left.Reads
 use Rattle.fields.proofs.move_left.Tie
-use Prim.Native.Nat.{◌-◌, ◌<◌}
+use Prim.Native.Nat.{◌<◌}
 use mathlib.Core.Path.{◌≡◌, refl, ◌∙◌, sym}
 use mathlib.Core.Logic.{⊎_elim}
 use lib.ListN.{length, take}

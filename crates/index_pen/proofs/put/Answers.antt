@@ -15,7 +15,7 @@ pub returns-then-pen-ne1 : goal.returns-then-pen-ne1
 returns-then-pen-ne1 c =
     let a = c.args in
     let told = inner-on a.b.now a.pen a.top.now a.sep.now a.front a.number (ne_eqb _ _ c.if-pen-ne1.true) c.put_inner.result c.put_inner.new.b
-    c.put_inner.ensures.is c.put_inner.ensures.bytes in record { is = told.0; top = told.1.0; bytes = told.1.1; }
+    c.put_inner.ensures.is c.put_inner.ensures.bytes in record { is = told.0; top = told.1.0; bytes = told.1.1 }
 
 pub slice_bounds-common_front-end-2 : goal.slice_bounds-common_front-end-2
 slice_bounds-common_front-end-2 c =
@@ -34,4 +34,4 @@ pub returns : goal.returns
 returns c =
     let a = c.args in
     let told = top-on a.b.now a.pen a.top.now a.sep.now a.front a.number (eq-eqb _ _ c.if-pen-ne1.false) c.common_front-f.result
-    c.common_front-f.ensures.0 c.put_top.result c.copy.new.b c.put_top.new.b c.put_top.ensures.is c.copy.ensures c.put_top.ensures.bytes in record { is = told.0; top = told.1.0; bytes = told.1.1; }
+    c.common_front-f.ensures.0 c.put_top.result c.copy.new.b c.put_top.new.b c.put_top.ensures.is c.copy.ensures c.put_top.ensures.bytes in record { is = told.0; top = told.1.0; bytes = told.1.1 }

@@ -57,4 +57,4 @@ shape_of-b c = ⊎_elim (λ w. ap length w.b-is ∙ w.put_piece.auto.b) (λ w. a
 pub returns : goal.returns
 returns c =
     let a = c.args in
-    record { is = inner-moved a.b.now a.pen a.sep.now a.front a.number; bytes = bytes c.before.before.before.before; }
+    record { is = inner-moved a.b.now a.pen a.sep.now a.front a.number; bytes = bytes c.before.before.before.before }

@@ -39,7 +39,7 @@ returns-then-reach-wide c =
 
 pub look-requires : goal.look-requires
 look-requires c =
-    record { le_width = (c.requires.0, c.requires.1, c.requires.2, c.requires.3, c.requires.4, c.requires.5 (sought c.before.before)); which = eq-eqb _ _ (top c.before.before); }
+    record { le_width = (c.requires.0, c.requires.1, c.requires.2, c.requires.3, c.requires.4, c.requires.5 (sought c.before.before)); which = eq-eqb _ _ (top c.before.before) }
 
 pub returns : goal.returns
 returns c =

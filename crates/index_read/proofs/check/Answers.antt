@@ -7,7 +7,7 @@ use Rattle.index_read.proofs.Seeking.{told, checks-sound, checks-unsound}
 use Rattle.index_read.proofs.check.Goals as goal
 
 pub judge-requires : goal.judge-requires
-judge-requires c = record { in_bounds = c.requires; buffers = (inl refl, refl, refl); }
+judge-requires c = record { in_bounds = c.requires; buffers = (inl refl, refl, refl) }
 
 pub returns-in-Sound : goal.returns-in-Sound
 returns-in-Sound c =

@@ -86,7 +86,8 @@ walk-e-requires c =
     let a = c.args in
     let p = c.requires.in_bounds in
     let b = c.requires.buffers in
-    record { walkable = (
+    record {
+      walkable = (
         record {
           some = some c.before.before.before.before.before.before.before.before.before.before;
           few = most c.before.before.before.before.before.before.before.before.before.before;
@@ -102,7 +103,9 @@ walk-e-requires c =
         used-some c.width_for-w.result a.key a.n a.ib.now c.width_for-w.ensures (frames c.before.before.before.before) (bases c.before.before.before.before) p.4 c.in-At.free c.in-At.edge (places c.before.before.before.before),
         b.1,
         b.2,
-      ); free = free-inside c.width_for-w.result a.key a.n a.ib.now c.width_for-w.ensures (frames c.before.before.before.before) (bases c.before.before.before.before) p.4 c.in-At.free c.in-At.edge (places c.before.before.before.before) p.0; }
+      );
+      free = free-inside c.width_for-w.result a.key a.n a.ib.now c.width_for-w.ensures (frames c.before.before.before.before) (bases c.before.before.before.before) p.4 c.in-At.free c.in-At.edge (places c.before.before.before.before) p.0;
+    }
 
 pub returns-then-not-e : goal.returns-then-not-e
 returns-then-not-e c =

@@ -113,7 +113,7 @@ slice_bounds-walk_inner-end c = sym c.loop-left.invariant.0.whole
 pub walk_inner-requires : goal.walk_inner-requires
 walk_inner-requires c =
     let o = c.loop-left in
-    let a = c.args in record { walkable = (c.requires.0, c.loop-left-test.true); stands = record { old = a.seen.now; high = o.high; stand = o.invariant.0 }; }
+    let a = c.args in record { walkable = (c.requires.0, c.loop-left-test.true); stands = record { old = a.seen.now; high = o.high; stand = o.invariant.0 } }
 
 pub shape_of-before-in_default : goal.shape_of-before-in_default
 shape_of-before-in_default c = whole_before c.before.before.before.before.before.before.before
@@ -125,8 +125,11 @@ pub returns-in_default : goal.returns-in_default
 returns-in_default c =
     let x = c.walk_inner in
     let o = c.loop-left in
-    let a = c.args in record { sound = stopped-wrong a.ib.now a.by a.key.now a.seen.now (leg c.before.before.before.before.before.before.before) x.new.seen x.new.buf o.high x.result c.in_default.is
-          (x.ensures a.seen.now o.high o.invariant.0); found = λ _ f. absurd (false-true f); }
+    let a = c.args in record {
+      sound = stopped-wrong a.ib.now a.by a.key.now a.seen.now (leg c.before.before.before.before.before.before.before) x.new.seen x.new.buf o.high x.result c.in_default.is
+          (x.ensures a.seen.now o.high o.invariant.0);
+      found = λ _ f. absurd (false-true f);
+    }
 
 pub aimed-aim-requires : goal.aimed-aim-requires
 aimed-aim-requires c =
@@ -154,10 +157,13 @@ next_entry-requires c =
     let o = c.loop-left in
     let a = c.args in
     let t = paused c.before.before.before.before.before.before.before.before.before.before.before in
-    let w = walkable c.before.before.before.before.before.before.before.before.before.before.before.before.before in record { before = (
+    let w = walkable c.before.before.before.before.before.before.before.before.before.before.before.before.before in record {
+      before = (
         ready a.ib.now a.by a.key.now a.seen.now x.new.seen x.new.buf o.high c.in-At.q true c.in-At.l t.reach t.stand w,
         first-empty a.ib.now a.by a.key.now a.seen.now x.new.seen x.new.buf o.high c.in-At.q true c.in-At.l t.reach t.stand,
-      ); tall = tall a.ib.now a.by a.key.now a.seen.now x.new.seen x.new.buf o.high c.in-At.q true c.in-At.l t.reach t.stand w.most; }
+      );
+      tall = tall a.ib.now a.by a.key.now a.seen.now x.new.seen x.new.buf o.high c.in-At.q true c.in-At.l t.reach t.stand w.most;
+    }
 
 pub shape_of-before-in_default-next_entry : goal.shape_of-before-in_default-next_entry
 shape_of-before-in_default-next_entry c = kept-before c.before.before.before.before.before.before.before.before.before.before
@@ -170,8 +176,11 @@ returns-in_default-next_entry c =
     let x = c.walk_inner in
     let o = c.loop-left in
     let a = c.args in
-    let t = paused c.before.before.before.before.before.before.before.before.before.before.before.before.before.before.before in record { sound = bad-entry a.ib.now a.by a.key.now a.seen.now x.new.seen x.new.buf o.high c.in-At.q true c.in-At.l t.reach t.stand
-          t.some (walkable c.before.before.before.before.before.before.before.before.before.before.before.before.before.before.before.before.before).least (sym c.next_entry.ensures.is ∙ c.in_default-next_entry.is); found = λ _ f. absurd (false-true f); }
+    let t = paused c.before.before.before.before.before.before.before.before.before.before.before.before.before.before.before in record {
+      sound = bad-entry a.ib.now a.by a.key.now a.seen.now x.new.seen x.new.buf o.high c.in-At.q true c.in-At.l t.reach t.stand
+          t.some (walkable c.before.before.before.before.before.before.before.before.before.before.before.before.before.before.before.before.before).least (sym c.next_entry.ensures.is ∙ c.in_default-next_entry.is);
+      found = λ _ f. absurd (false-true f);
+    }
 
 pub shape_of-before-then-by-number : goal.shape_of-before-then-by-number
 shape_of-before-then-by-number c = kept-before c.before.before.before.before.before.before.before.before.before.before.before.before
@@ -180,7 +189,7 @@ pub shape_of-own-then-by-number : goal.shape_of-own-then-by-number
 shape_of-own-then-by-number c = whole-own c.before.before.before.before.before.before.before.before.before.before.before.before.before.before.before.before.before.before.before.before.before.before.before
 
 pub returns-then-by-number : goal.returns-then-by-number
-returns-then-by-number c = record { sound = turn-big (turn c.before.before.before) c.if-by-number.true; found = λ _ f. absurd (false-true f); }
+returns-then-by-number c = record { sound = turn-big (turn c.before.before.before) c.if-by-number.true; found = λ _ f. absurd (false-true f) }
 
 pub bounds-seen-number : goal.bounds-seen-number
 bounds-seen-number c = omega (arith, c.if-by-number.false, (walkable c.before.before.before.before.before.before.before.before.before.before.before.before.before.before.before.before.before.before.before.before).marks)
@@ -192,7 +201,7 @@ pub shape_of-own-then-seen-number-ne0 : goal.shape_of-own-then-seen-number-ne0
 shape_of-own-then-seen-number-ne0 c = whole-own c.before.before.before.before.before.before.before.before.before.before.before.before.before.before.before.before.before.before.before.before.before.before.before.before.before.before
 
 pub returns-then-seen-number-ne0 : goal.returns-then-seen-number-ne0
-returns-then-seen-number-ne0 c = record { sound = turn-again (turn c.before.before.before.before.before.before) c.if-seen-number-ne0.true; found = λ _ f. absurd (false-true f); }
+returns-then-seen-number-ne0 c = record { sound = turn-again (turn c.before.before.before.before.before.before) c.if-seen-number-ne0.true; found = λ _ f. absurd (false-true f) }
 
 pub bounds-seen-number-in-loop-left : goal.bounds-seen-number-in-loop-left
 bounds-seen-number-in-loop-left c = omega (arith, c.if-by-number.false, (walkable c.before.before.before.before.before.before.before.before.before.before.before.before.before.before.before.before.before.before.before.before.before.before).marks)
@@ -224,8 +233,7 @@ pub loop-left-preserved : goal.loop-left-preserved
 loop-left-preserved c =
     let e = c.aimed-aim in
     let o = c.loop-left in
-    let t = turn c.before.before.before.before.before.before.before.before.before.before.before.before.before in
-    (
+    let t = turn c.before.before.before.before.before.before.before.before.before.before.before.before.before in (
       turn_on t c.past-p.result c.past-p.ensures e.result e.ensures c.if-by-number.false c.if-seen-number-ne0.false,
       turn-finds t c.past-p.result c.past-p.ensures e.result e.ensures o.before o.own o.spot o.invariant.1 c.if-reach-eq0.meets (meets c.before.before.before.before.before.before.before.before.before.before.before.before.before.before.before.before.before.before.before.before.before.before.before.before.before) c.keep.new.to c.keep-in-loop-left.new.to
           c.if-meets.spot c.keep.ensures c.keep-in-loop-left.ensures
@@ -246,6 +254,9 @@ pub returns : goal.returns
 returns c =
     let o = c.loop-left in
     let a = c.args in
-    let fine = at-end a.ib.now a.by a.key.now a.seen.now o.seen o.buf o.high o.p true o.left o.reach o.invariant.0 (omega arith) refl in record { sound = c.ends.ensures ∙ fine; found = λ sought ok.
+    let fine = at-end a.ib.now a.by a.key.now a.seen.now o.seen o.buf o.high o.p true o.left o.reach o.invariant.0 (omega arith) refl in record {
+      sound = c.ends.ensures ∙ fine;
+      found = λ sought ok.
           finding-end a.ib.now a.by a.key.now a.seen.now o.seen o.buf o.high o.p o.left o.reach o.invariant.0 (omega arith) c.requires.1 o.before o.own o.spot
-          o.invariant.1 sought (sym (c.ends.ensures ∙ fine) ∙ ok); }
+          o.invariant.1 sought (sym (c.ends.ensures ∙ fine) ∙ ok);
+    }

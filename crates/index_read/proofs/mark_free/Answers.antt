@@ -17,7 +17,7 @@ returns-then-n-number c =
     let o = c.loop-left in
     let a = c.args in
     let x = c.read_pointer-number in
-    record { sound = mark-big a.w a.n o.seen a.ib.now o.at o.left x.result (omega arith) x.ensures.0 c.if-n-number.true ∙ sym o.invariant.1; marks = λ z. absurd (false-true z); }
+    record { sound = mark-big a.w a.n o.seen a.ib.now o.at o.left x.result (omega arith) x.ensures.0 c.if-n-number.true ∙ sym o.invariant.1; marks = λ z. absurd (false-true z) }
 
 pub bounds-seen-number : goal.bounds-seen-number
 bounds-seen-number c = omega (arith, c.requires.3)
@@ -27,7 +27,7 @@ returns-then-seen-number-ne0 c =
     let o = c.loop-left in
     let a = c.args in
     let x = c.read_pointer-number in
-    record { sound = mark-again a.w a.n o.seen a.ib.now o.at o.left x.result (omega arith) x.ensures.0 (omega arith) c.if-seen-number-ne0.true ∙ sym o.invariant.1; marks = λ z. absurd (false-true z); }
+    record { sound = mark-again a.w a.n o.seen a.ib.now o.at o.left x.result (omega arith) x.ensures.0 (omega arith) c.if-seen-number-ne0.true ∙ sym o.invariant.1; marks = λ z. absurd (false-true z) }
 
 pub bounds-seen-number-in-loop-left : goal.bounds-seen-number-in-loop-left
 bounds-seen-number-in-loop-left c = omega (arith, c.requires.3)
@@ -56,4 +56,4 @@ pub returns : goal.returns
 returns c =
     let o = c.loop-left in
     let a = c.args in
-    record { sound = mark-end a.w a.n o.seen a.ib.now o.at o.left (omega arith) ∙ sym o.invariant.1; marks = λ z. seen_end a.w o.seen a.ib.now o.at o.left (omega arith) ∙ sym o.invariant.2; }
+    record { sound = mark-end a.w a.n o.seen a.ib.now o.at o.left (omega arith) ∙ sym o.invariant.1; marks = λ z. seen_end a.w o.seen a.ib.now o.at o.left (omega arith) ∙ sym o.invariant.2 }

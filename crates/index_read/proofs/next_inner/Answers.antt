@@ -25,7 +25,7 @@ inside c =
 
 pub returns-then-by-s : goal.returns-then-by-s
 returns-then-by-s c =
-    let a = c.args in record { is = inner-long a.ib.now a.p a.by a.first a.buf.now c.requires.before.0 c.requires.which c.requires.lies c.entry_at-s.result c.entry_at-s.ensures.is c.if-by-s.true; renewed = λ (high : List ℕ) tall. tt; }
+    let a = c.args in record { is = inner-long a.ib.now a.p a.by a.first a.buf.now c.requires.before.0 c.requires.which c.requires.lies c.entry_at-s.result c.entry_at-s.ensures.is c.if-by-s.true; renewed = λ (high : List ℕ) tall. tt }
 
 pub ascends-requires : goal.ascends-requires
 ascends-requires c =
@@ -34,8 +34,11 @@ ascends-requires c =
 
 pub returns-then-not-ascends : goal.returns-then-not-ascends
 returns-then-not-ascends c =
-    let a = c.args in record { is = inner-low a.ib.now a.p a.by a.first a.buf.now c.requires.before.0 c.requires.which c.requires.lies c.entry_at-s.result c.entry_at-s.ensures.is c.if-by-s.false
-          c.ascends.result c.ascends.ensures.over c.ascends.ensures.rises (not-true _ c.if-not-ascends.true-raw); renewed = λ (high : List ℕ) tall. tt; }
+    let a = c.args in record {
+      is = inner-low a.ib.now a.p a.by a.first a.buf.now c.requires.before.0 c.requires.which c.requires.lies c.entry_at-s.result c.entry_at-s.ensures.is c.if-by-s.false
+          c.ascends.result c.ascends.ensures.over c.ascends.ensures.rises (not-true _ c.if-not-ascends.true-raw);
+      renewed = λ (high : List ℕ) tall. tt;
+    }
 
 pub ends_low-requires : goal.ends_low-requires
 ends_low-requires c =
@@ -43,9 +46,12 @@ ends_low-requires c =
 
 pub returns-then-not-ends_low : goal.returns-then-not-ends_low
 returns-then-not-ends_low c =
-    let a = c.args in record { is = inner-high a.ib.now a.p a.by a.first a.buf.now c.requires.before.0 c.requires.which c.requires.lies c.entry_at-s.result c.entry_at-s.ensures.is c.if-by-s.false
+    let a = c.args in record {
+      is = inner-high a.ib.now a.p a.by a.first a.buf.now c.requires.before.0 c.requires.which c.requires.lies c.entry_at-s.result c.entry_at-s.ensures.is c.if-by-s.false
           c.ascends.result c.ascends.ensures.over c.ascends.ensures.rises (not-false _ c.if-not-ascends.false-raw) c.ends_low.result c.ends_low.ensures
-          (not-true _ c.if-not-ends_low.true-raw); renewed = λ (high : List ℕ) tall. tt; }
+          (not-true _ c.if-not-ends_low.true-raw);
+      renewed = λ (high : List ℕ) tall. tt;
+    }
 
 pub extend-requires : goal.extend-requires
 extend-requires c =
@@ -53,8 +59,11 @@ extend-requires c =
 
 pub returns : goal.returns
 returns c =
-    let a = c.args in record { is = inner-on a.ib.now a.p a.by a.first a.buf.now c.requires.before.0 c.requires.which c.requires.lies c.entry_at-s.result c.entry_at-s.ensures.is c.if-by-s.false
+    let a = c.args in record {
+      is = inner-on a.ib.now a.p a.by a.first a.buf.now c.requires.before.0 c.requires.which c.requires.lies c.entry_at-s.result c.entry_at-s.ensures.is c.if-by-s.false
           c.ascends.result c.ascends.ensures.over c.ascends.ensures.rises (not-false _ c.if-not-ascends.false-raw) c.ends_low.result c.ends_low.ensures
-          (not-false _ c.if-not-ends_low.false-raw); renewed = λ (high : List ℕ) tall.
+          (not-false _ c.if-not-ends_low.false-raw);
+      renewed = λ (high : List ℕ) tall.
           inner-renewed a.ib.now a.p a.by a.first a.buf.now c.requires.before.0 c.requires.which c.requires.lies c.entry_at-s.result c.entry_at-s.ensures.is c.extend.new.buf high
-          c.extend.ensures; }
+          c.extend.ensures;
+    }

@@ -56,7 +56,7 @@ turned c high tall =
 
 pub returns-in_default : goal.returns-in_default
 returns-in_default c =
-    let a = c.args in record { is = λ (high : List ℕ) tall. entry-unparsed a.ib.now a.p a.by a.first a.buf.now high (sym c.piece_at.ensures ∙ c.in_default.is); renewed = λ (high : List ℕ) tall. tt; }
+    let a = c.args in record { is = λ (high : List ℕ) tall. entry-unparsed a.ib.now a.p a.by a.first a.buf.now high (sym c.piece_at.ensures ∙ c.in_default.is); renewed = λ (high : List ℕ) tall. tt }
 
 pub ascends-requires : goal.ascends-requires
 ascends-requires c =
@@ -71,8 +71,11 @@ ascends-requires c =
 
 pub returns-then-not-ascends : goal.returns-then-not-ascends
 returns-then-not-ascends c =
-    let a = c.args in record { is = λ (high : List ℕ) tall. low-inner a.ib.now a.p a.by a.first a.buf.now high c.in-Of.s (parsed c.before.before.before) c.requires.before.0 tall (inner c.before.before.before)
-          (λ K k1 k2. sym (not-true _ c.if-not-ascends.true-raw) ∙ c.ascends.ensures.rises (front c.before.before.before) K k1 k2); renewed = λ (high : List ℕ) tall. tt; }
+    let a = c.args in record {
+      is = λ (high : List ℕ) tall. low-inner a.ib.now a.p a.by a.first a.buf.now high c.in-Of.s (parsed c.before.before.before) c.requires.before.0 tall (inner c.before.before.before)
+          (λ K k1 k2. sym (not-true _ c.if-not-ascends.true-raw) ∙ c.ascends.ensures.rises (front c.before.before.before) K k1 k2);
+      renewed = λ (high : List ℕ) tall. tt;
+    }
 
 pub extend-requires : goal.extend-requires
 extend-requires c =
@@ -90,10 +93,16 @@ last_of-requires c =
 
 pub returns-then-last_of : goal.returns-then-last_of
 returns-then-last_of c =
-    let a = c.args in record { is = λ (high : List ℕ) tall. entry-high a.ib.now a.p a.by a.first a.buf.now high c.in-Of.s (parsed c.before.before.before.before.before.before.before.before.before.before) c.requires.before.0 tall
-          c.ascends.result c.extend.new.buf high (turned c.before.before.before.before.before.before high tall) (sym c.last_of.ensures ∙ c.if-last_of.true); renewed = λ (high : List ℕ) tall. tt; }
+    let a = c.args in record {
+      is = λ (high : List ℕ) tall. entry-high a.ib.now a.p a.by a.first a.buf.now high c.in-Of.s (parsed c.before.before.before.before.before.before.before.before.before.before) c.requires.before.0 tall
+          c.ascends.result c.extend.new.buf high (turned c.before.before.before.before.before.before high tall) (sym c.last_of.ensures ∙ c.if-last_of.true);
+      renewed = λ (high : List ℕ) tall. tt;
+    }
 
 pub returns : goal.returns
 returns c =
-    let a = c.args in record { is = λ (high : List ℕ) tall. entry-on a.ib.now a.p a.by a.first a.buf.now high c.in-Of.s (parsed c.before.before.before.before.before.before.before.before.before.before) c.requires.before.0 tall
-          c.ascends.result c.extend.new.buf high (turned c.before.before.before.before.before.before high tall) (not-false _ c.if-not-ascends.false-raw) (λ z. c.if-last_of.false (c.last_of.ensures ∙ z)); renewed = λ (high : List ℕ) tall. (turned c.before.before.before.before.before.before high tall).renewed; }
+    let a = c.args in record {
+      is = λ (high : List ℕ) tall. entry-on a.ib.now a.p a.by a.first a.buf.now high c.in-Of.s (parsed c.before.before.before.before.before.before.before.before.before.before) c.requires.before.0 tall
+          c.ascends.result c.extend.new.buf high (turned c.before.before.before.before.before.before high tall) (not-false _ c.if-not-ascends.false-raw) (λ z. c.if-last_of.false (c.last_of.ensures ∙ z));
+      renewed = λ (high : List ℕ) tall. (turned c.before.before.before.before.before.before high tall).renewed;
+    }

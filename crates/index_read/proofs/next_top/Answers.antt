@@ -77,7 +77,7 @@ turned c =
 
 pub returns-in_default : goal.returns-in_default
 returns-in_default c =
-    let a = c.args in record { is = entry-unparsed a.ib.now a.p a.by a.first a.buf.now a.high.now (sym c.piece_at.ensures ∙ c.in_default.is); renewed = tt; }
+    let a = c.args in record { is = entry-unparsed a.ib.now a.p a.by a.first a.buf.now a.high.now (sym c.piece_at.ensures ∙ c.in_default.is); renewed = tt }
 
 pub extend-requires : goal.extend-requires
 extend-requires c =
@@ -93,8 +93,11 @@ topmost-requires c =
 
 pub returns-then-not-topmost : goal.returns-then-not-topmost
 returns-then-not-topmost c =
-    let a = c.args in record { is = low-top a.ib.now a.p a.by a.first a.buf.now a.high.now c.in-Of.s (parsed c.before.before.before.before.before.before.before.before) c.requires.before c.requires.tall (top c.before.before.before.before.before.before.before.before)
-          (λ K k1 k2. sym (not-true _ c.if-not-topmost.true-raw) ∙ rises c.before.before K k1 k2); renewed = tt; }
+    let a = c.args in record {
+      is = low-top a.ib.now a.p a.by a.first a.buf.now a.high.now c.in-Of.s (parsed c.before.before.before.before.before.before.before.before) c.requires.before c.requires.tall (top c.before.before.before.before.before.before.before.before)
+          (λ K k1 k2. sym (not-true _ c.if-not-topmost.true-raw) ∙ rises c.before.before K k1 k2);
+      renewed = tt;
+    }
 
 pub extend-requires-2 : goal.extend-requires-2
 extend-requires-2 c =
@@ -108,10 +111,16 @@ last_of-requires c =
 
 pub returns-then-last_of : goal.returns-then-last_of
 returns-then-last_of c =
-    let a = c.args in record { is = entry-high a.ib.now a.p a.by a.first a.buf.now a.high.now c.in-Of.s (parsed c.before.before.before.before.before.before.before.before.before.before.before.before.before.before) c.requires.before c.requires.tall c.topmost.result
-          c.extend-2.new.buf c.extend.new.buf (turned c.before.before.before.before.before) (sym c.last_of.ensures ∙ c.if-last_of.true); renewed = tt; }
+    let a = c.args in record {
+      is = entry-high a.ib.now a.p a.by a.first a.buf.now a.high.now c.in-Of.s (parsed c.before.before.before.before.before.before.before.before.before.before.before.before.before.before) c.requires.before c.requires.tall c.topmost.result
+          c.extend-2.new.buf c.extend.new.buf (turned c.before.before.before.before.before) (sym c.last_of.ensures ∙ c.if-last_of.true);
+      renewed = tt;
+    }
 
 pub returns : goal.returns
 returns c =
-    let a = c.args in record { is = entry-on a.ib.now a.p a.by a.first a.buf.now a.high.now c.in-Of.s (parsed c.before.before.before.before.before.before.before.before.before.before.before.before.before.before) c.requires.before c.requires.tall c.topmost.result
-          c.extend-2.new.buf c.extend.new.buf (turned c.before.before.before.before.before) (not-false _ c.if-not-topmost.false-raw) (λ z. c.if-last_of.false (c.last_of.ensures ∙ z)); renewed = (turned c.before.before.before.before.before).renewed; }
+    let a = c.args in record {
+      is = entry-on a.ib.now a.p a.by a.first a.buf.now a.high.now c.in-Of.s (parsed c.before.before.before.before.before.before.before.before.before.before.before.before.before.before) c.requires.before c.requires.tall c.topmost.result
+          c.extend-2.new.buf c.extend.new.buf (turned c.before.before.before.before.before) (not-false _ c.if-not-topmost.false-raw) (λ z. c.if-last_of.false (c.last_of.ensures ∙ z));
+      renewed = (turned c.before.before.before.before.before).renewed;
+    }

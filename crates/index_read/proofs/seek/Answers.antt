@@ -53,13 +53,16 @@ high-long : (c : After-known_told-state)
 high-long c = length-take-le _ _ (high_fits c)
 
 pub judge-requires : goal.judge-requires
-judge-requires c = record { in_bounds = c.requires.in_bounds; buffers = (inr refl, refl, refl); }
+judge-requires c = record { in_bounds = c.requires.in_bounds; buffers = (inr refl, refl, refl) }
 
 pub returns-in_default : goal.returns-in_default
 returns-in_default c =
     let x = c.judge in
-    let a = c.args in record { is = seeks-unsound a.n a.ib.now a.key.now a.before.now a.own.now
-          (told (length a.key.now) a.n a.ib.now a.key.now x.new.before x.new.own x.result Unsound c.in_default.is x.ensures); within = tt; }
+    let a = c.args in record {
+      is = seeks-unsound a.n a.ib.now a.key.now a.before.now a.own.now
+          (told (length a.key.now) a.n a.ib.now a.key.now x.new.before x.new.own x.result Unsound c.in_default.is x.ensures);
+      within = tt;
+    }
 
 pub slice_bounds-low-end : goal.slice_bounds-low-end
 slice_bounds-low-end c = low_fits c.before.before
@@ -87,5 +90,8 @@ pub returns : goal.returns
 returns c =
     let x = c.judge in
     let a = c.args in
-    record { is = seeks-found a.n a.ib.now a.key.now x.new.before x.new.own c.in-Sound.free c.in-Sound.entries c.in-Sound.spot (judged c.before.before.before.before.before.before.before.before.before.before.before) c.requires.in_bounds.2
-          a.before.now a.own.now c.copy.new.b c.copy-2.new.b c.copy.ensures c.copy-2.ensures; within = within c.before.before.before.before.before.before.before.before.before.before.before; }
+    record {
+      is = seeks-found a.n a.ib.now a.key.now x.new.before x.new.own c.in-Sound.free c.in-Sound.entries c.in-Sound.spot (judged c.before.before.before.before.before.before.before.before.before.before.before) c.requires.in_bounds.2
+          a.before.now a.own.now c.copy.new.b c.copy-2.new.b c.copy.ensures c.copy-2.ensures;
+      within = within c.before.before.before.before.before.before.before.before.before.before.before;
+    }

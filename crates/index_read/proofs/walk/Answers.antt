@@ -14,10 +14,10 @@ mark_free-ok-requires c =
 pub returns-then-not-ok : goal.returns-then-not-ok
 returns-then-not-ok c =
     let a = c.args in
-    let bad : c.mark_free-ok.result ≡ false = not-true _ c.if-not-ok.true-raw in record { sound = bad ∙ walked-wrong a.by a.ib.now a.marks.seen (sym bad ∙ c.mark_free-ok.ensures.sound); found = (λ _ f. absurd (false-true (sym bad ∙ f))); counts = (refl, refl); }
+    let bad : c.mark_free-ok.result ≡ false = not-true _ c.if-not-ok.true-raw in record { sound = bad ∙ walked-wrong a.by a.ib.now a.marks.seen (sym bad ∙ c.mark_free-ok.ensures.sound); found = (λ _ f. absurd (false-true (sym bad ∙ f))); counts = (refl, refl) }
 
 pub returns : goal.returns
 returns c =
     let a = c.args in
     let x = c.mark_entries-walked in
-    let ok : c.mark_free-ok.result ≡ true = not-false _ c.if-not-ok.false-raw in record { sound = walked_on a.by a.ib.now a.marks.seen (sym ok ∙ c.mark_free-ok.ensures.sound) c.mark_free-ok.new.seen (c.mark_free-ok.ensures.marks ok) x.result.ok x.ensures.sound; found = x.ensures.found; counts = (refl, refl); }
+    let ok : c.mark_free-ok.result ≡ true = not-false _ c.if-not-ok.false-raw in record { sound = walked_on a.by a.ib.now a.marks.seen (sym ok ∙ c.mark_free-ok.ensures.sound) c.mark_free-ok.new.seen (c.mark_free-ok.ensures.marks ok) x.result.ok x.ensures.sound; found = x.ensures.found; counts = (refl, refl) }

@@ -122,8 +122,11 @@ bounds-ib-c-in-loop-left c = omega (arith, begins c.before.before.before.before.
 pub look-reach-requires : goal.look-reach-requires
 look-reach-requires c =
     let o = c.loop-left in
-    let a = c.args in record { le_width = sighted a.ib.now a.by a.key.now c.requires.stands.old o.seen o.buf c.requires.stands.high o.p (eqb o.left a.from.left) o.left o.reach (stand c.before.before.before.before.before.before.before.before.before.before.before) (walkable c.before.before.before.before.before.before.before.before.before.before.before)
-          (omega (arith, c.if-wide-reach.true)); which = inner c.before.before.before.before.before.before; }
+    let a = c.args in record {
+      le_width = sighted a.ib.now a.by a.key.now c.requires.stands.old o.seen o.buf c.requires.stands.high o.p (eqb o.left a.from.left) o.left o.reach (stand c.before.before.before.before.before.before.before.before.before.before.before) (walkable c.before.before.before.before.before.before.before.before.before.before.before)
+          (omega (arith, c.if-wide-reach.true));
+      which = inner c.before.before.before.before.before.before;
+    }
 
 pub shape_of-buf-then-left-eq1 : goal.shape_of-buf-then-left-eq1
 shape_of-buf-then-left-eq1 c = whole c.before.before.before.before.before.before.before.before.before.before.before.before.before.before
@@ -182,10 +185,14 @@ bounds-seen-number-in-loop-left c =
 pub next_inner-requires : goal.next_inner-requires
 next_inner-requires c =
     let o = c.loop-left in
-    let a = c.args in record { before = (
+    let a = c.args in record {
+      before = (
         ready a.ib.now a.by a.key.now c.requires.stands.old o.seen o.buf c.requires.stands.high o.p (eqb o.left a.from.left) o.left o.reach (stand c.before.before.before.before.before.before.before.before.before.before.before.before.before.before.before.before.before.before.before) (walkable c.before.before.before.before.before.before.before.before.before.before.before.before.before.before.before.before.before.before.before),
         first-empty a.ib.now a.by a.key.now c.requires.stands.old o.seen o.buf c.requires.stands.high o.p (eqb o.left a.from.left) o.left o.reach (stand c.before.before.before.before.before.before.before.before.before.before.before.before.before.before.before.before.before.before.before),
-      ); which = inner c.before.before.before.before.before.before.before.before.before.before.before.before.before.before; lies = omega (arith, begins c.before.before.before.before.before.before.before.before.before.before.before.before.before.before.before.before.before.before.before, long c.before.before.before.before.before.before.before.before.before.before.before.before.before.before, c.if-c-by.false); }
+      );
+      which = inner c.before.before.before.before.before.before.before.before.before.before.before.before.before.before;
+      lies = omega (arith, begins c.before.before.before.before.before.before.before.before.before.before.before.before.before.before.before.before.before.before.before, long c.before.before.before.before.before.before.before.before.before.before.before.before.before.before, c.if-c-by.false);
+    }
 
 pub shape_of-buf-in_default : goal.shape_of-buf-in_default
 shape_of-buf-in_default c = c.next_inner.auto.buf ∙ whole c.before.before.before.before.before.before.before.before.before.before.before.before.before.before.before.before.before.before.before.before.before.before.before

@@ -5,4 +5,4 @@ pub returns : goal.returns
 returns c =
     let l = c.wide-l in
     let f = c.wide-f in
-    record { is = rw (f.ensures.0, l.ensures.0, c.read_pointer-number.ensures.0); small = (f.ensures.1, l.ensures.1); }
+    record { is = rw (f.ensures.0, l.ensures.0, c.read_pointer-number.ensures.0); small = (f.ensures.1, l.ensures.1) }

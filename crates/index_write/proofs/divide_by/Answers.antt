@@ -113,7 +113,10 @@ write_two-requires-3 c =
 
 pub returns : goal.returns
 returns c =
-    let a = c.args in record { «record» = divided-is a.n a.i a.cuts a.bytes.now a.ib.now c.requires.divisible.0 c.width_for-w.result c.free_count.result c.last_cut-last.result.count
+    let a = c.args in record {
+      «record» = divided-is a.n a.i a.cuts a.bytes.now a.ib.now c.requires.divisible.0 c.width_for-w.result c.free_count.result c.last_cut-last.result.count
           c.width_for-w.ensures c.free_count.ensures (many_is c.before.before.before.before.before.before.before.before.before.before.before.before.before.before.before.before.before.before.before.before.before.before.before.before.before.before.before.before) c.requires.room _ (old-is c.before.before.before.before.before.before.before.before.before.before.before.before.before.before.before.before.before.before.before.before.before.before.before.before) c.put_all-pen.result c.put_all-pen.new.b c.put_all-pen.ensures
           c.fill.new.b c.write_two.new.b c.write_two-2.new.b c.write_two-3.new.b
-          (λ i. omega (arith, c.slice_known-1.given i)) c.fill.ensures c.write_two.ensures c.write_two-2.ensures c.write_two-3.ensures; copied = c.copy.ensures; }
+          (λ i. omega (arith, c.slice_known-1.given i)) c.fill.ensures c.write_two.ensures c.write_two-2.ensures c.write_two-3.ensures;
+      copied = c.copy.ensures;
+    }

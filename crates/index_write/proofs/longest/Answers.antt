@@ -12,4 +12,4 @@ returns c =
     let chars = take a.s.len (drop a.s.at a.ib.now) in
     let k = rw (part-is a.ib.now a.s.at a.s.len) at f.ensures.0 in
     let m = rw (part-is a.ib.now a.s.at a.s.len, length-mid a.ib.now a.s.at a.s.len c.requires.2) at f.ensures.2 in
-    record { is = longest-is a.buf.now chars a.s.front a.len f.result c.requires.0 c.requires.1 k; inside = (omega arith, omega (arith, m)); }
+    record { is = longest-is a.buf.now chars a.s.front a.len f.result c.requires.0 c.requires.1 k; inside = (omega arith, omega (arith, m)) }

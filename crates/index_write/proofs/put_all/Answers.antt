@@ -278,17 +278,20 @@ slice_bounds-put_after-end-3 c =
 
 pub put_after-parted-requires : goal.put_after-parted-requires
 put_after-parted-requires c =
-    let a = c.args in record { puts = own-puts a.job.n a.job.i a.cuts a.bytes.now a.ib.now a.b.now c.requires.0 c.requires.1 c.requires.2 _ (cursor-is c.before.before.before.before.before.before.before.before.before.before.before.before.before.before.before.before.before.before.before.before.before.before.before.before.before.before.before.before.before.before.before.before.before.before) _ _ _ (omega arith) (omega arith) (omega arith)
+    let a = c.args in record {
+      puts = own-puts a.job.n a.job.i a.cuts a.bytes.now a.ib.now a.b.now c.requires.0 c.requires.1 c.requires.2 _ (cursor-is c.before.before.before.before.before.before.before.before.before.before.before.before.before.before.before.before.before.before.before.before.before.before.before.before.before.before.before.before.before.before.before.before.before.before) _ _ _ (omega arith) (omega arith) (omega arith)
           c.run-c.result c.run-c.new.b c.run-c.new.buf c.run-c.new.high c.run-c.new.top c.run-c.ensures
           c.entry_at-s.result (stepped c.before.before.before.before.before.before.before.before.before.before.before.before.before.before.before.before.before.before.before.before.before.before) _ (division-is c.before.before.before.before.before.before.before.before.before.before.before.before.before.before.before.before.before.before.before.before.before)
           c.put_cuts-cut.result c.put_cuts-cut.new.b c.put_cuts-cut.new.top c.put_cuts-cut.ensures
           c.renew.new.buf c.renew.new.high c.renew.ensures c.past-q.result c.past-q.ensures
-          _ (last-there c.before.before.before.before.before.before.before.before.before.before.before.before.before.before.before.before.before.before.before.before.before.before.before.before.before.before.before.before.before.before.before.before.before.before.before.before.before).2 c.taken-own.result (own_is c.before.before.before.before.before); room = own_room a.job.n a.job.i a.cuts a.bytes.now a.ib.now a.b.now c.requires.0 c.requires.1 c.requires.2 _ (cursor-is c.before.before.before.before.before.before.before.before.before.before.before.before.before.before.before.before.before.before.before.before.before.before.before.before.before.before.before.before.before.before.before.before.before.before) _ _ _ (omega arith) (omega arith) (omega arith)
+          _ (last-there c.before.before.before.before.before.before.before.before.before.before.before.before.before.before.before.before.before.before.before.before.before.before.before.before.before.before.before.before.before.before.before.before.before.before.before.before.before).2 c.taken-own.result (own_is c.before.before.before.before.before);
+      room = own_room a.job.n a.job.i a.cuts a.bytes.now a.ib.now a.b.now c.requires.0 c.requires.1 c.requires.2 _ (cursor-is c.before.before.before.before.before.before.before.before.before.before.before.before.before.before.before.before.before.before.before.before.before.before.before.before.before.before.before.before.before.before.before.before.before.before) _ _ _ (omega arith) (omega arith) (omega arith)
           c.run-c.result c.run-c.new.b c.run-c.new.buf c.run-c.new.high c.run-c.new.top c.run-c.ensures
           c.entry_at-s.result (stepped c.before.before.before.before.before.before.before.before.before.before.before.before.before.before.before.before.before.before.before.before.before.before) _ (division-is c.before.before.before.before.before.before.before.before.before.before.before.before.before.before.before.before.before.before.before.before.before)
           c.put_cuts-cut.result c.put_cuts-cut.new.b c.put_cuts-cut.new.top c.put_cuts-cut.ensures
           c.renew.new.buf c.renew.new.high c.renew.ensures c.past-q.result c.past-q.ensures
-          _ (last-there c.before.before.before.before.before.before.before.before.before.before.before.before.before.before.before.before.before.before.before.before.before.before.before.before.before.before.before.before.before.before.before.before.before.before.before.before.before).2 c.taken-own.result (own_is c.before.before.before.before.before); }
+          _ (last-there c.before.before.before.before.before.before.before.before.before.before.before.before.before.before.before.before.before.before.before.before.before.before.before.before.before.before.before.before.before.before.before.before.before.before.before.before.before).2 c.taken-own.result (own_is c.before.before.before.before.before);
+    }
 
 -- the entries after the divided one
 there-is : (l : After-last_cut-state) → l.args.job.i + 1 ≤ l.args.job.n - l.free_count.result

@@ -23,7 +23,7 @@ double c = not-false _ c.if-not-cuts.false
 pub put_after-one-requires : goal.put_after-one-requires
 put_after-one-requires c =
     let a = c.args in
-    let told = first-puts a.b.now a.pen a.top.now a.prev.now a.bytes.now a.d c.requires in record { puts = told.0; room = told.1; }
+    let told = first-puts a.b.now a.pen a.top.now a.prev.now a.bytes.now a.d c.requires in record { puts = told.0; room = told.1 }
 
 pub returns-then-not-cuts : goal.returns-then-not-cuts
 returns-then-not-cuts c =
@@ -37,7 +37,7 @@ put_after-requires c =
     let a = c.args in
     let f = c.put_after-one in
     let told = second-puts a.b.now a.pen a.top.now a.prev.now a.bytes.now a.d c.requires f.result f.new.top f.new.b f.ensures.is
-    f.ensures.top f.ensures.bytes (double c.before.before.before.before.before) in record { puts = told.0; room = told.1; }
+    f.ensures.top f.ensures.bytes (double c.before.before.before.before.before) in record { puts = told.0; room = told.1 }
 
 pub returns : goal.returns
 returns c =

@@ -38,7 +38,7 @@ extend-requires c =
 pub returns-then-not-s : goal.returns-then-not-s
 returns-then-not-s c =
     let a = c.args in
-    let told = renewed-inner a.ib.now a.s a.buf.now a.high.now a.len c.longest-f.result (inner-there c.before.before.before.before.before.before) c.longest-f.ensures.is c.extend.new.buf c.extend.ensures in record { is = told.0; renewed = told.1; }
+    let told = renewed-inner a.ib.now a.s a.buf.now a.high.now a.len c.longest-f.result (inner-there c.before.before.before.before.before.before) c.longest-f.ensures.is c.extend.new.buf c.extend.ensures in record { is = told.0; renewed = told.1 }
 
 pub extend-requires-2 : goal.extend-requires-2
 extend-requires-2 c =
@@ -67,4 +67,4 @@ pub returns : goal.returns
 returns c =
     let a = c.args in
     let told = renewed-highest a.ib.now a.s a.buf.now a.high.now a.len c.common_front-f.result (highest-there c.before.before.before.before.before.before.before.before.before.before.before) c.requires.len_in_bounds.0 c.requires.len_in_bounds.2
-    c.extend-2.new.buf c.extend-2.ensures c.common_front-f.ensures.0 c.extend-3.new.buf c.extend-3.ensures in record { is = told.0; renewed = told.1; }
+    c.extend-2.new.buf c.extend-2.ensures c.common_front-f.ensures.0 c.extend-3.new.buf c.extend-3.ensures in record { is = told.0; renewed = told.1 }

@@ -30,7 +30,7 @@ pub renew-f-requires : goal.renew-f-requires
 renew-f-requires c =
     let g = c.loop-left.invariant.0 in
     let s = c.entry_at-s in
-    record { len_in_bounds = going-renews g c.loop-left-test.true s.result s.ensures.is; before = going_before g c.loop-left-test.true s.result s.ensures.is; }
+    record { len_in_bounds = going-renews g c.loop-left-test.true s.result s.ensures.is; before = going_before g c.loop-left-test.true s.result s.ensures.is }
 
 pub overflow_add-z : goal.overflow_add-z
 overflow_add-z c =
@@ -48,7 +48,7 @@ pub put-pen-requires : goal.put-pen-requires
 put-pen-requires c =
     let g = c.loop-left.invariant.0 in
     let s = c.entry_at-s in
-    let r = c.renew-f in record { puts = going-puts g c.loop-left-test.true s.result s.ensures.is r.result r.ensures.is r.new.buf r.new.high r.ensures.renewed; room = going-room g c.loop-left-test.true s.result s.ensures.is r.result r.ensures.is r.new.buf r.new.high r.ensures.renewed; }
+    let r = c.renew-f in record { puts = going-puts g c.loop-left-test.true s.result s.ensures.is r.result r.ensures.is r.new.buf r.new.high r.ensures.renewed; room = going-room g c.loop-left-test.true s.result s.ensures.is r.result r.ensures.is r.new.buf r.new.high r.ensures.renewed }
 
 pub past-p-requires : goal.past-p-requires
 past-p-requires c =

@@ -32,7 +32,7 @@ pub returns-then-site-eq0 : goal.returns-then-site-eq0
 returns-then-site-eq0 c =
     let a = c.args in
     let told = none-edited a.lens.now (old c.before.before.before.before.before.before) (room c.before.before.before.before.before.before) a.site.ordinal a.site.gone a.comes (inside c.before.before.before.before.before.before) c.requires.few (omega arith) (omega arith)
-    c.lengths_out-many.result (many c.before.before.before.before.before.before) c.lengths_out-many.new.lens c.lengths_out-many.ensures.list in record { count = told.0; list = told.1; }
+    c.lengths_out-many.result (many c.before.before.before.before.before.before) c.lengths_out-many.new.lens c.lengths_out-many.ensures.list in record { count = told.0; list = told.1 }
 
 pub close_up-requires : goal.close_up-requires
 close_up-requires c =
@@ -43,7 +43,7 @@ pub returns-then-comes-eq0 : goal.returns-then-comes-eq0
 returns-then-comes-eq0 c =
     let a = c.args in
     let told = gone-edited a.lens.now (old c.before.before.before.before.before.before.before.before.before.before) (room c.before.before.before.before.before.before.before.before.before.before) a.site.ordinal a.site.gone a.comes (inside c.before.before.before.before.before.before.before.before.before.before) c.requires.few (omega arith) (omega arith)
-    c.lengths_out-many.result (many c.before.before.before.before.before.before.before.before.before.before) c.lengths_out-many.new.lens c.close_up.new.lens c.lengths_out-many.ensures.list c.close_up.ensures in record { count = told.0; list = told.1; }
+    c.lengths_out-many.result (many c.before.before.before.before.before.before.before.before.before.before) c.lengths_out-many.new.lens c.close_up.new.lens c.lengths_out-many.ensures.list c.close_up.ensures in record { count = told.0; list = told.1 }
 
 pub bounds-lens-at : goal.bounds-lens-at
 bounds-lens-at c =
@@ -54,7 +54,7 @@ pub returns-then-site-eq1 : goal.returns-then-site-eq1
 returns-then-site-eq1 c =
     let a = c.args in
     let told = changed-edited a.lens.now (old c.before.before.before.before.before.before) (room c.before.before.before.before.before.before) a.site.ordinal a.site.gone a.comes (inside c.before.before.before.before.before.before) c.requires.few (omega arith) (omega arith)
-    c.lengths_out-many.result (many c.before.before.before.before.before.before) c.lengths_out-many.new.lens c.lengths_out-many.ensures.list in record { count = told.0; list = told.1; }
+    c.lengths_out-many.result (many c.before.before.before.before.before.before) c.lengths_out-many.new.lens c.lengths_out-many.ensures.list in record { count = told.0; list = told.1 }
 
 pub make_way-requires : goal.make_way-requires
 make_way-requires c =
@@ -75,4 +75,4 @@ pub returns : goal.returns
 returns c =
     let a = c.args in
     let told = come-edited a.lens.now (old c.before.before.before.before.before.before.before.before.before.before) (room c.before.before.before.before.before.before.before.before.before.before) a.site.ordinal a.site.gone a.comes (inside c.before.before.before.before.before.before.before.before.before.before) c.requires.few (omega arith) (omega arith)
-    c.lengths_out-many.result (many c.before.before.before.before.before.before.before.before.before.before) c.lengths_out-many.new.lens c.make_way.new.lens c.lengths_out-many.ensures.list c.make_way.ensures in record { count = told.0; list = told.1; }
+    c.lengths_out-many.result (many c.before.before.before.before.before.before.before.before.before.before) c.lengths_out-many.new.lens c.make_way.new.lens c.lengths_out-many.ensures.list c.make_way.ensures in record { count = told.0; list = told.1 }

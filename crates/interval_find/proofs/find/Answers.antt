@@ -107,24 +107,23 @@ pub returns-in-Same : goal.returns-in-Same
 returns-in-Same c =
     let told = find-ends c.args.m c.args.ci.now c.args.key.now c.requires.0 _
     (c.found.ensures ∙ run-same c.args.m c.args.ci.now c.args.key.now c.requires.0 (run_of c.before.before.before.before.before) (lies c.before.before.before.before.before) (count_of c.before.before.before.before.before - 1) (omega arith) _ (sym c.order_at.ensures)
-    c.in-Same.is) in record { is = told.0; within = told.1; }
+    c.in-Same.is) in record { is = told.0; within = told.1 }
 
 pub find_in-requires : goal.find_in-requires
-find_in-requires c =
-    (
-      c.requires.0,
-      c.requires.1,
-      lies c.before.before.before.before,
-      record {
-        before = c.loop-left.invariant.3;
-        above = run-above c.args.m c.args.ci.now c.args.key.now c.requires.0 (run_of c.before.before.before.before) (lies c.before.before.before.before) (count_of c.before.before.before.before - 1) (omega arith) _ (sym c.order_at.ensures)
-            c.in-Greater.is;
-      },
-    )
+find_in-requires c = (
+  c.requires.0,
+  c.requires.1,
+  lies c.before.before.before.before,
+  record {
+    before = c.loop-left.invariant.3;
+    above = run-above c.args.m c.args.ci.now c.args.key.now c.requires.0 (run_of c.before.before.before.before) (lies c.before.before.before.before) (count_of c.before.before.before.before - 1) (omega arith) _ (sym c.order_at.ensures)
+        c.in-Greater.is;
+  },
+)
 
 pub returns-in-Greater : goal.returns-in-Greater
 returns-in-Greater c =
-    let told = find-ends c.args.m c.args.ci.now c.args.key.now c.requires.0 _ c.find_in.ensures in record { is = told.0; within = told.1; }
+    let told = find-ends c.args.m c.args.ci.now c.args.key.now c.requires.0 _ c.find_in.ensures in record { is = told.0; within = told.1 }
 
 pub overflow_add-ordinal : goal.overflow_add-ordinal
 overflow_add-ordinal c = omega (arith, ends c.before.before.before.before, many-small c.before.before.before.before)
@@ -161,4 +160,4 @@ returns c =
     let p : ℕ = c.rdfs_of-rdfs.result.at in
     let n = passed-last c.args.m c.args.ci.now c.requires.0 p c.loop-left.left i.0 z c.loop-left.ordinal c.loop-left.start i.1 i.2 in
     let g = gap-last c.args.m c.args.key.now (records_in c.args.ci.now) (readable-ascends c.args.m c.args.ci.now c.requires.0) c.loop-left.ordinal n.0 i.3 in
-    let told = find-ends c.args.m c.args.ci.now c.args.key.now c.requires.0 _ (ap (Gap c.loop-left.ordinal) (sym n.1) ∙ g) in record { is = told.0; within = told.1; }
+    let told = find-ends c.args.m c.args.ci.now c.args.key.now c.requires.0 _ (ap (Gap c.loop-left.ordinal) (sym n.1) ∙ g) in record { is = told.0; within = told.1 }

@@ -1,7 +1,7 @@
 -- Invariant: the runs that were passed (Passed) have ordinal records in start bytes, and all their keys are below the key.
 -- Measure: the RDFs that are left.
 -- run_lies: the next run is one of the interval's. run-below, run-same: what is seen at its last record. passed-last, gap-last: no run is left.
-use Prim.Native.Nat.{◌-◌, ◌≤◌}
+use Prim.Native.Nat.{◌≤◌}
 use mathlib.Core.Path.{◌≡◌}
 use lib.ListN.{length}
 use Rattle.fields.specs.Lists.{sum}

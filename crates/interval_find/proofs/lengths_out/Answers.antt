@@ -74,4 +74,4 @@ shape_of-lens c =
 pub returns : goal.returns
 returns c =
     let told = gather-end c.args.m c.args.ci.now c.args.lens.now c.requires.0 c.rdfs_of-rdfs.result.at c.loop-left.left c.loop-left.lens c.loop-left.i c.requires.1
-    c.loop-left.invariant (omega arith) in record { count = told.0; list = told.1; }
+    c.loop-left.invariant (omega arith) in record { count = told.0; list = told.1 }

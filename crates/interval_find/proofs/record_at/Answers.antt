@@ -1,7 +1,7 @@
 use Rattle.interval_find.proofs.record_at.Lts
 use Rattle.interval_find.proofs.record_at.Reads
 use Rattle.interval_find.proofs.record_at.Tie
-use Prim.Native.Nat.{ℕ, ◌+◌, ◌-◌, ◌*◌, ◌≤◌, ◌<◌}
+use Prim.Native.Nat.{ℕ, ◌+◌, ◌*◌, ◌≤◌, ◌<◌}
 use mathlib.Core.Path.{◌≡◌, ◌∙◌, sym, ap}
 use mathlib.Core.List.{[]}
 use lib.ListN.{length, get_or}
@@ -121,15 +121,18 @@ module _ (k : Then1-state) where
 
 pub returns-then-place-start-ne0 : goal.returns-then-place-start-ne0
 returns-then-place-start-ne0 c =
-    record { is = run-between c.args.m c.args.ci.now c.requires c.args.place (length (g c.before.before).done) c.loop-left.start (len_of c.before.before.before) (count_of c.before.before.before)
+    record {
+      is = run-between c.args.m c.args.ci.now c.requires c.args.place (length (g c.before.before).done) c.loop-left.start (len_of c.before.before.before) (count_of c.before.before.before)
           (fits c.before.before) (starts c.before.before) (longs c.before.before)
-          (long c.before.before.before) c.loop-left.invariant.2 c.if-place-end.true c.if-place-start-ne0.true; ends = tt; }
+          (long c.before.before.before) c.loop-left.invariant.2 c.if-place-end.true c.if-place-start-ne0.true;
+      ends = tt;
+    }
 
 pub returns-then-place-end : goal.returns-then-place-end
 returns-then-place-end c =
     let told = run-begins c.args.m c.args.ci.now c.requires c.args.place (length (g c.before.before).done) c.loop-left.start (len_of c.before.before.before) (count_of c.before.before.before)
     (fits c.before.before) (starts c.before.before) (longs c.before.before)
-    (long c.before.before.before) c.loop-left.invariant.2 c.if-place-end.true c.if-place-start-ne0.false in record { is = told.0; ends = told.1; }
+    (long c.before.before.before) c.loop-left.invariant.2 c.if-place-end.true c.if-place-start-ne0.false in record { is = told.0; ends = told.1 }
 
 pub overflow_sub-left : goal.overflow_sub-left
 overflow_sub-left c = omega (arith, small c.before.before)
@@ -152,4 +155,4 @@ returns c =
     let i = c.loop-left.invariant in
     let z : c.loop-left.left ≡ 0 = omega (arith, c.loop-left-test.false) in
     let n = passed-all c.args.m c.args.ci.now c.requires c.rdfs_of-rdfs.result.at c.loop-left.left i.0 z in
-    record { is = none-behind c.args.m c.args.ci.now c.requires c.args.place (omega (arith, n.1, i.1, i.2)); ends = tt; }
+    record { is = none-behind c.args.m c.args.ci.now c.requires c.args.place (omega (arith, n.1, i.1, i.2)); ends = tt }

@@ -1,7 +1,7 @@
 -- Invariant: the runs that were passed (Passed) have start bytes, and the place does not lie before their end.
 -- Measure: the RDFs that are left.
 -- run-lies, begins-here: the place is a multiple of the length behind the run's start. none-between: it lies inside a record. none-behind: behind all.
-use Prim.Native.Nat.{◌-◌, ◌≤◌}
+use Prim.Native.Nat.{◌≤◌}
 use mathlib.Core.Path.{◌≡◌}
 use Rattle.fields.specs.Lists.{sum}
 use Rattle.interval_find.proofs.Runs.{Passed}

@@ -54,19 +54,25 @@ answered c =
 pub returns-in_default : goal.returns-in_default
 returns-in_default c =
     let a = c.args in
-    record { is = opens_not a.m (pick a.first [] (bound a.m.key a.low.now)) a.ci.now (unsound-told a.m a.ci.now (sym c.in_default.is ∙ c.check.ensures)); inside = tt; }
+    record { is = opens_not a.m (pick a.first [] (bound a.m.key a.low.now)) a.ci.now (unsound-told a.m a.ci.now (sym c.in_default.is ∙ c.check.ensures)); inside = tt }
 
 pub returns-then-first : goal.returns-then-first
 returns-then-first c =
     let a = c.args in
-    let t = told c.before.before in record { is = way-first a.m a.ci.now (omega arith) (omega arith) c.in-Sound.count c.in-Sound.last t a.first (bound a.m.key a.low.now)
-          c.if-first.true; inside = (t.stands, t.many, t.final); }
+    let t = told c.before.before in record {
+      is = way-first a.m a.ci.now (omega arith) (omega arith) c.in-Sound.count c.in-Sound.last t a.first (bound a.m.key a.low.now)
+          c.if-first.true;
+      inside = (t.stands, t.many, t.final);
+    }
 
 pub returns-then-count-eq0 : goal.returns-then-count-eq0
 returns-then-count-eq0 c =
     let a = c.args in
-    let t = told c.before.before.before in record { is = way-empty a.m a.ci.now (omega arith) (omega arith) c.in-Sound.count c.in-Sound.last t (pick a.first [] (bound a.m.key a.low.now))
-          c.if-count-eq0.true; inside = (t.stands, t.many, t.final); }
+    let t = told c.before.before.before in record {
+      is = way-empty a.m a.ci.now (omega arith) (omega arith) c.in-Sound.count c.in-Sound.last t (pick a.first [] (bound a.m.key a.low.now))
+          c.if-count-eq0.true;
+      inside = (t.stands, t.many, t.final);
+    }
 
 pub slice_bounds-compare_bytes-end : goal.slice_bounds-compare_bytes-end
 slice_bounds-compare_bytes-end c =
@@ -75,13 +81,19 @@ slice_bounds-compare_bytes-end c =
 
 pub returns-in_default-compare_bytes : goal.returns-in_default-compare_bytes
 returns-in_default-compare_bytes c =
-    let a = c.args in record { is = way-below a.m a.ci.now (omega arith) (omega arith) c.in-Sound.count c.in-Sound.last (told c.before.before.before.before.before.before)
+    let a = c.args in record {
+      is = way-below a.m a.ci.now (omega arith) (omega arith) c.in-Sound.count c.in-Sound.last (told c.before.before.before.before.before.before)
           c.if-count-eq0.false a.first (bound a.m.key a.low.now) c.if-first.false
-          (answered c.before.before ∙ not-less c.compare_bytes.result c.in_default-compare_bytes.not-Less); inside = tt; }
+          (answered c.before.before ∙ not-less c.compare_bytes.result c.in_default-compare_bytes.not-Less);
+      inside = tt;
+    }
 
 pub returns : goal.returns
 returns c =
     let a = c.args in
-    let t = told c.before.before.before.before.before.before in record { is = way_above a.m a.ci.now (omega arith) (omega arith) c.in-Sound.count c.in-Sound.last t
+    let t = told c.before.before.before.before.before.before in record {
+      is = way_above a.m a.ci.now (omega arith) (omega arith) c.in-Sound.count c.in-Sound.last t
           c.if-count-eq0.false a.first (bound a.m.key a.low.now) c.if-first.false
-          (answered c.before.before ∙ ap is_less c.in-Less.is); inside = (t.stands, t.many, t.final); }
+          (answered c.before.before ∙ ap is_less c.in-Less.is);
+      inside = (t.stands, t.many, t.final);
+    }

@@ -1,7 +1,7 @@
 use Rattle.interval_read.proofs.rises_keys.Lts
 use Rattle.interval_read.proofs.rises_keys.Reads
 use Rattle.interval_read.proofs.rises_keys.Tie
-use Prim.Native.Nat.{◌+◌, ◌-◌, ◌≤◌}
+use Prim.Native.Nat.{◌+◌, ◌≤◌}
 use mathlib.Core.Path.{◌≡◌, refl, ◌∙◌, sym}
 use lib.ListN.{length}
 use native.Mathlib.Omega.{arith}

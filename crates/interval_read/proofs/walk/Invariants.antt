@@ -4,7 +4,7 @@
 -- Measure: left, the unread RDFs; a group takes at least one.
 -- steps: the first group stands for its part of the RDFs; goes_on passes it; no-group, too_long and falls make the interval unsound.
 -- ended: with no RDF left the interval is sound exactly if the records end at bytes.
-use Prim.Native.Nat.{◌+◌, ◌-◌, ◌*◌, ◌≤◌}
+use Prim.Native.Nat.{◌+◌, ◌*◌, ◌≤◌}
 use mathlib.Core.Path.{◌≡◌}
 use Rattle.interval.specs.Reading.{rdfs}
 use Rattle.interval_read.proofs.Walking.{Come}

@@ -23,7 +23,7 @@ overflow_sub-result c =
 pub returns-then-count-le1 : goal.returns-then-count-le1
 returns-then-count-le1 c =
     let a = c.args in
-    record { place = omega (arith, length-one a.len a.count (omega arith)); bytes = rw (group-one a.len a.count (omega arith)) c.put_rdf.ensures; }
+    record { place = omega (arith, length-one a.len a.count (omega arith)); bytes = rw (group-one a.len a.count (omega arith)) c.put_rdf.ensures }
 
 pub overflow_sub-end-2 : goal.overflow_sub-end-2
 overflow_sub-end-2 c =
@@ -53,6 +53,9 @@ overflow_sub-result-2 c =
 pub returns : goal.returns
 returns c =
     let a = c.args in
-    let n = length_run a.len a.count (omega arith) in record { place = omega arith; bytes = c.put_rdf-3.ensures
+    let n = length_run a.len a.count (omega arith) in record {
+      place = omega arith;
+      bytes = c.put_rdf-3.ensures
           ∙ rw c.put_rdf-2.ensures
-          (run-stored a.ci.now a.end a.len a.count (omega arith) (omega arith) (omega arith)); }
+          (run-stored a.ci.now a.end a.len a.count (omega arith) (omega arith) (omega arith));
+    }

@@ -1,4 +1,3 @@
-use Prim.Native.Nat.{◌-◌}
 use native.Mathlib.Omega.{arith}
 use Rattle.interval_write.proofs.Written.{start, same_size, room, step, all}
 use Rattle.interval_write.proofs.write_rdfs.Goals as goal
@@ -42,4 +41,4 @@ returns c =
     let a = c.args in
     let o = c.loop-i in
     let q = c.requires in
-    record { place = rw (all a.ci.now a.end a.lens.now o.ci o.at o.i o.invariant q.1 (omega arith)) (o.invariant.place); bytes = rw (all a.ci.now a.end a.lens.now o.ci o.at o.i o.invariant q.1 (omega arith)) (o.invariant.bytes); }
+    record { place = rw (all a.ci.now a.end a.lens.now o.ci o.at o.i o.invariant q.1 (omega arith)) (o.invariant.place); bytes = rw (all a.ci.now a.end a.lens.now o.ci o.at o.i o.invariant q.1 (omega arith)) (o.invariant.bytes) }

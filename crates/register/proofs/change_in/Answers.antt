@@ -40,7 +40,7 @@ returns-then-given-m c =
 pub change_at-requires : goal.change_at-requires
 change_at-requires c =
     let a = c.args in
-    record { fits = (c.requires.0, c.requires.1); asked = erase-asked a.m a.kind c.in-Erase.is a.given.now c.if-given-m.false; }
+    record { fits = (c.requires.0, c.requires.1); asked = erase-asked a.m a.kind c.in-Erase.is a.given.now c.if-given-m.false }
 
 pub returns-in-Erase : goal.returns-in-Erase
 returns-in-Erase c =
@@ -59,7 +59,7 @@ returns-then-given-m-2 c =
 pub change_at-requires-2 : goal.change_at-requires-2
 change_at-requires-2 c =
     let a = c.args in
-    record { fits = (c.requires.0, c.requires.1); asked = record-asked a.m a.given.now a.kind c.in_default.not-Erase (fine c.before.before.before.before); }
+    record { fits = (c.requires.0, c.requires.1); asked = record-asked a.m a.given.now a.kind c.in_default.not-Erase (fine c.before.before.before.before) }
 
 pub returns : goal.returns
 returns c =

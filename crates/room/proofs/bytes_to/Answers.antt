@@ -1,7 +1,7 @@
 use Rattle.room.proofs.bytes_to.Lts
 use Rattle.room.proofs.bytes_to.Reads
 use Rattle.room.proofs.bytes_to.Tie
-use Prim.Native.Nat.{◌-◌, ◌<◌}
+use Prim.Native.Nat.{◌<◌}
 use mathlib.Core.Path.{◌≡◌, ◌∙◌, refl}
 use lib.ListN.{get_or}
 use native.Mathlib.Omega.{arith}

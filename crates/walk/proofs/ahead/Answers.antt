@@ -120,8 +120,7 @@ returns-then-s-gt0 c =
 
 pub loop-i-preserved : goal.loop-i-preserved
 loop-i-preserved c =
-    let a = c.args in
-    (
+    let a = c.args in (
       c.loop-i.invariant.0,
       c.loop-i.invariant.1
           ∙ ahead-on a.area.now a.size a.n c.loop-i.i c.loop-i.e (more c.before.before.before.before.before.before.before.before) (some c.before.before.before.before.before.before.before.before) c.in-Entry.number c.in-Entry.next c.in-Entry.last (met_of c.before.before.before.before.before.before.before.before ∙ c.in-Entry.is) (within c.before.before.before.before.before) c.first-s.result (first-told c.before.before.before)

@@ -40,8 +40,7 @@ returns-in_default c =
 
 pub loop-i-preserved : goal.loop-i-preserved
 loop-i-preserved c =
-    let a = c.args in
-    (
+    let a = c.args in (
       c.loop-i.invariant.0,
       past-told c.before ∙ edge_on (width_for a.n) a.ib.now c.loop-i.i c.loop-i.e c.loop-i.invariant.1 c.in-Entry.number c.in-Entry.next c.in-Entry.last (met_of c.before.before.before ∙ c.in-Entry.is),
       omega (arith, c.loop-i.invariant.2, c.loop-i-test.true),

@@ -52,13 +52,16 @@ slice_bounds-pass-end c =
 pub returns-in_default : goal.returns-in_default
 returns-in_default c =
     let a = c.args in
-    record { is = filled-nothing a.area.now a.size a.n c.loop-i.i a.entries c.loop-i.e c.loop-i.found (more c.before.before) (met_of c.before.before ∙ c.in_default.is) ∙ sym c.loop-i.invariant.1; inside = c.loop-i.invariant.2; }
+    record { is = filled-nothing a.area.now a.size a.n c.loop-i.i a.entries c.loop-i.e c.loop-i.found (more c.before.before) (met_of c.before.before ∙ c.in_default.is) ∙ sym c.loop-i.invariant.1; inside = c.loop-i.invariant.2 }
 
 pub returns-then-n-number : goal.returns-then-n-number
 returns-then-n-number c =
     let a = c.args in
-    record { is = filled-far a.area.now a.size a.n c.loop-i.i a.entries c.loop-i.e c.loop-i.found (more c.before.before.before) c.in-Entry.number c.in-Entry.next c.in-Entry.last (met_of c.before.before.before ∙ c.in-Entry.is) c.if-n-number.true
-          ∙ sym c.loop-i.invariant.1; inside = c.loop-i.invariant.2; }
+    record {
+      is = filled-far a.area.now a.size a.n c.loop-i.i a.entries c.loop-i.e c.loop-i.found (more c.before.before.before) c.in-Entry.number c.in-Entry.next c.in-Entry.last (met_of c.before.before.before ∙ c.in-Entry.is) c.if-n-number.true
+          ∙ sym c.loop-i.invariant.1;
+      inside = c.loop-i.invariant.2;
+    }
 
 pub overflow_add-z : goal.overflow_add-z
 overflow_add-z c =
@@ -93,4 +96,4 @@ loop-i-preserved c =
 pub returns : goal.returns
 returns c =
     let a = c.args in
-    record { is = filled_none a.area.now a.size a.n c.loop-i.i a.entries c.loop-i.e c.loop-i.found c.loop-i-test.false ∙ sym c.loop-i.invariant.1; inside = c.loop-i.invariant.2; }
+    record { is = filled_none a.area.now a.size a.n c.loop-i.i a.entries c.loop-i.e c.loop-i.found c.loop-i-test.false ∙ sym c.loop-i.invariant.1; inside = c.loop-i.invariant.2 }

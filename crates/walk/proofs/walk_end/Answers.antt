@@ -24,8 +24,8 @@ end_in-requires c =
 
 pub returns-in-Refused : goal.returns-in-Refused
 returns-in-Refused c =
-    let told = end_refused (asked c.args.numbers) c.args.area.now c.args.forward c.in-Refused.answer (sym c.open.ensures ∙ c.in-Refused.is) in record { begins = told.0; is = told.1; }
+    let told = end_refused (asked c.args.numbers) c.args.area.now c.args.forward c.in-Refused.answer (sym c.open.ensures ∙ c.in-Refused.is) in record { begins = told.0; is = told.1 }
 
 pub returns-in-Whole : goal.returns-in-Whole
 returns-in-Whole c =
-    let told = end-begins (asked c.args.numbers) c.args.area.now c.args.forward c.in-Whole.measures c.in-Whole.count c.in-Whole.records c.in-Whole.free (opened-told c.before.before) c.end_in.result c.end_in.ensures in record { begins = told.0; is = told.1; }
+    let told = end-begins (asked c.args.numbers) c.args.area.now c.args.forward c.in-Whole.measures c.in-Whole.count c.in-Whole.records c.in-Whole.free (opened-told c.before.before) c.end_in.result c.end_in.ensures in record { begins = told.0; is = told.1 }

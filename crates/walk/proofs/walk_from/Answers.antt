@@ -31,7 +31,7 @@ returns-then-given-eq0 c =
     let told = from_told (asked a.numbers) a.area.now a.forward a.given.now (Refused WrongLength)
     (⊎_elim (λ x. from_nothing (asked a.numbers) a.area.now a.forward c.in-Whole.measures c.in-Whole.count c.in-Whole.records c.in-Whole.free e a.given.now x.if-given-eq0.true)
     (λ x. from-too-many (asked a.numbers) a.area.now a.forward c.in-Whole.measures c.in-Whole.count c.in-Whole.records c.in-Whole.free e a.given.now (ltb-true _ _ x.if-measures-given.true-raw))
-    c.then-given-eq0.branch-raw) in record { begins = told.0; there = told.1.0; is = told.1.1; }
+    c.then-given-eq0.branch-raw) in record { begins = told.0; there = told.1.0; is = told.1.1 }
 
 pub begin_at-p-requires : goal.begin_at-p-requires
 begin_at-p-requires c =
@@ -48,13 +48,13 @@ returns-then-p-eq0 c =
     let told = from_told (asked a.numbers) a.area.now a.forward a.given.now (Refused Absent)
     (from-absent (asked a.numbers) a.area.now a.forward c.in-Whole.measures c.in-Whole.count c.in-Whole.records c.in-Whole.free (opened-told c.before.before.before.before.before.before.before) a.given.now
     (λ i. omega (arith, c.shared_slice_known-1.given i)) c.if-given-eq0.false (ltb-false _ _ c.if-measures-given.false-raw) c.begin_at-p.result
-    c.begin_at-p.ensures c.if-p-eq0.true) in record { begins = told.0; there = told.1.0; is = told.1.1; }
+    c.begin_at-p.ensures c.if-p-eq0.true) in record { begins = told.0; there = told.1.0; is = told.1.1 }
 
 pub returns-in-Refused : goal.returns-in-Refused
 returns-in-Refused c =
     let a = c.args in
     let told = from_told (asked a.numbers) a.area.now a.forward a.given.now (Refused c.in-Refused.answer)
-    (from-refused (asked a.numbers) a.area.now a.forward c.in-Refused.answer (sym c.open.ensures ∙ c.in-Refused.is) a.given.now) in record { begins = told.0; there = told.1.0; is = told.1.1; }
+    (from-refused (asked a.numbers) a.area.now a.forward c.in-Refused.answer (sym c.open.ensures ∙ c.in-Refused.is) a.given.now) in record { begins = told.0; there = told.1.0; is = told.1.1 }
 
 pub returns-else-p-eq0 : goal.returns-else-p-eq0
 returns-else-p-eq0 c =
@@ -62,4 +62,4 @@ returns-else-p-eq0 c =
     let told = from_told (asked a.numbers) a.area.now a.forward a.given.now (At c.begin_at-p.result)
     (from-present (asked a.numbers) a.area.now a.forward c.in-Whole.measures c.in-Whole.count c.in-Whole.records c.in-Whole.free (opened-told c.before.before.before.before.before.before.before) a.given.now
     (λ i. omega (arith, c.shared_slice_known-1.given i)) c.if-given-eq0.false (ltb-false _ _ c.if-measures-given.false-raw) c.begin_at-p.result
-    c.begin_at-p.ensures c.if-p-eq0.false) in record { begins = told.0; there = told.1.0; is = told.1.1; }
+    c.begin_at-p.ensures c.if-p-eq0.false) in record { begins = told.0; there = told.1.0; is = told.1.1 }
