@@ -2,7 +2,7 @@
 use depot_io::{number, words};
 use lines::Line;
 use requests::Answer;
-use std::io::Result;
+use std::io::{Error, Result};
 
 pub(crate) fn closing(rt: &impl Print, records: usize, free: usize) -> Result<()> {
     words(rt, b"records ")?;
@@ -18,7 +18,7 @@ fn found(rt: &impl Print, answer: Answer, out: &[u8]) -> Result<()> {
         return Ok(());
     };
     if out.len() < length {
-        return Err(depot_io::unprinted());
+        return Err(Error::from_raw_os_error(0));
     }
     words(rt, b" ")?;
     depot_io::hex(rt, &out[..length])

@@ -67,17 +67,12 @@ pub fn number(rt: &impl Print, n: u64) -> Result<()> {
     words(rt, &text[..k])
 }
 
-// What is given for bytes that no line has. The text of this error is "Success".
-pub fn unprinted() -> Error {
-    Error::from_raw_os_error(0)
-}
-
-// At most 64 bytes in capital hexadecimal digits.
+// At most 64 bytes in capital hexadecimal digits. No line has more: for more the error's text is "Success".
 pub fn hex(rt: &impl Print, bytes: &[u8]) -> Result<()> {
     let mut text = [0u8; 128];
     let n = lines::hex(bytes, &mut text);
     if 128 < n || 64 < bytes.len() {
-        return Err(unprinted());
+        return Err(Error::from_raw_os_error(0));
     }
     words(rt, &text[..n])
 }

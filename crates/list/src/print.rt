@@ -2,7 +2,7 @@
 ghost use Rattle.list.specs.Listed.{Line, Closing};
 
 use depot_io::{number, words};
-use std::io::Result;
+use std::io::{Error, Result};
 
 // A byte as it stands in text: printable ASCII as it is, a dot for any other.
 fn shown(byte: u8) -> u8 {
@@ -16,7 +16,7 @@ fn shown(byte: u8) -> u8 {
 fn text(rt: &impl Print, bytes: &[u8]) -> Result<()> {
     let mut line = [0u8; 64];
     if line.len() < bytes.len() {
-        return Err(depot_io::unprinted());
+        return Err(Error::from_raw_os_error(0));
     }
     let mut i = 0;
     while i < bytes.len() {
@@ -39,7 +39,7 @@ pub(crate) fn line(
     requires { Line area.now place «record».now }
 {
     if record.len() < 8 {
-        return Err(depot_io::unprinted());
+        return Err(Error::from_raw_os_error(0));
     }
     number(rt, place as u64)?;
     words(rt, b" ")?;
