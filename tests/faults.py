@@ -233,24 +233,27 @@ def edited(crate, faults):
 NAME = r"[A-Za-z][\w']*(?:-[\w']+)+"
 
 
+def tested(name):
+    """A name up to its last word that says that a test or an arm follows, and the text of that; None where it has no such word."""
+    match = re.fullmatch(r"((?:.*-)?(?i:then|else|if|in|not)-)(.+)", name)
+    return match and match.groups()
+
+
 def between(old, new):
-    """What of a name differs from another that begins like it, and what stands there in that; None where one of them has nothing there."""
-    a, b = old.split("-"), new.split("-")
-    front = next((i for i, (x, y) in enumerate(zip(a, b)) if x != y), min(len(a), len(b)))
-    back = next((i for i, (x, y) in enumerate(zip(a[:front - 1:-1], b[:front - 1:-1])) if x != y), min(len(a), len(b)) - front)
-    pair = "-".join(a[front:len(a) - back]), "-".join(b[front:len(b) - back])
-    return pair if front and all(pair) else None
+    """The texts of the tests in two names that are alike but for them; None where they are not."""
+    one, other = tested(old), tested(new)
+    return (one[1], other[1]) if one and other and one[0] == other[0] and one != other else None
 
 
 def renamed(crate, fault, log):
-    """What of the names in the proof of a fault's function became another by the changed test, as a function and the parts of names that are put for others.
+    """A fault's function, and which texts of its tests and arms are put for others in the names of its proof, since they became others by the fault.
 
     Where names of two arms went, and each is like a name of the other, they have changed places. Else a pair stands for all names that went and are like one that
     the proof does not cite. None where no pair, or more than one, would do."""
     function = function_of(crate, *fault.pairs[0][:2]) if fault.pairs else None
     cited = "".join(text(path) for path in glob.glob(f"{crate}/proofs/{function}/*.antt")) if function else ""
     gone = {name for said in errors(log, crate, function).get("unfit", []) for name in re.findall(r"has no (?:field )?`([^`]+)`", said)} if function else set()
-    there = set(re.findall(rf"[`.]({NAME})", log)) - gone
+    there = {name.partition("-clause-")[0] for name in re.findall(rf"[`.]({NAME})", log)} - gone
     fits = both = None
     for old in gone:
         pairs = {new: between(old, new) for new in there if between(old, new)}
@@ -259,18 +262,19 @@ def renamed(crate, fault, log):
             fits = fresh if fits is None else fits & fresh
         sides = {frozenset(pair) for pair in pairs.values()}
         both = sides if both is None else both & sides
-    arms = {name.split("-")[-1] for name in gone if re.search(r"(?:^|-)(?i:in)-\w+$", name)}
+    arms = {tested(name)[1] for name in gone if tested(name)}
     for one, other in map(sorted, both if both and len(both) == 1 else []):
         if {one, other} <= arms:
             return function, {one: other, other: one}
     return (function, dict(fits)) if fits and len(fits) == 1 else None
 
 
-def brought(said, parts):
-    """A proof in whose names, behind the word that says that a test or an arm follows, some parts are put for others."""
+def brought(said, texts):
+    """A proof in whose names the texts of some tests or arms are put for others."""
     def name(match):
-        before, word, rest = re.fullmatch(r"((?:[^-]+-)*?)((?i:then|else|if|in|not))-(.*)", match[0]).groups() if re.search(r"(?:^|-)(?i:then|else|if|in|not)-", match[0]) else (match[0], "", "")
-        return f"{before}{word}-" + re.sub(r"(?<![^-])(?:" + "|".join(map(re.escape, parts)) + r")(?![^-])", lambda part: parts[part[0]], rest) if word else before
+        words = re.match(r"(?:.*?-)??(?i:then|else|if|in|not)-", match[0])
+        start = words.end() if words else len(match[0])
+        return match[0][:start] + re.sub(r"(?<![^-])(?:" + "|".join(map(re.escape, texts)) + r")(?![^-])", lambda it: texts[it[0]], match[0][start:])
     return re.sub(rf"(?<![\w'-]){NAME}", name, said)
 
 

@@ -160,12 +160,13 @@ ASKS = "help: `Goals` has no `returns-then-a-lt2`; rattle asks for `returns-then
 ARMS = (error("low", "`goal.returns-in-Same`: module `Rattle.toy.proofs.low.Goals` has no `returns-in-Same` (names in it that begin alike: `returns-in-Less`, `returns-in-Greater`)")
         + error("low", "record `Rattle.toy.proofs.low.Lts.In-In-Same` has no field `in-Less` (nearest: .in-Run, .in-Same)"))
 NAMES = [
-    ("a test that became another", GOAL + FIELD + ASKS, "returns c = c.if-a-lt9", ("low", {"lt2": "lt3"})),
+    ("a test that became another", GOAL + FIELD + ASKS, "returns c = c.if-a-lt9", ("low", {"a-lt2": "a-lt3"})),
     ("two that it may have become", GOAL + FIELD + ASKS, "returns c = c.args", None),
     ("both are cited", GOAL + FIELD + ASKS, "pub returns-then-a-lt9 : c.if-a-lt3", None),
     ("none is like it", GOAL, "", None),
     ("not the same for all that went", GOAL + FIELD.replace("if-a-lt3", "if-b-lt3") + ASKS, "c.if-a-lt9", None),
-    ("one that is like none, beside one that is", GOAL + FIELD.replace("if-a-lt2", "call-of-if-b") + ASKS, "pub returns-then-a-lt9 c", ("low", {"lt2": "lt3"})),
+    ("one that is like none, beside one that is", GOAL + FIELD.replace("if-a-lt2", "call-of-if-b") + ASKS, "pub returns-then-a-lt9 c", ("low", {"a-lt2": "a-lt3"})),
+    ("a test that several clauses follow", GOAL + ASKS.replace("`returns-then-a-lt9`, `returns-then-a-lt3`", "`returns-then-a-lt9-clause-low`, `returns-then-a-lt9-clause-is`"), "returns c", ("low", {"a-lt2": "a-lt9"})),
     ("two arms that changed places", ARMS, "pub returns-in-Same c = c.in-Same.in-Less", ("low", {"Less": "Same", "Same": "Less"})),
     ("an arm whose name went", ARMS.split("\n")[0] + "\n", "pub returns-in-Same c = c.in-Run.in-Greater", None),
     ("a name that went elsewhere", GOAL.replace("/low/", "/twice/") + ASKS, "", None),
@@ -177,7 +178,7 @@ for name, said, cited, expected in NAMES:
         print(f"{name}: {renaming(said, cited)}, where it must be {expected}")
 PROOF = "pub returns-then-bytes-end c = c.if-bytes-end.far-end, c.overflow_mul-end\nuse Lts.Then-bytes-end-2 Lts.In-In-Same c.in-Less.before-Less\n"
 BROUGHT = [
-    ("a test's names, and no others", {"end": "at"}, PROOF.replace("bytes-end c", "bytes-at c").replace("if-bytes-end.", "if-bytes-at.").replace("Then-bytes-end-", "Then-bytes-at-")),
+    ("a test's names, and no others", {"bytes-end": "bytes-at"}, PROOF.replace("bytes-end c", "bytes-at c").replace("if-bytes-end.", "if-bytes-at.").replace("Then-bytes-end-", "Then-bytes-at-")),
     ("two arms", {"Less": "Same", "Same": "Less"}, PROOF.replace("In-In-Same c.in-Less", "In-In-Less c.in-Same")),
 ]
 for name, parts, expected in BROUGHT:
