@@ -4,7 +4,8 @@
 A word of specs/, proofs/, contracts, must-fail edits and pages that begins with a small letter and
 has a capital within it is written with underscores: keyOf becomes key_of, also as a part of a
 dashed name. Types, modules and names of the sources keep theirs. In five files a lemma would get
-the name of a definition there, and ends in _lem. A second run changes nothing.
+the name of a definition there, and ends in _lem. docs/PORT.md has the older names beside the new
+ones, and stays. A second run changes nothing.
 """
 import glob
 import os
@@ -57,7 +58,7 @@ def without_own_lemmas(path, text):
 def main():
     changed, names = 0, set()
     for path in [*logic(), *pages()]:
-        if "/out/" in path:
+        if "/out/" in path or path.endswith("docs/PORT.md"):
             continue
         text = read(path)
         said = without_own_lemmas(path, text)
