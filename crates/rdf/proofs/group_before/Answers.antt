@@ -17,9 +17,9 @@ returns-then-len-least c =
     let a = c.args in
     let cons = rdfs-before a.b.now a.q a.n (omega arith) (omega arith) in
     elim c.then-len-least.branch [
-      then-len-least-via-then-len-least w ↦ record { is = rw (cons, ← c.read_two-len.ensures.0, lt-leb _ _ w.if-len-least.true); small = tt }
-    | then-len-least-via-else-len-least+then-most-len w ↦
-        record { is = rw (cons, ← c.read_two-len.ensures.0, le-leb _ _ w.if-len-least.false, lt-leb _ _ w.if-most-len.true); small = tt }
+      | then-len-least-via-then-len-least w ↦ record { is = rw (cons, ← c.read_two-len.ensures.0, lt-leb _ _ w.if-len-least.true); small = tt }
+      | then-len-least-via-else-len-least+then-most-len w ↦
+          record { is = rw (cons, ← c.read_two-len.ensures.0, le-leb _ _ w.if-len-least.false, lt-leb _ _ w.if-most-len.true); small = tt }
     ]
 
 pub returns-in_err-take_apart : goal.returns-in_err-take_apart
