@@ -25,11 +25,6 @@ use Rattle.rdf.specs.AidFront.{run, front_of, Small}
 use Rattle.rdf.proofs.Fronts.{stops, steps, Step}
 use Rattle.interval_find.specs.AidRuns.{RunIn}
 
--- what the two fields of the CIDF say of the RDFs
-pub rdfs-told : (ci : List ℕ) (d f u : ℕ) → d ≡ displacement ci → f ≡ unused_field ci → u ≡ f % 32768
-    → (d + u ≡ rdfs_at ci) × ((length ci - 4 - (d + u)) / 3 ≡ rdfs_many ci)
-rdfs-told ci d f u p q e = (rw (p, e, q), rw (p, e, q))
-
 -- a well-formed list of RDFs begins with no damage
 pub no-damage : (least most : ℕ) (ci : List ℕ) (p n : ℕ) → well_formed least most (rdfs ci p n) ≡ true → 0 < n → None ≡ front_of least most (rdfs ci p n) → ⊥
 no-damage least most ci p n w h e = false-true (sym (stops ci p n least most h e) ∙ w)

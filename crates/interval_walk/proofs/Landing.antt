@@ -13,9 +13,9 @@ use Rattle.interval.specs.Reading.{displacement, rdfs_at, rdfs}
 use Rattle.rdf.specs.Control.{control_of}
 use Rattle.rdf.specs.AidFront.{front_of}
 use Rattle.rdf.specs.declared.Control.{Control}
-use Rattle.rdf.specs.declared.Control.TheVariants.{Single, Paired, Count, Bad}
+use Rattle.std.specs.Prelude.{Option, Some, None}
+use Rattle.rdf.specs.declared.Control.TheVariants.{Single, Paired, Count}
 use Rattle.rdf.specs.declared.Front.{Front}
-use Rattle.rdf.specs.declared.Front.TheVariants.{Run, Damaged}
 use Rattle.interval_walk.specs.declared.Spot.{Spot}
 use Rattle.interval_walk.specs.AidSpots.{spot, no_spot, beginning, left_of, end_of, right_by, right_of, first_of, last_of, after_of, before_of}
 
@@ -28,9 +28,9 @@ either-one : (n : ℕ) (b : Bool) (s t : Spot) → s.start ≤ n → (b ≡ fals
 either-one n true s t h k = h
 either-one n false s t h k = k refl
 
-begins : (start q : ℕ) (f : Front) → (beginning start q f).start ≤ start
-begins start q (Run l c u) = omega arith
-begins start q Damaged = omega arith
+begins : (start q : ℕ) (f : Option Front) → (beginning start q f).start ≤ start
+begins start q (Some f) = omega arith
+begins start q None = omega arith
 
 left-start : (ci : List ℕ) (start q : ℕ) → (left_of ci start q).start ≤ start
 unfolding left_of
@@ -40,11 +40,11 @@ left-start ci start q =
 end-start : (end len count q : ℕ) → (end_of end len count q).start ≤ end
 end-start end len count q = or-none end (ltb end len) _ (λ _. or-none end (eqb count 0) (spot (end - len) len (count - 1) q) (λ _. omega arith))
 
-by-start : (ci : List ℕ) (end q : ℕ) (c : Control) → (right_by ci end q c).start ≤ end
-by-start ci end q Single = end-start end (number 2 ci (q + 1)) 1 (q + 3)
-by-start ci end q Count = or-none end (ltb (length ci - 4 - q) 6) _ (λ _. end-start end (number 2 ci (q + 4)) (number 2 ci (q + 1)) (q + 6))
-by-start ci end q Paired = omega arith
-by-start ci end q Bad = omega arith
+by-start : (ci : List ℕ) (end q : ℕ) (c : Option Control) → (right_by ci end q c).start ≤ end
+by-start ci end q (Some Single) = end-start end (number 2 ci (q + 1)) 1 (q + 3)
+by-start ci end q (Some Count) = or-none end (ltb (length ci - 4 - q) 6) _ (λ _. end-start end (number 2 ci (q + 4)) (number 2 ci (q + 1)) (q + 6))
+by-start ci end q (Some Paired) = omega arith
+by-start ci end q None = omega arith
 
 right-start : (ci : List ℕ) (end q : ℕ) → (right_of ci end q).start ≤ end
 unfolding right_of

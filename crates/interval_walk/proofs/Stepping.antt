@@ -18,9 +18,9 @@ use Rattle.interval.specs.Search.{start_of}
 use Rattle.interval.proofs.Readable.{readable-rdfs, readable-formed, readable-bytes}
 use Rattle.interval.proofs.Search.{start-record}
 use Rattle.rdf.specs.Control.{control_of}
-use Rattle.rdf.specs.AidFront.{front_of}
+use Rattle.std.specs.Prelude.{Some}
+use Rattle.rdf.specs.AidFront.{run, front_of}
 use Rattle.rdf.specs.declared.Control.TheVariants.{Single, Count}
-use Rattle.rdf.specs.declared.Front.TheVariants.{Run}
 use Rattle.rdf.proofs.Fronts.{steps, Step}
 use Rattle.interval_find.proofs.Runs.{record-inside}
 use Rattle.interval_walk.specs.declared.Spot.{Spot}
@@ -44,11 +44,11 @@ before-run ci s h l = sym (end_is s.start s.len s.left s.at h l ∙ before_same 
 pub shape-right : (ci : List ℕ) (end q l c u : ℕ) → Shape ci q l c u → q + 3 * u + 4 ≤ length ci → l ≤ end → spot (end - l) l (c - 1) (q + 3 * u) ≡ right_of ci end q
 shape-right ci end q l c u (alone d e f g) h k =
     let z : q + 3 * u ≡ q + 3 = omega arith in
-    let x : control_of (get_or ci q 0) ≡ Single = rw f in
+    let x : control_of (get_or ci q 0) ≡ Some Single = rw f in
     rw (d, z) (end_is end l 1 (q + 3) k (omega arith) ∙ right-one ci end q (omega arith) (omega arith) x l (sym g))
 shape-right ci end q l c u (paired d e f g i j) h k =
     let z : q + 3 * u ≡ q + 6 = omega arith in
-    let x : control_of (get_or ci q 0) ≡ Count = rw f in
+    let x : control_of (get_or ci q 0) ≡ Some Count = rw f in
     rw z (end_is end l c (q + 6) k (omega arith) ∙ right-run ci end q (omega arith) (omega arith) x (omega arith) l c (sym j) (sym g))
 
 module _ (m : Measures) (ci : List ℕ) (r : Readable m ci) where
@@ -74,19 +74,19 @@ module _ (m : Measures) (ci : List ℕ) (r : Readable m ci) where
       let (l, c, u, f) = front-there m.least m.most ci p k some w in
       group l c u some f
     where
-      group : (l c u : ℕ) → (some : 0 < k) → Run l c u ≡ front_of m.least m.most (rdfs ci p k) → SpotOf m ci true (left_of ci start q) i
+      group : (l c u : ℕ) → (some : 0 < k) → Some (run l c u) ≡ front_of m.least m.most (rdfs ci p k) → SpotOf m ci true (left_of ci start q) i
       group l c u some f =
           let (g, n) = front-shape m.least m.most ci p k l c u f in
           let s : Step ci p k m.least m.most some l c u = steps ci p k m.least m.most some l c u f n in
           let t = shape-some ci (p + 3 * (k - u)) l c u g in
           let a = run-first ls (lengths (rdfs ci p (k - u))) i c l (omega (arith, many)) (omega (arith, t)) (e ∙ s.list) in
           let long : l ≡ length (get_or rs i []) = sym a.0 ∙ length_at m ci r i in
-          let v : Run l c u ≡ front_of 1 65535 (rdfs ci p k) =
+          let v : Some (run l c u) ≡ front_of 1 65535 (rdfs ci p k) =
           front_same m.least m.most 1 65535 ci p k l c u f (omega (arith, long, long-at m ci r i h)) (omega (arith, long, record-inside m ci r i h, r.small)) in
           let x : (q - p) / 3 ≡ k = omega (arith, lies) in
           let y : q - 3 * k ≡ p = omega (arith, lies) in
           let o : spot start l (c - 1) (q - 3 * u) ≡ left_of ci start q =
-          left_is ci start q p refl (omega (arith, lies, some)) (Run l c u) (rw (x, y) v) in
+          left_is ci start q p refl (omega (arith, lies, some)) (Some (run l c u)) (rw (x, y) v) in
           let at : q - 3 * u ≡ p + 3 * (k - u) = omega (arith, lies, n) in
           rw (← o)
           (record {
@@ -209,14 +209,14 @@ module _ (m : Measures) (ci : List ℕ) (r : Readable m ci) where
       let e : take (length rs - 1 + 1) ls ≡ lengths (rdfs ci p (rdfs_many ci)) = take_all (length rs - 1 + 1) ls (omega (arith, many, z)) ∙ lengths-all m ci r in
       let b : displacement ci ≡ start_of (length rs - 1 + 1) rs =
       sym (readable-bytes m ci r) ∙ ap (λ (xs : List (List ℕ)). length (concat xs)) (sym (take_all (length rs - 1 + 1) rs (omega (arith, z)))) in
-      rw (← last-is ci r.sized (displacement ci) _ _ refl refl refl)
+      rw (← last-is ci r.sized (displacement ci) _ refl refl)
       (right-stands (displacement ci) p (rdfs_many ci) (length rs - 1) (omega arith) all_right (omega arith) (readable-formed m ci r) e b)
 
   pub last_none : records_in ci ≡ [] → (last_of ci).len ≡ 0
   last_none e =
       let z : rdfs_many ci ≡ 0 = none-described m.least m.most ci p (rdfs_many ci) (readable-formed m ci r) (ap length (sym (lengths-all m ci r)) ∙ many ∙ ap length e) in
       ap (λ (s : Spot). s.len)
-      (sym (right-none ci (displacement ci) p (omega (arith, all_right)) (omega (arith, all_right, z)) ∙ last-is ci r.sized (displacement ci) _ _ refl refl refl))
+      (sym (right-none ci (displacement ci) p (omega (arith, all_right)) (omega (arith, all_right, z)) ∙ last-is ci r.sized (displacement ci) _ refl refl))
 
   -- where the run has no record more the group before follows
   group-before : (s : Spot) → s.left ≡ 0 → before_of ci s ≡ right_of ci s.start s.at

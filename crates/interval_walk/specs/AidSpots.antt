@@ -1,6 +1,6 @@
 -- Aids: the steps from record to record of an interval, for any bytes and any spot; and how they stand to the records of a sound one, which is what is believed of them
 -- (`records_in` of crate interval): document 02, L1.
-use Rattle.std.specs.Prelude.{ℕ, ◌+◌, ◌-◌, ◌*◌, ◌/◌, ◌≤◌, ◌<◌, ◌≡◌, Bool, true, false, List, [], ◌++◌, map, length, get_or, take, drop, replicate, eqb, ltb}
+use Rattle.std.specs.Prelude.{ℕ, ◌+◌, ◌-◌, ◌*◌, ◌/◌, ◌≤◌, ◌<◌, ◌≡◌, Bool, true, false, Option, Some, None, List, [], ◌++◌, map, length, get_or, take, drop, replicate, eqb, ltb}
 use Rattle.fields.specs.Choice.{pick}
 use Rattle.fields.specs.Bytes.{number}
 use Rattle.measures.specs.declared.Measures.{Measures}
@@ -9,9 +9,8 @@ use Rattle.interval.specs.Search.{start_of}
 use Rattle.rdf.specs.Control.{control_of}
 use Rattle.rdf.specs.AidFront.{front_of}
 use Rattle.rdf.specs.declared.Control.{Control}
-use Rattle.rdf.specs.declared.Control.TheVariants.{Single, Paired, Count, Bad}
+use Rattle.rdf.specs.declared.Control.TheVariants.{Single, Paired, Count}
 use Rattle.rdf.specs.declared.Front.{Front}
-use Rattle.rdf.specs.declared.Front.TheVariants.{Run, Damaged}
 use Rattle.interval_walk.specs.declared.Spot.{Spot}
 
 abbrev pub spot : ℕ → ℕ → ℕ → ℕ → Spot
@@ -21,9 +20,9 @@ abbrev pub no_spot : Spot
 no_spot = spot 0 0 0 0
 
 -- the first record of a group that was read from RDFs which end at place q
-abbrev pub beginning : ℕ → ℕ → Front → Spot
-beginning start q (Run len count used) = spot start len (count - 1) (q - 3 * used)
-beginning start q Damaged = no_spot
+abbrev pub beginning : ℕ → ℕ → Option Front → Spot
+beginning start q (Some f) = spot start f.len (f.count - 1) (q - 3 * f.used)
+beginning start q None = no_spot
 
 -- the group whose RDFs end at place q; its first record begins at `start`
 unfoldable pub left_of : List ℕ → ℕ → ℕ → Spot
@@ -35,11 +34,11 @@ abbrev pub end_of : ℕ → ℕ → ℕ → ℕ → Spot
 end_of end len count q = pick (ltb end len) no_spot (pick (eqb count 0) no_spot (spot (end - len) len (count - 1) q))
 
 -- by the control byte of its leftmost RDF
-abbrev pub right_by : List ℕ → ℕ → ℕ → Control → Spot
-right_by ci end q Single = end_of end (number 2 ci (q + 1)) 1 (q + 3)
-right_by ci end q Count = pick (ltb (length ci - 4 - q) 6) no_spot (end_of end (number 2 ci (q + 4)) (number 2 ci (q + 1)) (q + 6))
-right_by ci end q Paired = no_spot
-right_by ci end q Bad = no_spot
+abbrev pub right_by : List ℕ → ℕ → ℕ → Option Control → Spot
+right_by ci end q (Some Single) = end_of end (number 2 ci (q + 1)) 1 (q + 3)
+right_by ci end q (Some Count) = pick (ltb (length ci - 4 - q) 6) no_spot (end_of end (number 2 ci (q + 4)) (number 2 ci (q + 1)) (q + 6))
+right_by ci end q (Some Paired) = no_spot
+right_by ci end q None = no_spot
 
 -- the group whose RDFs begin at place q; its last record ends at `end`
 unfoldable pub right_of : List ℕ → ℕ → ℕ → Spot

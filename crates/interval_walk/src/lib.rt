@@ -36,13 +36,11 @@ pub(crate) fn group_left(ci: &[u8], start: usize, q: usize) -> Spot
     requires { q + 4 ≤ length ci.now }
     ensures { result ≡ left_of ci.now start q }
 {
-    let n = ci.len();
-    let unused = rdf::below_flag(fields::read_two(ci, n - 2));
-    let p = fields::read_two(ci, n - 4) + unused;
+    let p = rdf::rdfs_begin(ci);
     if q < p + 3 {
         return nothing();
     }
-    let Front::Run { len, count, used } = rdf::group_before(ci, q, (q - p) / 3, 1, 65535) else {
+    let Some(Front { len, count, used }) = rdf::group_before(ci, q, (q - p) / 3, 1, 65535) else {
         return nothing();
     };
     Spot {
@@ -79,15 +77,15 @@ pub(crate) fn group_right(ci: &[u8], end: usize, q: usize) -> Spot
     }
     let first = fields::read_two(ci, q + 1);
     match rdf::take_apart(ci[q]) {
-        Control::Single => group_end(end, first, 1, q + 3),
-        Control::Count => {
+        Some(Control::Single) => group_end(end, first, 1, q + 3),
+        Some(Control::Count) => {
             if e - q < 6 {
                 return nothing();
             }
             group_end(end, fields::read_two(ci, q + 4), first, q + 6)
         }
-        Control::Paired => nothing(),
-        Control::Bad => nothing(),
+        Some(Control::Paired) => nothing(),
+        None => nothing(),
     }
 }
 
@@ -109,9 +107,8 @@ pub fn last(ci: &[u8]) -> Spot
     if n < 4 {
         return nothing();
     }
-    let unused = rdf::below_flag(fields::read_two(ci, n - 2));
     let bytes = fields::read_two(ci, n - 4);
-    group_right(ci, bytes, bytes + unused)
+    group_right(ci, bytes, rdf::rdfs_begin(ci))
 }
 
 // The record after one.
@@ -155,14 +152,13 @@ pub fn spot_at(ci: &[u8], m: Measures, i: usize, forward: bool) -> Spot
     requires { Readable m ci.now × (i + 1 ≤ length (records_in ci.now)) }
     ensures { SpotOf m ci.now forward result i }
 {
-    let n = ci.len();
-    let unused = rdf::below_flag(fields::read_two(ci, n - 2));
-    let p = fields::read_two(ci, n - 4) + unused;
-    let mut left = (n - 4 - p) / 3;
+    let rdfs = rdf::rdfs_of(ci);
+    let p = rdfs.at;
+    let mut left = rdfs.many;
     let mut ordinal: usize = 0;
     let mut start: usize = 0;
     while 0 < left {
-        let Front::Run { len, count, used } = rdf::group_at(ci, p, left, m.least, m.most) else {
+        let Some(Front { len, count, used }) = rdf::group_at(ci, p, left, m.least, m.most) else {
             return nothing();
         };
         if i < ordinal + count {

@@ -18,9 +18,9 @@ use Rattle.rdf.specs.AidFront.{run, front_of, pair_of}
 use Rattle.rdf.specs.declared.Front.{Front}
 use Rattle.rdf.proofs.Rdfs.{rdfs-cons, rdfs-drop, sum-run, length_run}
 
-abbrev len-in : Option Front → ℕ
-len-in (Some f) = f.len
-len-in None = 0
+abbrev told : Option Front → Front
+told (Some f) = f
+told None = run 0 0 0
 
 abbrev pub FrontLaw : ℕ → ℕ → Option Front → List Rdf → Type 0
 FrontLaw least most (Some f) rs =
@@ -72,11 +72,12 @@ module _ (b : List ℕ) (p n least most : ℕ) (some : 0 < n) where
       let g = rw (rdfs-drop b p n k h) at f in
       record { list = g.1; formed = g.0; sums = rw g.1 (sum-run c l _); count = rw g.1 (length_run c l _) }
 
-len-is : {l c u n k v : ℕ} → Some (run l c u) ≡ Some (run n k v) → l ≡ n
-len-is e = ap (λ (f : Option Front). len-in f) e
+-- two groups that are the same have the same numbers
+pub runs-same : {l c u n k v : ℕ} → Some (run l c u) ≡ Some (run n k v) → (l ≡ n) × (c ≡ k) × (u ≡ v)
+runs-same e = (ap (λ (f : Option Front). (told f).len) e, ap (λ (f : Option Front). (told f).count) e, ap (λ (f : Option Front). (told f).used) e)
 
 run_len : (n l c u k : ℕ) (b : Bool) → Some (run l c u) ≡ pick b (Some (run n k 2)) None → l ≡ n
-run_len n l c u k true e = len-is e
+run_len n l c u k true e = (runs-same e).0
 run_len n l c u k false e = absurd (let z : ◌≡◌ {A = ℕ} 0 1 = cc in omega arith)
 
 pair-len : (n : ℕ) (rs : List Rdf) (l c u : ℕ) → Some (run l c u) ≡ pair_of n rs → l ≡ n
@@ -97,7 +98,7 @@ front-within least most (r ∷ rs) l c u e = go (within least most r.num) (eqb r
 
     go : (w a b : Bool) → within least most r.num ≡ w
         → Some (run l c u) ≡ pick w (pick a (Some (run r.num 1 1)) (pick b (pair_of r.num rs) None)) None → (least ≤ l) × (l ≤ most)
-    go true true b w e = fine w (len-is e)
+    go true true b w e = fine w ((runs-same e).0)
     go true false true w e = fine w (pair-len r.num rs l c u e)
     go true false false w e = absurd (let z : ◌≡◌ {A = ℕ} 0 1 = cc in omega arith)
     go false a b w e = absurd (let z : ◌≡◌ {A = ℕ} 0 1 = cc in omega arith)

@@ -36,7 +36,7 @@ pub unique-with-flag : (κs : _) (args : _) (r s : ℕ) (e f : _) → with-flag.
 unique-with-flag κs args r s e f p q = agree p q
 
 pub unique-rdfs-begin : (κs : _) (args : _) (r s : ℕ) (e f : _) → rdfs-begin.Learnt κs args r e → rdfs-begin.Learnt κs args s f → r ≡ s
-unique-rdfs-begin κs args r s e f p q = agree p q
+unique-rdfs-begin κs args r s e f p q = agree p.0 q.0
 
 pub unique-rdfs-of : (κs : _) (args : _) (r s : RdfsIn) (e f : _) → rdfs_of.Learnt κs args r e → rdfs_of.Learnt κs args s f → r ≡ s
 unique-rdfs-of κs args r s e f p q = ap (λ (k : ℕ). rdfs_lie k r.many) (agree p.0 q.0) ∙ ap (rdfs_lie s.at) (agree p.1 q.1)

@@ -71,7 +71,8 @@ pub struct RdfsIn {
 // Where the CIDF says that an interval's RDFs begin, whether they do or not. Source document 001, chapter 7: the CIDF is the last four bytes.
 pub fn rdfs_begin(ci: &[u8]) -> usize
     requires { 4 ≤ length ci.now }
-    ensures { result ≡ rdfs_at ci.now }
+    ensures is { result ≡ rdfs_at ci.now }
+    ensures small { result < 98304 }
 {
     let n = ci.len();
     fields::read_two(ci, n - 4) + below_flag(fields::read_two(ci, n - 2))
