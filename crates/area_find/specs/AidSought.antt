@@ -1,14 +1,12 @@
 -- Aids: what a search in a sound area answers. Contracts between crates cite them; the requests' contracts say what that means for the records, so
 -- nothing here has to be believed.
-use Rattle.std.specs.Prelude.{ℕ, ◌+◌, ◌-◌, ◌*◌, ◌/◌, ◌%◌, ◌≤◌, ◌<◌, ◌≡◌, List, length, get_or, ltb, leb}
+use Rattle.std.specs.Prelude.{ℕ, ◌+◌, ◌-◌, ◌*◌, ◌/◌, ◌%◌, ◌≤◌, ◌<◌, ◌≡◌, Option, Some, None, List, length, get_or, ltb, leb}
 use Rattle.fields.specs.Choice.{pick}
 use Rattle.fields.specs.Bytes.{number}
 use Rattle.measures.specs.Judgement.{width_for}
 use Rattle.measures.specs.declared.Measures.{Measures}
 use Rattle.interval.specs.Reading.{records_in, displacement}
 use Rattle.interval.specs.Search.{place_of, Within, starting_at, started_of}
-use Rattle.interval.specs.declared.Started.{Started}
-use Rattle.interval.specs.declared.Started.TheVariants as started
 use Rattle.index.specs.Meaning.{numbers}
 use Rattle.index.specs.Search.{leads_to}
 use Rattle.sections.specs.Reading.{read_index}
@@ -32,9 +30,9 @@ pub record Sought (m : Measures) (n : ℕ) (area key : List ℕ) (r : KeyPlace) 
   pub found : r.found ≡ place_of m key (records_in (data_in m area r.number))
   pub place : Within (length (records_in (data_in m area r.number))) (displacement (data_in m area r.number)) r.found
 
-abbrev pub lying_of : ℕ → Started → Lying
-lying_of from (started.Here len) = Here from len
-lying_of from started.Nothing = Nowhere
+abbrev pub lying_of : ℕ → Option ℕ → Lying
+lying_of from (Some len) = Here from len
+lying_of from None = Nowhere
 
 -- the record at an address; base is that of the index record
 unfoldable pub sought_at : Measures → ℕ → List ℕ → ℕ → Lying

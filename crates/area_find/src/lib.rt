@@ -5,7 +5,7 @@ ghost use Rattle.std.specs.Prelude.{◌+◌, ◌≡◌, length};
 ghost use Rattle.measures.specs.Judgement.{Fits};
 ghost use Rattle.area_find.specs.AidSought.{Whole, Sought, sought_at, Inside};
 
-use interval::{Found, Started};
+use interval::Found;
 use measures::Measures;
 
 // Where a key belongs: the entry that it leads to, that entry's interval, and the key's place among the records there.
@@ -61,7 +61,7 @@ pub fn record_at(area: &[u8], m: Measures, n: usize, address: u64) -> Lying
     }
     let a = (number + 1) * size;
     let e = a + size;
-    let Started::Here { length } = interval_find::record_at(&area[a..e], m, place) else {
+    let Some(length) = interval_find::record_at(&area[a..e], m, place) else {
         return Lying::Nowhere;
     };
     Lying::Here {

@@ -18,9 +18,9 @@ use Rattle.interval.specs.Reading.{records_in, sound, Checkable}
 use Rattle.interval.specs.Role.{sound_used}
 use Rattle.interval.proofs.Readable.{fits-checkable, checked-readable, records-few}
 use Rattle.interval_read.specs.Verdict.{last_start}
-use Rattle.interval_read.specs.AidOpened.{opened_of}
+use Rattle.interval_read.specs.AidOpened.{opened, opened_of}
+use Rattle.std.specs.Prelude.{Option, Some, None}
 use Rattle.interval_read.specs.declared.Opened.{Opened}
-use Rattle.interval_read.specs.declared.Opened.TheVariants as opened
 use Rattle.index.specs.Bounds.{bound}
 use Rattle.index.specs.Meaning.{Entry}
 use Rattle.index.specs.Rules.{bound_before}
@@ -41,17 +41,17 @@ use Rattle.area_read.proofs.Lows.{lowest-met}
 -- ---- one interval
 
 module _ (m : Measures) (ci low high : List ℕ) (lent : Checkable m ci) where
-  by-bound : (b : Bool) (o : Opened) → both (sound m ci) (above low (keys_of m (records_in ci))) ≡ b
-      → o ≡ pick b (opened.Sound (length (records_in ci)) (last_start (map length (records_in ci)))) opened.Bad → (r : Seen) → Closed m ci high o r
+  by-bound : (b : Bool) (o : Option Opened) → both (sound m ci) (above low (keys_of m (records_in ci))) ≡ b
+      → o ≡ pick b (Some (opened (length (records_in ci)) (last_start (map length (records_in ci))))) None → (r : Seen) → Closed m ci high o r
       → (r.ok ≡ sound_used m low high ci) × ((r.ok ≡ true → r.count ≡ length (records_in ci)) × (r.count ≤ 32768))
   unfolding sound_used
   by-bound true o h e r k =
       let s = both-split (sound m ci) (above low (keys_of m (records_in ci))) h in
-      let c : Closed m ci high (opened.Sound (length (records_in ci)) (last_start (map length (records_in ci)))) r = rw e at k in
+      let c : Closed m ci high (Some (opened (length (records_in ci)) (last_start (map length (records_in ci))))) r = rw e at k in
       let f = records-few m ci (checked-readable lent s.0) in
       (rw (s.0, s.1) c.0, ((λ (z : r.ok ≡ true). c.1), omega (arith, c.1, f)))
   by-bound false o h e r k =
-      let c : Closed m ci high opened.Bad r = rw e at k in
+      let c : Closed m ci high None r = rw e at k in
       (c.0 ∙ sym (go (sound m ci) (above low (keys_of m (records_in ci))) h), ((λ (z : r.ok ≡ true). absurd (false-true (sym c.0 ∙ z))), omega (arith, c.1)))
     where
       go : (x y : Bool) → both x y ≡ false → both x (both y (up_to high (keys_of m (records_in ci)))) ≡ false
@@ -60,7 +60,7 @@ module _ (m : Measures) (ci low high : List ℕ) (lent : Checkable m ci) where
       go false y z = refl
 
   -- what opening and closing say together
-  pub seen-is : (o : Opened) → o ≡ opened_of m low ci → (r : Seen) → Closed m ci high o r
+  pub seen-is : (o : Option Opened) → o ≡ opened_of m low ci → (r : Seen) → Closed m ci high o r
       → (r.ok ≡ sound_used m low high ci) × ((r.ok ≡ true → r.count ≡ length (records_in ci)) × (r.count ≤ 32768))
   unfolding opened_of
   seen-is o e r k = by-bound (both (sound m ci) (above low (keys_of m (records_in ci)))) o refl e r k
@@ -197,7 +197,7 @@ module _ (m : Measures) (n : ℕ) (area ib : List ℕ) (worst : ℕ) where
         own-short = omega (arith, ap length on.ref, step.fits)
 
         -- its interval was judged by both bounds
-        module _ (f : Fits m n (length area)) (o : Opened) (r : Seen)
+        module _ (f : Fits m n (length area)) (o : Option Opened) (r : Seen)
             (opens : o ≡ opened_of m (pick (eqb i 0) [] (bound m.key (take p.len buf))) (data_in m area s.number))
             (closes : Closed m (data_in m area s.number) (bound m.key (take q.len buf')) o r) where
           seen : (r.ok ≡ sound_used m (bound_before m.key [] (take i es)) (bound m.key sep) (data_in m area num))

@@ -66,16 +66,16 @@ pub(crate) fn free_worst(area: &[u8], ib: &[u8], m: Measures, n: usize, free: us
 }
 
 // The second half of an entry's judgement: its own bound.
-pub(crate) fn closed(ci: &[u8], m: Measures, opened: Opened, high: &[u8]) -> Seen
+pub(crate) fn closed(ci: &[u8], m: Measures, opened: Option<Opened>, high: &[u8]) -> Seen
     requires { Checkable m ci.now × Inside m ci.now opened × (length high.now ≤ m.key) }
     ensures { Closed m ci.now (bound m.key high.now) opened result }
 {
     match opened {
-        Opened::Sound { count, last } => Seen {
+        Some(Opened { count, last }) => Seen {
             ok: interval_read::closes(ci, m, count, last, high),
             count,
         },
-        Opened::Bad => Seen {
+        None => Seen {
             ok: false,
             count: 0,
         },

@@ -20,9 +20,9 @@ use Rattle.interval.specs.declared.Found.{Found}
 use Rattle.interval.specs.declared.Found.TheVariants.{At, Gap}
 use Rattle.interval.proofs.Readable.{fits-checkable, checked-readable, readable-rdfs}
 use Rattle.interval_read.specs.Verdict.{last_start}
-use Rattle.interval_read.specs.AidOpened.{opened_of, Inside as Told}
+use Rattle.interval_read.specs.AidOpened.{opened, opened_of, Inside as Told}
+use Rattle.std.specs.Prelude.{Option, Some, None}
 use Rattle.interval_read.specs.declared.Opened.{Opened}
-use Rattle.interval_read.specs.declared.Opened.TheVariants as opened
 use Rattle.index.specs.Bounds.{bound}
 use Rattle.index.specs.Meaning.{Entry, separator_before}
 use Rattle.index.specs.Rules.{bound_before}
@@ -42,29 +42,29 @@ use Rattle.area_seek.specs.declared.Looked.TheVariants.{Here, Nowhere, Damaged}
 -- ---- an interval between two bounds
 
 -- what opening told of an interval that opened well
-pub opened-told : (m : Measures) (ci : List ℕ) (o : Opened) (count last : ℕ) → o ≡ opened.Sound count last → Told m ci o → Told m ci (opened.Sound count last)
+pub opened-told : (m : Measures) (ci : List ℕ) (o : Option Opened) (count last : ℕ) → o ≡ Some (opened count last) → Told m ci o → Told m ci (Some (opened count last))
 opened-told m ci o count last e t = rw e at t
 
-sound-bad : (count last : ℕ) → opened.Bad ≡ opened.Sound count last → ⊥
+sound-bad : (count last : ℕ) → None ≡ Some (opened count last) → ⊥
 sound-bad count last e = let z : ◌≡◌ {A = ℕ} 0 1 = cc in omega arith
 
 module _ (m : Measures) (low high ci : List ℕ) where
   -- Where it opened well, its own bound decides.
-  pub closes-well : (o : Opened) (count last : ℕ) → o ≡ opened.Sound count last → o ≡ opened_of m low ci → up_to high (keys_of m (records_in ci)) ≡ sound_used m low high ci
+  pub closes-well : (o : Option Opened) (count last : ℕ) → o ≡ Some (opened count last) → o ≡ opened_of m low ci → up_to high (keys_of m (records_in ci)) ≡ sound_used m low high ci
   unfolding opened_of sound_used
   closes-well o count last e is =
       let t = both (sound m ci) (above low (keys_of m (records_in ci))) in
-      let s = opened.Sound (length (records_in ci)) (last_start (map length (records_in ci))) in
-      let p = pick_true t s opened.Bad (opened.Sound count last) (sym is ∙ e) (sound-bad count last) in
+      let s = Some (opened (length (records_in ci)) (last_start (map length (records_in ci)))) in
+      let p = pick_true t s None (Some (opened count last)) (sym is ∙ e) (sound-bad count last) in
       let b = both-split (sound m ci) (above low (keys_of m (records_in ci))) p.0 in
       sym (rw (b.0, b.1))
 
   -- Where it did not, it is unsound.
-  pub opens-badly : (o : Opened) → o ≡ opened.Bad → o ≡ opened_of m low ci → false ≡ sound_used m low high ci
+  pub opens-badly : (o : Option Opened) → o ≡ None → o ≡ opened_of m low ci → false ≡ sound_used m low high ci
   unfolding opened_of sound_used
   opens-badly o e is =
-      let s = opened.Sound (length (records_in ci)) (last_start (map length (records_in ci))) in
-      sym (go (sound m ci) (above low (keys_of m (records_in ci))) (pick-false (both (sound m ci) (above low (keys_of m (records_in ci)))) s opened.Bad opened.Bad (sym is ∙ e) (λ z. sound-bad (length (records_in ci)) (last_start (map length (records_in ci))) (sym z))).0)
+      let s = Some (opened (length (records_in ci)) (last_start (map length (records_in ci)))) in
+      sym (go (sound m ci) (above low (keys_of m (records_in ci))) (pick-false (both (sound m ci) (above low (keys_of m (records_in ci)))) s None None (sym is ∙ e) (λ z. sound-bad (length (records_in ci)) (last_start (map length (records_in ci))) (sym z))).0)
     where
       go : (x y : Bool) → both x y ≡ false → both x (both y (up_to high (keys_of m (records_in ci)))) ≡ false
       go true true z = absurd (false-true (sym z))

@@ -31,8 +31,8 @@ pub(crate) fn sound_between(ci: &[u8], m: Measures, first: bool, low: &[u8], hig
     ensures { result ≡ sound_used m (pick first [] (bound m.key low.now)) (bound m.key high.now) ci.now }
 {
     match interval_read::opens(ci, m, first, low) {
-        Opened::Sound { count, last } => interval_read::closes(ci, m, count, last, high),
-        Opened::Bad => false,
+        Some(Opened { count, last }) => interval_read::closes(ci, m, count, last, high),
+        None => false,
     }
 }
 

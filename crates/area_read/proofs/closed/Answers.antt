@@ -6,13 +6,13 @@ use Rattle.area_read.proofs.closed.Goals as goal
 
 pub closes-requires : goal.closes-requires
 closes-requires c =
-    let f = rw c.in-Sound.is at c.requires.1 in
+    let f = rw c.in-Some.is at c.requires.1 in
     ((omega arith, omega arith, omega arith, f.0, f.1, f.2), c.requires.2)
 
-pub returns-in-Sound : goal.returns-in-Sound
-returns-in-Sound c =
-    let f = rw c.in-Sound.is at c.requires.1 in
-    rw c.in-Sound.is (c.closes.ensures, f.1)
+pub returns-in-Some : goal.returns-in-Some
+returns-in-Some c =
+    let f = rw c.in-Some.is at c.requires.1 in
+    rw c.in-Some.is (c.closes.ensures, f.1)
 
-pub returns-in-Bad : goal.returns-in-Bad
-returns-in-Bad c = rw c.in-Bad.is (refl, refl)
+pub returns-in-None : goal.returns-in-None
+returns-in-None c = rw c.in-None.is (refl, refl)
