@@ -9,6 +9,7 @@ use Rattle.interval.specs.Records.{ascend_from}
 use Rattle.interval.specs.Reading.{Rdf, busy, displacement, rdfs_at, rdfs_many, well_formed, lengths}
 use Rattle.interval_read.specs.Verdict.{last_start, verdict}
 use Rattle.interval_read.specs.declared.Tail.{Tail}
+use Rattle.interval_read.specs.declared.RunKeys.{RunKeys}
 use Rattle.interval_read.specs.declared.Verdict.{Verdict}
 
 abbrev pub tail_fine : List ℕ → Bool
@@ -30,6 +31,9 @@ unfoldable pub keys_at : ℕ → List ℕ → ℕ → ℕ → ℕ → List (List
 keys_at key ci at len zero = []
 keys_at key ci at len (suc c) = part ci at key ∷ keys_at key ci (at + len) len c
 
+abbrev pub keys_in : ℕ → List ℕ → RunKeys → List (List ℕ)
+keys_in key ci keys = keys_at key ci keys.at keys.len keys.count
+
 -- the keys of records of these lengths, the first record at a place
 unfoldable pub keys_from : ℕ → ℕ → List ℕ → ℕ → List ℕ → List (List ℕ)
 keys_from offset key ci at [] = []
@@ -47,15 +51,14 @@ walked m ci d many rs =
     (Some (verdict (length (lengths rs)) d many (last_start (lengths rs))))
     None
 
--- what the run's check asks: the key before lies in the interval, and so do `count` keys from place `at` on, `len` bytes apart
-abbrev pub RunLies : List ℕ → ℕ → ℕ → ℕ → ℕ → ℕ → Type 0
-RunLies ci key prev at len count =
-    (prev + key ≤ length ci) × (1 ≤ key) × (key ≤ len) × (1 ≤ count) × (at + len * count ≤ length ci + (len - key)) × (length ci ≤ 32768) × (len < 65536)
+-- what the check of neighbouring keys asks: the key before lies in the interval, and so do the keys
+abbrev pub KeysLie : List ℕ → ℕ → ℕ → RunKeys → Type 0
+KeysLie ci key prev keys =
+    (prev + key ≤ length ci) × (key ≤ keys.len) × (keys.at + keys.len * keys.count ≤ length ci + (keys.len - key)) × (length ci ≤ 32768) × (keys.len < 65536)
 
--- what the check of neighbouring keys asks: the key before lies in the interval, and so do `count` keys from place `at` on, `len` bytes apart
-abbrev pub KeysLie : List ℕ → ℕ → ℕ → ℕ → ℕ → ℕ → Type 0
-KeysLie ci key prev at len count =
-    (prev + key ≤ length ci) × (key ≤ len) × (at + len * count ≤ length ci + (len - key)) × (length ci ≤ 32768) × (len < 65536)
+-- what the run's check asks: the same, and that there are bytes of a key and some keys
+abbrev pub RunLies : List ℕ → ℕ → ℕ → RunKeys → Type 0
+RunLies ci key prev keys = KeysLie ci key prev keys × (1 ≤ key) × (1 ≤ keys.count)
 
 -- the number in the first eight bytes of the key at a place, 0 of a shorter key
 abbrev pub lead_of : ℕ → List ℕ → ℕ → ℕ

@@ -10,7 +10,7 @@ ghost use Rattle.interval.specs.Reading.{rdfs, records_in, Checkable};
 ghost use Rattle.interval.specs.Role.{sound_free};
 ghost use Rattle.interval.specs.Bounds.{bound};
 ghost use Rattle.interval_read.specs.Verdict.{verdict_of};
-ghost use Rattle.interval_read.specs.AidWalk.{tail_of, Small, keys_at, walked, RunLies, KeysLie, lead_of, LeadsKnown};
+ghost use Rattle.interval_read.specs.AidWalk.{tail_of, Small, keys_in, walked, RunLies, KeysLie, lead_of, LeadsKnown};
 ghost use Rattle.interval_read.specs.AidOpened.{opened_of, Inside, Closable};
 
 use fields::Order;
@@ -99,44 +99,48 @@ pub(crate) fn word_below(
     key_below(ci, key, before, here)
 }
 
-// Whether the keys of `count` records of one length, the first key at place `at`, ascend after the key at place `prev`. The first eight bytes
-// of each are read once, as a number that goes along.
-pub(crate) fn rises(ci: &[u8], key: usize, prev: usize, at: usize, len: usize, count: usize) -> bool
-    requires { KeysLie ci.now key prev at len count }
-    ensures { result ≡ ascend_from (part ci.now prev key) (keys_at key ci.now at len count) }
+// Keys of records of one length that lie one after another: where the first key begins, how long each record is, and how many they are.
+#[derive(Clone, Copy)]
+pub(crate) struct RunKeys {
+    at: usize,
+    len: usize,
+    count: usize,
+}
+
+// Whether some keys ascend after the key at place `prev`. The first eight bytes of each are read once, as a number that goes along.
+pub(crate) fn rises(ci: &[u8], key: usize, prev: usize, keys: RunKeys) -> bool
+    requires { KeysLie ci.now key prev keys }
+    ensures { result ≡ ascend_from (part ci.now prev key) (keys_in key ci.now keys) }
 {
     let mut before = prev;
-    let mut here = at;
+    let mut here = keys.at;
     let mut word = lead(ci, key, prev);
-    for _ in 0..count {
+    for _ in 0..keys.count {
         let next = lead(ci, key, here);
         if !word_below(ci, key, before, here, word, next) {
             return false;
         }
         word = next;
         before = here;
-        here += len;
+        here += keys.len;
     }
     true
 }
 
 // The same for a run of an interval of which `seen` records were passed, the last of them with its key at `prev`.
-pub(crate) fn run_rises(
-    ci: &[u8],
-    key: usize,
-    seen: usize,
-    prev: usize,
-    at: usize,
-    len: usize,
-    count: usize,
-) -> bool
-    requires { RunLies ci.now key prev at len count }
-    ensures { result ≡ ascend_from (pick (eqb seen 0) [] (part ci.now prev key)) (keys_at key ci.now at len count) }
+pub(crate) fn run_rises(ci: &[u8], key: usize, seen: usize, prev: usize, keys: RunKeys) -> bool
+    requires { RunLies ci.now key prev keys }
+    ensures { result ≡ ascend_from (pick (eqb seen 0) [] (part ci.now prev key)) (keys_in key ci.now keys) }
 {
     if seen == 0 {
-        return rises(ci, key, at, at + len, len, count - 1);
+        let others = RunKeys {
+            at: keys.at + keys.len,
+            len: keys.len,
+            count: keys.count - 1,
+        };
+        return rises(ci, key, keys.at, others);
     }
-    rises(ci, key, prev, at, len, count)
+    rises(ci, key, prev, keys)
 }
 
 // The walk over the RDFs that the CIDF tells of, and over the records that they describe, which must have as many bytes as it says. The RDFs
@@ -164,7 +168,12 @@ pub(crate) fn walk(ci: &[u8], m: Measures, tail: Tail) -> Option<Verdict>
         if bytes < end {
             return None;
         }
-        if !run_rises(ci, key, seen, last + offset, at + offset, len, count) {
+        let keys = RunKeys {
+            at: at + offset,
+            len,
+            count,
+        };
+        if !run_rises(ci, key, seen, last + offset, keys) {
             return None;
         }
         last = end - len;

@@ -13,12 +13,12 @@ inside : (c : In-loop) → c.loop.here + c.args.key ≤ length c.args.ci.now
 inside c =
     let a = c.args in
     let o = c.loop in
-    omega (arith, one_less a.len (a.count - o.counter) (omega arith), o.invariant.rest)
+    omega (arith, one_less a.keys.len (a.keys.count - o.counter) (omega arith), o.invariant.rest)
 
 pub loop-init : goal.loop-init
 loop-init c =
     let a = c.args in
-    let z : a.count - 0 ≡ a.count = omega arith in
+    let z : a.keys.count - 0 ≡ a.keys.count = omega arith in
     record { before = omega arith; rest = rw z (omega arith); same = rw z; lead = c.lead-word.ensures }
 
 pub lead-next-requires : goal.lead-next-requires
@@ -35,7 +35,7 @@ returns-then-not-word_below c =
     let o = c.loop in
     sym
     (o.invariant.same
-    ∙ run-stops a.key a.ci.now (part a.ci.now o.before a.key) o.here a.len (a.count - o.counter) (omega arith)
+    ∙ run-stops a.key a.ci.now (part a.ci.now o.before a.key) o.here a.keys.len (a.keys.count - o.counter) (omega arith)
     (sym c.word_below.ensures ∙ c.if-not-word_below.true))
 
 pub overflow_add-here : goal.overflow_add-here
@@ -45,14 +45,14 @@ pub loop-preserved : goal.loop-preserved
 loop-preserved c =
     let a = c.args in
     let o = c.loop in
-    let e : a.count - o.counter - 1 ≡ a.count - (o.counter + 1) = omega arith in
-    let r : o.here + a.len + a.len * (a.count - o.counter - 1) ≤ length a.ci.now + (a.len - a.key) =
-    omega (arith, one_less a.len (a.count - o.counter) (omega arith), o.invariant.rest) in
+    let e : a.keys.count - o.counter - 1 ≡ a.keys.count - (o.counter + 1) = omega arith in
+    let r : o.here + a.keys.len + a.keys.len * (a.keys.count - o.counter - 1) ≤ length a.ci.now + (a.keys.len - a.key) =
+    omega (arith, one_less a.keys.len (a.keys.count - o.counter) (omega arith), o.invariant.rest) in
     record {
       before = inside (goal.at.loop-preserved c).In-loop;
       rest = rw e at r;
       same = o.invariant.same
-          ∙ rw e at (run_on a.key a.ci.now (part a.ci.now o.before a.key) o.here a.len (a.count - o.counter) (omega arith)
+          ∙ rw e at (run_on a.key a.ci.now (part a.ci.now o.before a.key) o.here a.keys.len (a.keys.count - o.counter) (omega arith)
           (sym c.word_below.ensures ∙ c.if-not-word_below.false));
       lead = c.lead-next.ensures;
     }
@@ -61,5 +61,5 @@ pub returns : goal.returns
 returns c =
     let a = c.args in
     let o = c.loop in
-    let z : a.count - o.counter ≡ 0 = omega arith in
+    let z : a.keys.count - o.counter ≡ 0 = omega arith in
     sym (o.invariant.same ∙ rw (z, keys_none, ascend-none))

@@ -12,8 +12,8 @@ use Rattle.interval_read.proofs.rises.Given as goal
 abbrev pub invariant-loop : goal.invariant-loop
 invariant-loop l = record {
   before : l.before + l.key ≤ length l.ci;
-  rest : l.here + l.len * (l.count - l.counter) ≤ length l.ci + (l.len - l.key);
-  same : ascend_from (part l.ci l.prev l.key) (keys_at l.key l.ci l.at l.len l.count)
-      ≡ ascend_from (part l.ci l.before l.key) (keys_at l.key l.ci l.here l.len (l.count - l.counter));
+  rest : l.here + l.keys.len * (l.keys.count - l.counter) ≤ length l.ci + (l.keys.len - l.key);
+  same : ascend_from (part l.ci l.prev l.key) (keys_at l.key l.ci l.keys.at l.keys.len l.keys.count)
+      ≡ ascend_from (part l.ci l.before l.key) (keys_at l.key l.ci l.here l.keys.len (l.keys.count - l.counter));
   lead : l.word ≡ lead_of l.key l.ci l.before;
 }

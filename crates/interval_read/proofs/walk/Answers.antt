@@ -91,11 +91,11 @@ overflow_add-last c =
     let g = group (goal.at.overflow_add-last c).In_ok-len in
     omega (arith, g.least-is, g.len, o.invariant.1.behind, o.invariant.1.inside)
 
-pub overflow_add-at : goal.overflow_add-at
-overflow_add-at c =
+pub overflow_add-keys : goal.overflow_add-keys
+overflow_add-keys c =
     let a = c.args in
     let o = c.loop-left in
-    let g = group (goal.at.overflow_add-at c).In_ok-len in
+    let g = group (goal.at.overflow_add-keys c).In_ok-len in
     omega (arith, g.least-is, g.len, o.invariant.1.inside)
 
 pub run_rises-requires : goal.run_rises-requires
@@ -104,7 +104,7 @@ run_rises-requires c =
     let o = c.loop-left in
     let g = group (goal.at.run_rises-requires c).In_ok-len in
     let one = one_less c.in_ok-len.field-0.len c.in_ok-len.field-0.count g.holds in
-    (omega (arith, g.least-is, o.invariant.1.behind, one), omega arith, omega (arith, g.least-is), g.holds, omega (arith, g.least-is), omega arith, g.len)
+    ((omega (arith, g.least-is, o.invariant.1.behind, one), omega (arith, g.least-is), omega (arith, g.least-is), omega arith, g.len), omega arith, g.holds)
 
 pub returns-then-not-run_rises : goal.returns-then-not-run_rises
 returns-then-not-run_rises c =
