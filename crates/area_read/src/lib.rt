@@ -16,7 +16,6 @@ ghost use Rattle.area.specs.Checked.{checked_of};
 ghost use Rattle.area_read.specs.AidEntries.{Closed, Counted, EntriesSound};
 
 use area::Checked;
-use index_read::Index;
 use index_step::BUFFER;
 use interval_read::Opened;
 use measures::Measures;
@@ -130,11 +129,11 @@ pub fn check(area: &[u8], m: Measures, n: usize) -> Checked
     ensures { result ≡ checked_of (read_area m n area.now) }
 {
     let size = m.size;
-    let Index::Sound { free, entries } = index_read::check(&area[..size], m.key, n) else {
+    let Some(index) = index_read::check(&area[..size], m.key, n) else {
         return Checked::Damaged { place: 0 };
     };
-    let worst = free_worst(area, &area[..size], m, n, free);
-    let tally = used_worst(area, &area[..size], m, n, worst, entries);
+    let worst = free_worst(area, &area[..size], m, n, index.free);
+    let tally = used_worst(area, &area[..size], m, n, worst, index.entries);
     if tally.worst < n {
         return Checked::Damaged {
             place: tally.worst + 1,
@@ -142,6 +141,6 @@ pub fn check(area: &[u8], m: Measures, n: usize) -> Checked
     }
     Checked::Intact {
         records: tally.records,
-        free,
+        free: index.free,
     }
 }
