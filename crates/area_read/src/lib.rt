@@ -51,15 +51,11 @@ pub(crate) fn free_worst(area: &[u8], ib: &[u8], m: Measures, n: usize, free: us
 {
     let w = measures::width_for(n);
     let mut worst = n;
-    let mut at = 24;
-    let mut left = free;
-    while 0 < left {
-        let k = fields::read_pointer(ib, at, w);
+    for i in 0..free {
+        let k = fields::read_pointer(ib, 24 + w * i, w);
         let a = (k + 1) * m.size;
         let e = a + m.size;
         worst = noted(worst, k, interval_read::free_sound(&area[a..e], m));
-        at += w;
-        left -= 1;
     }
     worst
 }
@@ -100,10 +96,9 @@ pub(crate) fn used_worst(
     let mut buf = [0u8; BUFFER];
     let mut high = [0u8; BUFFER];
     let mut p = index_step::start(ib);
-    let mut i: usize = 0;
     let mut lowest = worst;
     let mut records: usize = 0;
-    while i < entries {
+    for i in 0..entries {
         let s = index_step::entry_at(ib, w, p);
         let a = (s.number + 1) * m.size;
         let e = a + m.size;
@@ -114,8 +109,7 @@ pub(crate) fn used_worst(
         let len = p.len;
         let seen = closed(&area[a..e], m, opened, &buf[..len]);
         lowest = noted(lowest, s.number, seen.ok);
-        records = records + seen.count;
-        i += 1;
+        records += seen.count;
     }
     Tally {
         worst: lowest,

@@ -348,10 +348,8 @@ pub(crate) fn mark_free(seen: &mut [u8; LIMIT], ib: &[u8], w: usize, count: usiz
     ensures sound { result ≡ marking n seen.old (numbers_at w ib.now 24 count) }
     ensures marks { result ≡ true → seen.new ≡ seen_after seen.old (numbers_at w ib.now 24 count) }
 {
-    let mut at = 24;
-    let mut left = count;
-    while 0 < left {
-        let number = fields::read_pointer(ib, at, w);
+    for i in 0..count {
+        let number = fields::read_pointer(ib, 24 + w * i, w);
         if n <= number {
             return false;
         }
@@ -359,8 +357,6 @@ pub(crate) fn mark_free(seen: &mut [u8; LIMIT], ib: &[u8], w: usize, count: usiz
             return false;
         }
         seen[number] = 1;
-        at += w;
-        left -= 1;
     }
     true
 }
