@@ -67,14 +67,6 @@ module _ (w : ℕ) (ib : List ℕ) (e : Edge) where
         )
 
     module _ (f : l + field ≤ e.right - (w + 2)) where
-      -- for the calls
-      pub pass-lies : EntryEnds w ib e.right
-      pass-lies = (h, i, omega (arith, f, long, j))
-
-      pub pass-room : (s : Step) → s ≡ step_at w ib e.right e.end → s.front < 256 → s.len < 256
-          → (s.front + s.len ≤ 510) × (s.at ≤ length ib) × (pick s.closes 2 0 ≤ s.at)
-      pass-room s is a b = (omega arith, rw is (omega (arith, i)), rw is (omega (arith, f, long, has, j)))
-
       pub pass-is : (s : Step) → s ≡ step_at w ib e.right e.end → (q : PassPlace) → q ≡ place_past ib s (place_of e) → (x : ℕ) → x ≡ last_at ib
           → Some (met s.number (edge_of q) (eqb (e.right - (w + 2)) x)) ≡ pass_of w ib e
       unfolding pass_of
