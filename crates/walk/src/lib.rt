@@ -276,7 +276,7 @@ pub(crate) fn edge_past(ib: &[u8], n: usize, entries: usize) -> Edge
 {
     let w = measures::width_for(n);
     let mut e = index_walk::start(ib);
-    for _ in 0..entries {
+    for _i in 0..entries {
         let Some(met) = index_walk::pass(ib, w, e) else {
             return e;
         };
