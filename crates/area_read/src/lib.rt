@@ -16,7 +16,6 @@ ghost use Rattle.area.specs.Checked.{checked_of};
 ghost use Rattle.area_read.specs.AidEntries.{Closed, Counted, EntriesSound};
 
 use area::Checked;
-use index_read::Index;
 use index_step::BUFFER;
 use interval_read::Opened;
 use measures::Measures;
@@ -52,15 +51,11 @@ pub(crate) fn free_worst(area: &[u8], ib: &[u8], m: Measures, n: usize, free: us
 {
     let w = measures::width_for(n);
     let mut worst = n;
-    let mut at = 24;
-    let mut left = free;
-    while 0 < left {
-        let k = fields::read_pointer(ib, at, w);
+    for i in 0..free {
+        let k = fields::read_pointer(ib, 24 + w * i, w);
         let a = (k + 1) * m.size;
         let e = a + m.size;
         worst = noted(worst, k, interval_read::free_sound(&area[a..e], m));
-        at += w;
-        left -= 1;
     }
     worst
 }
@@ -101,10 +96,9 @@ pub(crate) fn used_worst(
     let mut buf = [0u8; BUFFER];
     let mut high = [0u8; BUFFER];
     let mut p = index_step::start(ib);
-    let mut i: usize = 0;
     let mut lowest = worst;
     let mut records: usize = 0;
-    while i < entries {
+    for i in 0..entries {
         let s = index_step::entry_at(ib, w, p);
         let a = (s.number + 1) * m.size;
         let e = a + m.size;
@@ -115,8 +109,7 @@ pub(crate) fn used_worst(
         let len = p.len;
         let seen = closed(&area[a..e], m, opened, &buf[..len]);
         lowest = noted(lowest, s.number, seen.ok);
-        records = records + seen.count;
-        i += 1;
+        records += seen.count;
     }
     Tally {
         worst: lowest,
@@ -130,11 +123,11 @@ pub fn check(area: &[u8], m: Measures, n: usize) -> Checked
     ensures { result ≡ checked_of (read_area m n area.now) }
 {
     let size = m.size;
-    let Index::Sound { free, entries } = index_read::check(&area[..size], m.key, n) else {
+    let Some(index) = index_read::check(&area[..size], m.key, n) else {
         return Checked::Damaged { place: 0 };
     };
-    let worst = free_worst(area, &area[..size], m, n, free);
-    let tally = used_worst(area, &area[..size], m, n, worst, entries);
+    let worst = free_worst(area, &area[..size], m, n, index.free);
+    let tally = used_worst(area, &area[..size], m, n, worst, index.entries);
     if tally.worst < n {
         return Checked::Damaged {
             place: tally.worst + 1,
@@ -142,6 +135,6 @@ pub fn check(area: &[u8], m: Measures, n: usize) -> Checked
     }
     Checked::Intact {
         records: tally.records,
-        free,
+        free: index.free,
     }
 }

@@ -27,10 +27,9 @@ use Rattle.index.specs.Bounds.{bound}
 use Rattle.index.specs.Meaning.{Entry, separator_before}
 use Rattle.index.specs.Rules.{bound_before}
 use Rattle.index.specs.Search.{leads_to, entry_for}
+use Rattle.std.specs.Prelude.{Option, Some}
 use Rattle.index_read.specs.Check.{sound_with, LeadWithin}
 use Rattle.index_read.specs.declared.Lead.{Lead}
-use Rattle.index_read.specs.declared.Sought.{Sought}
-use Rattle.index_read.specs.declared.Sought.TheVariants as sought
 use Rattle.index_read.proofs.Answers.{Led}
 use Rattle.area.specs.Content.{index_in, data_in}
 use Rattle.area.specs.Leads.{index_sound, entries_for, number_for, interval_for, sound_for}
@@ -97,7 +96,7 @@ leads-most key (e ∷ es) = go (less e.sep (take (length e.sep) key)) (leads-mos
 -- ---- what the index record told
 
 -- what was found lies within its limits
-pub spot-within : (n K : ℕ) (r : Sought) (spot : Lead) → r ≡ sought.At spot → LeadWithin n K r → (spot.number < n) × (spot.before ≤ K) × (spot.own ≤ K)
+pub spot-within : (n K : ℕ) (r : Option Lead) (spot : Lead) → r ≡ Some spot → LeadWithin n K r → (spot.number < n) × (spot.before ≤ K) × (spot.own ≤ K)
 spot-within n K r spot e w = rw e at w
 
 -- the index record is unsound

@@ -9,7 +9,6 @@ ghost use Rattle.interval.specs.Reading.{Checkable};
 ghost use Rattle.interval.specs.Role.{sound_used};
 ghost use Rattle.area_seek.specs.AidLooked.{looked_of, Inside};
 
-use index_read::Sought;
 use interval::Found;
 use interval_read::Opened;
 use measures::Measures;
@@ -45,7 +44,7 @@ pub fn look_up(area: &[u8], m: Measures, n: usize, key: &[u8]) -> Looked
     let size = m.size;
     let mut before = [0u8; LONGEST];
     let mut own = [0u8; LONGEST];
-    let Sought::At(spot) = index_read::seek(&area[..size], key, n, &mut before, &mut own) else {
+    let Some(spot) = index_read::seek(&area[..size], key, n, &mut before, &mut own) else {
         return Looked::Damaged { place: 0 };
     };
     let b = spot.before;

@@ -14,7 +14,6 @@ ghost use Rattle.requests.specs.Reading.{check_of, get_of, get_at_of};
 ghost use Rattle.requests.specs.Changing.{insert_of, update_of, erase_of};
 ghost use Rattle.exports.specs.Values.{values, values_told, index_told, Told, Given, Made, place_in};
 
-use index_read::Index;
 use interval::Found;
 use measures::Measures;
 use requests::Answer;
@@ -295,17 +294,13 @@ pub extern "C" fn belquita_index(
     requires { (31 ≤ length ib.now) × (length ib.now ≤ 32768) × (1 ≤ key) × (key ≤ 255) × (n ≤ limit) }
     ensures { values result free.new entries.new ≡ index_told (index_of key n ib.now) }
 {
-    let Index::Sound {
-        free: f,
-        entries: e,
-    } = index_read::check(ib, key, n)
-    else {
+    let Some(index) = index_read::check(ib, key, n) else {
         *free = 0;
         *entries = 0;
         return 0;
     };
-    *free = f;
-    *entries = e;
+    *free = index.free;
+    *entries = index.entries;
     1
 }
 

@@ -36,8 +36,7 @@ pub fn locate(ib: &[u8], n: usize, key: &[u8]) -> Located
     let mut buf = [0u8; BUFFER];
     let mut high = [0u8; BUFFER];
     let mut p = index_step::start(ib);
-    let mut i = 0;
-    while i < n {
+    for i in 0..n {
         let s = index_step::entry_at(ib, w, p);
         index_step::renew(&mut buf, &mut high, ib, s);
         if !is_below(&buf, key, s.front + s.len) {
@@ -47,10 +46,6 @@ pub fn locate(ib: &[u8], n: usize, key: &[u8]) -> Located
             };
         }
         p = index_step::past(ib, s, p);
-        i += 1;
     }
-    Located {
-        ordinal: 0,
-        number: 0,
-    }
+    unreachable!()
 }

@@ -70,13 +70,6 @@ pub fn entry_at(ib: &[u8], w: usize, p: PassPlace) -> Step
     }
 }
 
-// What is left of a when b is taken from it, nothing where b is more.
-pub(crate) fn less(a: usize, b: usize) -> usize
-    ensures { result ≡ a - b }
-{
-    if b < a { a - b } else { 0 }
-}
-
 // Where the pass stands past an entry. Before a section's highest stands the field that leads to the next one's; a field that leads out of the record leads to
 // its first byte, where no entry is.
 pub fn past(ib: &[u8], s: Step, p: PassPlace) -> PassPlace
@@ -95,7 +88,7 @@ pub fn past(ib: &[u8], s: Step, p: PassPlace) -> PassPlace
     let right = s.at - 2;
     PassPlace {
         right,
-        end: less(p.end, fields::read_two(ib, right)),
+        end: p.end.saturating_sub(fields::read_two(ib, right)),
         len,
         high: len,
     }

@@ -17,7 +17,6 @@ ghost use Rattle.register.specs.AidChange.{change_for, change_at, MakesKeyed, ai
 use area_find::{KeyPlace, Lying};
 use area_seek::Looked;
 use change_write::Made;
-use index_read::Index;
 use interval::Found;
 use interval_edit::Site;
 use measures::{Judged, Measures, Numbers};
@@ -64,11 +63,7 @@ pub(crate) fn wrong_length(area: &[u8], m: Measures, n: usize) -> Answer
     ensures { result ≡ pick (index_sound m n area.now) WrongLength (Damaged 0) }
 {
     let size = m.size;
-    let Index::Sound {
-        free: _,
-        entries: _,
-    } = index_read::check(&area[..size], m.key, n)
-    else {
+    let Some(_) = index_read::check(&area[..size], m.key, n) else {
         return Answer::Damaged(0);
     };
     Answer::WrongLength

@@ -9,6 +9,7 @@ use lib.Dec.{eqb, ltb}
 use native.Mathlib.Omega.{arith}
 use native.Mathlib.Numerals.{add-one}
 use borrow.Author.Tests.{eq-eqb, ne_eqb, ltb-true, ltb-false, lt-ltb, le-ltb, lt-leb}
+use Rattle.std.specs.Prelude.{Some}
 use Rattle.fields.specs.Choice.{pick}
 use Rattle.fields.specs.Bytes.{part, number}
 use Rattle.fields.proofs.Splices.{part-part}
@@ -26,8 +27,7 @@ use Rattle.interval_walk.specs.AidSpots.{spot, first_of, last_of, SpotOf}
 use Rattle.interval_walk.proofs.Standing.{stands-long, stands-inside}
 use Rattle.interval_walk.proofs.Stepping.{first-stands, first-none, last-stands, empty-displacement}
 use Rattle.index_walk.specs.declared.Edge.{Edge}
-use Rattle.index_walk.specs.declared.Met.TheVariants.{Entry}
-use Rattle.index_walk.specs.AidPasses.{edge, edge_first, pass_of}
+use Rattle.index_walk.specs.AidPasses.{edge, edge_first, pass_of, met}
 use Rattle.requests.specs.Walks.{items_of}
 use Rattle.requests.proofs.Items.{none, item-at}
 use Rattle.walk.specs.declared.Place.{Place}
@@ -168,13 +168,13 @@ module _ (m : Measures) (n : ℕ) (area : List ℕ) (fits : Fits m n (length are
           let x : suc i ≡ i + 1 = omega arith in
           rw (← y, ← x) again
 
-      met : (h : i < length fs) → Stood m n area c true (before fs (suc i)) (ahead_of k area m.size n (suc i) (edge_at m n area (suc i))) → (ws : List (List ℕ)) → records_in (data_of m area c i) ≡ ws
-          → end (ahead_by later area m.size n i (Entry (num_at c i) (passed i h).next (eqb (suc i) (length fs))))
-      met h again [] e =
+      one : (h : i < length fs) → Stood m n area c true (before fs (suc i)) (ahead_of k area m.size n (suc i) (edge_at m n area (suc i))) → (ws : List (List ℕ)) → records_in (data_of m area c i) ≡ ws
+          → end (ahead_by later area m.size n i (Some (met (num_at c i) (passed i h).next (eqb (suc i) (length fs)))))
+      one h again [] e =
           let d = held_at m n area fits c w i h in
           let z : (first_of (data_of m area c i)).len ≡ 0 = first-none m (data_of m area c i) d.reads e in
           rw (lt-leb n (num_at c i) d.within, z, edge-suc i h) (pass_on h (ap length (d.records ∙ e)) again)
-      met h again (x ∷ ws) e =
+      one h again (x ∷ ws) e =
           let d = held_at m n area fits c w i h in
           let t : SpotOf m (data_of m area c i) true (first_of (data_of m area c i)) 0 = first-stands m (data_of m area c i) d.reads (omega (arith, ap length e)) in
           let l : 0 < (first_of (data_of m area c i)).len = stands-long m (data_of m area c i) d.reads true (first_of (data_of m area c i)) 0 t in
@@ -190,7 +190,7 @@ module _ (m : Measures) (n : ℕ) (area : List ℕ) (fits : Fits m n (length are
           → end (pick (eqb (edge_at m n area i).right 0) end_place (ahead_by later area m.size n i (pass_of (width_for n) (index_in m area) (edge_at m n area i))))
       go true e again =
           let h : i < length fs = ltb-true i (length fs) e in
-          rw (ne_eqb (edge_at m n area i).right 0 (omega (arith, (passed i h).some)), (passed i h).met) (met h (again h) (records_in (data_of m area c i)) refl)
+          rw (ne_eqb (edge_at m n area i).right 0 (omega (arith, (passed i h).some)), (passed i h).met) (one h (again h) (records_in (data_of m area c i)) refl)
       go false e again =
           let z : i ≡ length fs = omega (arith, ltb-false i (length fs) e) in
           rw (eq-eqb (edge_at m n area i).right 0 (edge_none i some z))

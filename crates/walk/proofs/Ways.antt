@@ -10,6 +10,7 @@ use native.Mathlib.Omega.{arith}
 use native.Mathlib.Nat.{le-div_iff_mul-le, mul-le-mul_left, mul-le-mul_right, div-mul-le_self}
 use borrow.Author.Tests.{ltb-false, eq-eqb, ne_eqb, lt-ltb, le-ltb, lt-leb, le-leb}
 use denote.Ref.{Bor}
+use Rattle.std.specs.Prelude.{Some, None}
 use Rattle.fields.specs.Choice.{pick, either}
 use Rattle.fields.specs.Bytes.{Octets, part, number}
 use Rattle.fields.proofs.Numbers.{number-below}
@@ -21,8 +22,7 @@ use Rattle.interval_walk.specs.AidSpots.{first_of, last_of, after_of, before_of,
 use Rattle.interval_walk.proofs.Landing.{last-start}
 use Rattle.interval_walk.proofs.Stepping.{first-stands, first-none, after-stands, after_none}
 use Rattle.index_walk.specs.declared.Edge.{Edge}
-use Rattle.index_walk.specs.declared.Met.TheVariants.{Entry, Nothing}
-use Rattle.index_walk.specs.AidPasses.{edge, edge_first, pass_of}
+use Rattle.index_walk.specs.AidPasses.{edge, edge_first, pass_of, met}
 use Rattle.walk.specs.declared.Place.{Place}
 use Rattle.walk.specs.declared.Filled.{Filled}
 use Rattle.walk.specs.AidSteps.{end_place, count_in, index_at, data_at, placed_of, beyond_of, edge_past_of, ahead_of, filled, filled_from, last_filled_of, behind_at, along_to, along_of, edge_in, spot_in, leave_in, leave_of, next_of, outside, Shown, behind_of, end_in}
@@ -96,7 +96,7 @@ module _ (m : Measures) (ci : List ℕ) (r : Readable m ci) where
 
 module _ (w : ℕ) (ib : List ℕ) where
   -- no further than where none can be read
-  edge-stops : (i k : ℕ) → pass_of w ib (edge_past_of w ib i) ≡ Nothing → edge_past_of w ib (i + k) ≡ edge_past_of w ib i
+  edge-stops : (i k : ℕ) → pass_of w ib (edge_past_of w ib i) ≡ None → edge_past_of w ib (i + k) ≡ edge_past_of w ib i
   unfolding edge_past_of
   edge-stops i zero e = let z : i + 0 ≡ i = omega arith in rw z
   edge-stops i (suc k) e =
@@ -107,12 +107,12 @@ module _ (w : ℕ) (ib : List ℕ) where
   unfolding edge_past_of
   edge-start = refl
 
-  pub stops : (i k : ℕ) (e : Edge) → e ≡ edge_past_of w ib i → i ≤ k → pass_of w ib e ≡ Nothing → e ≡ edge_past_of w ib k
+  pub stops : (i k : ℕ) (e : Edge) → e ≡ edge_past_of w ib i → i ≤ k → pass_of w ib e ≡ None → e ≡ edge_past_of w ib k
   stops i k e is l none =
       let z : i + (k - i) ≡ k = omega arith in
       is ∙ sym (edge-stops i (k - i) (rw is at none)) ∙ ap (edge_past_of w ib) z
 
-  pub edge_on : (i : ℕ) (e : Edge) → e ≡ edge_past_of w ib i → (num : ℕ) (next : Edge) (last : Bool) → pass_of w ib e ≡ Entry num next last → beyond_of last next ≡ edge_past_of w ib (i + 1)
+  pub edge_on : (i : ℕ) (e : Edge) → e ≡ edge_past_of w ib i → (num : ℕ) (next : Edge) (last : Bool) → pass_of w ib e ≡ Some (met num next last) → beyond_of last next ≡ edge_past_of w ib (i + 1)
   unfolding edge_past_of
   edge_on i e is num next last met = let z : i + 1 ≡ suc i = omega arith in rw (z, ← is, met)
 
@@ -150,11 +150,11 @@ module _ (area : List ℕ) (size n i : ℕ) (e : Edge) where
     ahead-ended h = rw (one_less, eq-eqb e.right 0 h)
 
     module _ (some : e.right ≡ 0 → ⊥) where
-      pub ahead-nothing : pass_of (width_for n) (index_at size area) e ≡ Nothing → end_place ≡ ahead_of (n - i) area size n i e
+      pub ahead-nothing : pass_of (width_for n) (index_at size area) e ≡ None → end_place ≡ ahead_of (n - i) area size n i e
       unfolding ahead_of
       ahead-nothing h = rw (one_less, ne_eqb e.right 0 some, h)
 
-      module _ (num : ℕ) (next : Edge) (last : Bool) (met : pass_of (width_for n) (index_at size area) e ≡ Entry num next last) where
+      module _ (num : ℕ) (next : Edge) (last : Bool) (met : pass_of (width_for n) (index_at size area) e ≡ Some (met num next last)) where
         pub ahead-far : n ≤ num → end_place ≡ ahead_of (n - i) area size n i e
         unfolding ahead_of
         ahead-far h = rw (one_less, ne_eqb e.right 0 some, met, le-leb n num h)
@@ -179,11 +179,11 @@ module _ (area : List ℕ) (size n i k : ℕ) (e : Edge) (f : Filled) where
     one_fewer : k - i ≡ suc (k - (i + 1))
     one_fewer = omega arith
 
-    pub filled-nothing : pass_of (width_for n) (index_at size area) e ≡ Nothing → f ≡ filled_from (k - i) area size n i e f
+    pub filled-nothing : pass_of (width_for n) (index_at size area) e ≡ None → f ≡ filled_from (k - i) area size n i e f
     unfolding filled_from
     filled-nothing h = rw (one_fewer, h)
 
-    module _ (num : ℕ) (next : Edge) (last : Bool) (met : pass_of (width_for n) (index_at size area) e ≡ Entry num next last) where
+    module _ (num : ℕ) (next : Edge) (last : Bool) (met : pass_of (width_for n) (index_at size area) e ≡ Some (met num next last)) where
       pub filled-far : n ≤ num → f ≡ filled_from (k - i) area size n i e f
       unfolding filled_from
       filled-far h = rw (one_fewer, met, le-leb n num h)

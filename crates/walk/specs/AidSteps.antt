@@ -1,5 +1,5 @@
 -- Aids: the steps of a walk for any bytes, any size and any place. What is believed of them is said in `walk-gives`, over `walk_of` of crate requests: document 02, L1.
-use Rattle.std.specs.Prelude.{ℕ, zero, suc, ◌+◌, ◌-◌, ◌*◌, ◌/◌, ◌≡◌, Bool, true, false, List, [], length, take, eqb, leb, ltb}
+use Rattle.std.specs.Prelude.{ℕ, zero, suc, ◌+◌, ◌-◌, ◌*◌, ◌/◌, ◌≡◌, Bool, true, false, Option, Some, None, List, [], length, take, eqb, leb, ltb}
 use Rattle.std.specs.Borrow.{Bor}
 use Rattle.fields.specs.Choice.{pick, either}
 use Rattle.fields.specs.Bytes.{number, part}
@@ -8,7 +8,6 @@ use Rattle.interval_walk.specs.declared.Spot.{Spot}
 use Rattle.interval_walk.specs.AidSpots.{spot, first_of, last_of, after_of, before_of}
 use Rattle.index_walk.specs.declared.Edge.{Edge}
 use Rattle.index_walk.specs.declared.Met.{Met}
-use Rattle.index_walk.specs.declared.Met.TheVariants.{Entry, Nothing}
 use Rattle.index_walk.specs.AidPasses.{edge, edge_first, pass_of}
 use Rattle.walk.specs.declared.Place.{Place}
 use Rattle.walk.specs.declared.Filled.{Filled}
@@ -39,9 +38,9 @@ abbrev pub beyond_of : Bool → Edge → Edge
 beyond_of last next = edge (pick last 0 next.right) next.end
 
 -- past the entry that was met; no further where none was
-abbrev pub past_by : Edge → Met → Edge
-past_by e Nothing = e
-past_by e (Entry num next last) = beyond_of last next
+abbrev pub past_by : Edge → Option Met → Edge
+past_by e None = e
+past_by e (Some m) = beyond_of m.last m.next
 
 -- past the first so many entries of an index record
 unfoldable pub edge_past_of : ℕ → List ℕ → ℕ → Edge
@@ -51,12 +50,12 @@ edge_past_of w ib (suc k) = past_by (edge_past_of w ib k) (pass_of w ib (edge_pa
 -- ---- to another interval
 
 -- the entry that was passed, of which `later` gives the first record of those after it
-abbrev pub ahead_by : (Edge → Place) → List ℕ → ℕ → ℕ → ℕ → Met → Place
-ahead_by later area size n i Nothing = end_place
-ahead_by later area size n i (Entry num next last) =
-    pick (leb n num) end_place
-    (pick (ltb 0 (first_of (data_at size area num)).len) (placed_of (first_of (data_at size area num)) ((num + 1) * size) i (beyond_of last next))
-    (later (beyond_of last next)))
+abbrev pub ahead_by : (Edge → Place) → List ℕ → ℕ → ℕ → ℕ → Option Met → Place
+ahead_by later area size n i None = end_place
+ahead_by later area size n i (Some m) =
+    pick (leb n m.number) end_place
+    (pick (ltb 0 (first_of (data_at size area m.number)).len) (placed_of (first_of (data_at size area m.number)) ((m.number + 1) * size) i (beyond_of m.last m.next))
+    (later (beyond_of m.last m.next)))
 
 -- the first record of entries from i on, of which there are k at the most
 unfoldable pub ahead_of : ℕ → List ℕ → ℕ → ℕ → ℕ → Edge → Place
@@ -68,10 +67,10 @@ abbrev pub filled : ℕ → ℕ → Filled
 filled entry place = record { entry = entry; place = place }
 
 -- the entry that was passed, then those after it
-abbrev pub filled_by : (Edge → Filled → Filled) → List ℕ → ℕ → ℕ → ℕ → Met → Filled → Filled
-filled_by later area size n i Nothing found = found
-filled_by later area size n i (Entry num next last) found =
-    pick (leb n num) found (later next (pick (eqb (number 2 area ((num + 2) * size - 4)) 0) found (filled i (num + 1))))
+abbrev pub filled_by : (Edge → Filled → Filled) → List ℕ → ℕ → ℕ → ℕ → Option Met → Filled → Filled
+filled_by later area size n i None found = found
+filled_by later area size n i (Some m) found =
+    pick (leb n m.number) found (later m.next (pick (eqb (number 2 area ((m.number + 2) * size - 4)) 0) found (filled i (m.number + 1))))
 
 -- the last of k entries from i on whose interval has records, or what was found before
 unfoldable pub filled_from : ℕ → List ℕ → ℕ → ℕ → ℕ → Edge → Filled → Filled

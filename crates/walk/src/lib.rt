@@ -17,7 +17,7 @@ ghost use Rattle.walk.specs.AidStands.{before, StoodIn, Sits, from_found, upto_f
 ghost use Rattle.walk.specs.AidStands.{begun_from};
 
 use area_find::KeyPlace;
-use index_walk::{Edge, Met};
+use index_walk::Edge;
 use interval::Found;
 use interval_walk::Spot;
 use measures::{Measures, Numbers};
@@ -96,21 +96,21 @@ pub(crate) fn ahead(area: &[u8], size: usize, n: usize, entry: usize, from: Edge
 {
     let w = measures::width_for(n);
     let mut e = from;
-    let mut i = entry;
-    while i < n {
+    for i in entry..n {
         if e.right == 0 {
             return ended();
         }
-        let Met::Entry { number, next, last } = index_walk::pass(&area[..size], w, e) else {
+        let Some(met) = index_walk::pass(&area[..size], w, e) else {
             return ended();
         };
+        let number = met.number;
         if n <= number {
             return ended();
         }
-        let right = if last { 0 } else { next.right };
+        let right = if met.last { 0 } else { met.next.right };
         let beyond = Edge {
             right,
-            end: next.end,
+            end: met.next.end,
         };
         let a = (number + 1) * size;
         let z = a + size;
@@ -119,7 +119,6 @@ pub(crate) fn ahead(area: &[u8], size: usize, n: usize, entry: usize, from: Edge
             return placed(s, a, i, beyond);
         }
         e = beyond;
-        i += 1;
     }
     ended()
 }
@@ -139,17 +138,12 @@ pub(crate) fn last_filled(area: &[u8], size: usize, n: usize, entries: usize) ->
 {
     let w = measures::width_for(n);
     let mut e = index_walk::start(&area[..size]);
-    let mut i = 0;
     let mut found = Filled { entry: 0, place: 0 };
-    while i < entries {
-        let Met::Entry {
-            number,
-            next,
-            last: _,
-        } = index_walk::pass(&area[..size], w, e)
-        else {
+    for i in 0..entries {
+        let Some(met) = index_walk::pass(&area[..size], w, e) else {
             return found;
         };
+        let number = met.number;
         if n <= number {
             return found;
         }
@@ -160,8 +154,7 @@ pub(crate) fn last_filled(area: &[u8], size: usize, n: usize, entries: usize) ->
                 place: number + 1,
             };
         }
-        e = next;
-        i += 1;
+        e = met.next;
     }
     found
 }
@@ -283,22 +276,15 @@ pub(crate) fn edge_past(ib: &[u8], n: usize, entries: usize) -> Edge
 {
     let w = measures::width_for(n);
     let mut e = index_walk::start(ib);
-    let mut i = 0;
-    while i < entries {
-        let Met::Entry {
-            number: _,
-            next,
-            last,
-        } = index_walk::pass(ib, w, e)
-        else {
+    for _i in 0..entries {
+        let Some(met) = index_walk::pass(ib, w, e) else {
             return e;
         };
-        let right = if last { 0 } else { next.right };
+        let right = if met.last { 0 } else { met.next.right };
         e = Edge {
             right,
-            end: next.end,
+            end: met.next.end,
         };
-        i += 1;
     }
     e
 }

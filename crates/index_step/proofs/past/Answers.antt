@@ -36,4 +36,4 @@ read_two-requires c = omega (arith, c.requires.1, two-there c.before)
 -- src/lib.rt:80:1
 pub returns : goal.returns
 returns c =
-    rw (closes-there c.before.before.before, c.less.ensures, c.read_two.ensures.0)
+    rw (closes-there c.before.before.before, c.saturating_sub.ensures, c.read_two.ensures.0)

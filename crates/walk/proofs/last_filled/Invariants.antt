@@ -10,5 +10,3 @@ abbrev pub invariant-loop-i : goal.invariant-loop-i
 invariant-loop-i l =
     (l.w ≡ width_for l.n) × (last_filled_of l.area l.size l.n l.entries ≡ filled_from (l.entries - l.i) l.area l.size l.n l.i l.e l.found) × (l.found.place ≤ l.n)
 
-abbrev pub decreases-loop-i : goal.decreases-loop-i
-decreases-loop-i l = l.entries - l.i
