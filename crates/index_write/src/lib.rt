@@ -265,32 +265,15 @@ pub(crate) fn divide_by(ib: &mut [u8], n: usize, i: usize, bytes: &[u8], cuts: C
     fields::write_two(ib, 22, pen.first);
 }
 
-pub(crate) fn divide_small(ib: &mut [u8], n: usize, i: usize, bytes: &[u8], cuts: Cuts)
+// Out of line, so that a caller's frame has no room for the copies that other sizes ask for.
+#[inline(never)]
+fn divide_sized<const N: usize>(ib: &mut [u8], n: usize, i: usize, bytes: &[u8], cuts: Cuts)
     requires divisible { Divisible n i (cuts_in cuts bytes.now) ib.old × CutsLie cuts bytes.now }
     requires room { index_size (width_for n) (new_record n ib.old i cuts bytes.now) ≤ length ib.old - 7 }
-    requires short { length ib.old ≤ 512 }
+    requires short { (length ib.old ≤ N) × (N ≤ 32768) }
     ensures { ib.new ≡ index_bytes (width_for n) (length ib.old) (new_record n ib.old i cuts bytes.now) }
 {
-    let mut old = [0u8; 512];
-    divide_by(ib, n, i, bytes, cuts, &mut old)
-}
-
-pub(crate) fn divide_middling(ib: &mut [u8], n: usize, i: usize, bytes: &[u8], cuts: Cuts)
-    requires divisible { Divisible n i (cuts_in cuts bytes.now) ib.old × CutsLie cuts bytes.now }
-    requires room { index_size (width_for n) (new_record n ib.old i cuts bytes.now) ≤ length ib.old - 7 }
-    requires short { length ib.old ≤ 4096 }
-    ensures { ib.new ≡ index_bytes (width_for n) (length ib.old) (new_record n ib.old i cuts bytes.now) }
-{
-    let mut old = [0u8; 4096];
-    divide_by(ib, n, i, bytes, cuts, &mut old)
-}
-
-pub(crate) fn divide_large(ib: &mut [u8], n: usize, i: usize, bytes: &[u8], cuts: Cuts)
-    requires divisible { Divisible n i (cuts_in cuts bytes.now) ib.old × CutsLie cuts bytes.now }
-    requires room { index_size (width_for n) (new_record n ib.old i cuts bytes.now) ≤ length ib.old - 7 }
-    ensures { ib.new ≡ index_bytes (width_for n) (length ib.old) (new_record n ib.old i cuts bytes.now) }
-{
-    let mut old = [0u8; 32768];
+    let mut old = [0u8; N];
     divide_by(ib, n, i, bytes, cuts, &mut old)
 }
 
@@ -301,12 +284,12 @@ pub fn divide(ib: &mut [u8], n: usize, i: usize, bytes: &[u8], cuts: Cuts)
     ensures { ib.new ≡ index_bytes (width_for n) (length ib.old) (new_record n ib.old i cuts bytes.now) }
 {
     if ib.len() <= 512 {
-        divide_small(ib, n, i, bytes, cuts);
+        divide_sized::<512>(ib, n, i, bytes, cuts);
         return;
     }
     if ib.len() <= 4096 {
-        divide_middling(ib, n, i, bytes, cuts);
+        divide_sized::<4096>(ib, n, i, bytes, cuts);
         return;
     }
-    divide_large(ib, n, i, bytes, cuts);
+    divide_sized::<32768>(ib, n, i, bytes, cuts);
 }
