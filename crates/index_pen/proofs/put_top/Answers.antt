@@ -28,7 +28,7 @@ room c =
 pub returns-then-b-le7 : goal.returns-then-b-le7
 returns-then-b-le7 c =
     let a = c.args in
-    let told = top-counted a.b.now a.pen a.sep.now a.front a.number c.fewer.result c.fewer.ensures c.requires.1 c.if-b-le7.true in record { is = told.0; bytes = told.1 }
+    let told = top-counted a.b.now a.pen a.sep.now a.front a.number c.min.result c.min.ensures c.requires.1 c.if-b-le7.true in record { is = told.0; bytes = told.1 }
 
 pub overflow_sub-r : goal.overflow_sub-r
 overflow_sub-r c = omega (arith, room c.before)
@@ -47,13 +47,13 @@ overflow_sub-r-3 c = omega (arith, room c.before.before.before.before.before.bef
 pub link-requires : goal.link-requires
 link-requires c =
     let a = c.args in
-    top-fits a.b.now a.pen a.sep.now a.front a.number c.fewer.result c.fewer.ensures c.requires.1 c.requires.0 (stores c.before.before.before.before.before.before.before.before)
+    top-fits a.b.now a.pen a.sep.now a.front a.number c.min.result c.min.ensures c.requires.1 c.requires.0 (stores c.before.before.before.before.before.before.before.before)
     c.put_piece.new.b c.put_piece.auto.b
 
 pub returns : goal.returns
 returns c =
     let a = c.args in
-    let told = top-stored a.b.now a.pen a.sep.now a.front a.number c.fewer.result c.fewer.ensures c.requires.1 (stores c.before.before.before.before.before.before.before.before.before.before.before)
+    let told = top-stored a.b.now a.pen a.sep.now a.front a.number c.min.result c.min.ensures c.requires.1 (stores c.before.before.before.before.before.before.before.before.before.before.before)
     c.put_piece.new.b c.put_piece.auto.b
     (piece_is a.b.now a.pen a.sep.now a.front a.number c.put_piece.new.b c.put_piece.ensures)
     c.link.result c.link.new.b c.link.ensures.is c.link.ensures.bytes in record { is = told.0; bytes = told.1 }
