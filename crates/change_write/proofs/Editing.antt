@@ -1,12 +1,11 @@
 -- An edit from its lengths to what is made of it: the interval can be read, the lengths told there are the edited records', and what the plan refuses or makes is
 -- the edit refused or made.
 use Prim.Native.Nat.{ℕ, ◌+◌, ◌-◌, ◌*◌, ◌≤◌}
-use mathlib.Core.Path.{◌≡◌, refl, ◌∙◌, sym, ap, subst}
-use mathlib.Core.List.{List, [], ◌∷◌, map}
-use mathlib.Core.Logic.{⊎_elim}
+use mathlib.Core.Path.{◌≡◌, refl, ◌∙◌, sym, ap}
+use mathlib.Core.List.{List, map}
 use lib.ListN.{length, take, drop}
 use native.Mathlib.Omega.{arith}
-use Rattle.std.specs.Prelude.{Result, Ok, Err}
+use Rattle.std.specs.Prelude.{Result, Ok}
 use Rattle.fields.specs.Bytes.{splice}
 use Rattle.fields.proofs.Splices.{take-front}
 use Rattle.measures.specs.Judgement.{limit}
@@ -20,29 +19,14 @@ use Rattle.interval_edit.proofs.Edits.{swapped-lens}
 use Rattle.area.specs.Content.{Content, data_in}
 use Rattle.area.proofs.Places.{data-ends, data-small, lent-data}
 use Rattle.change.specs.Parts.{Edit}
-use Rattle.change.specs.Plan.{Plan, no_interval, no_room, stores, plan_of}
+use Rattle.change.specs.Plan.{plan_of}
 use Rattle.change_plan.specs.AidEdited.{edit_at, Edits, edited_records, Told, Seen}
-use Rattle.change_plan.specs.AidPlanned.{spread_for, planned_as, PlannedAs}
+use Rattle.change_plan.specs.AidPlanned.{spread_for, PlannedAs}
 use Rattle.change_plan.specs.declared.Spread.{Spread}
 use Rattle.change_plan.proofs.Telling.{told-seen}
 use Rattle.change_write.specs.AidStored.{Countable}
-use Rattle.change_write.specs.AidCarried.{made_of, left_by, Applied, MadeEdit}
 use Rattle.change.specs.declared.Full.{Full}
-use Rattle.change.specs.declared.Written.{Written}
 use Rattle.change_write.proofs.Carrying.{is-ready}
-
--- ---- why a plan was refused
-
-refused_as : (q : Plan) (x : Spread) (f : Full) → Err f ≡ planned_as q x → (made_of q ≡ Err f) × ((m : Measures) (area : List ℕ) → left_by m area q ≡ area)
-refused_as no_interval x f e = (ap (λ (g : Full). Err g) (cc), λ m area. refl)
-refused_as no_room x f e = (ap (λ (g : Full). Err g) (cc), λ m area. refl)
-refused_as (stores ss) x f e = absurd (cc)
-
-module _ (m : Measures) (n : ℕ) (area : List ℕ) (site : Site) (e : Edit) where
-  pub refused : (r : Result Spread Full) (f : Full) → PlannedAs m n area site e r → r ≡ Err f → MadeEdit m n area e (Err f) area
-  refused r f p q c w =
-      let k = refused_as (plan_of m c e) (spread_for m c site e) f (sym q ∙ p c w) in
-      record { answers = sym k.0; leaves = sym (k.1 m area) }
 
 module _ (m : Measures) (n : ℕ) (area : List ℕ) (site : Site) (new : List ℕ) (d : Edits m n area site (fresh_in new)) where
   abbrev a : ℕ
@@ -108,9 +92,3 @@ module _ (m : Measures) (n : ℕ) (area : List ℕ) (site : Site) (new : List �
 
     pub at_told : Told m n area s.site new lens
     at_told = rw site-is t
-
-    pub at-planned : PlannedAs m n area s.site (edit_at s.site (fresh_in new)) (Ok s)
-    at-planned = subst (λ (x : Site). PlannedAs m n area x (edit_at x (fresh_in new)) (Ok s)) (sym site-is) (λ c w. sym q ∙ p c w)
-
-    pub made_at : (k : Written) (after : List ℕ) → Applied m n area (edit_at s.site (fresh_in new)) k after → MadeEdit m n area (edit_at site (fresh_in new)) (Ok k) after
-    made_at k after x = subst (λ (y : Site). Applied m n area (edit_at y (fresh_in new)) k after) site-is x

@@ -272,7 +272,13 @@ pub(crate) fn change_by(
 
 // Out of line, so that a caller's frame has no room for the buffers that other intervals ask for.
 #[inline(never)]
-fn change_sized<const N: usize>(area: &mut [u8], m: Measures, n: usize, site: Site, new: &[u8]) -> Result<Written, Full>
+fn change_sized<const N: usize>(
+    area: &mut [u8],
+    m: Measures,
+    n: usize,
+    site: Site,
+    new: &[u8],
+) -> Result<Written, Full>
     requires edits { Edits m n area.old site (fresh_in new.now) }
     requires long { (length (records_in (data_in m area.old site.number)) + 1 ≤ N) × (N ≤ 32768) }
     ensures { MadeEdit m n area.old (edit_at site (fresh_in new.now)) result area.new }
@@ -283,7 +289,13 @@ fn change_sized<const N: usize>(area: &mut [u8], m: Measures, n: usize, site: Si
 
 // The records that go at a site make way for the new one, or for none where no bytes are handed over. The buffer for the lengths is as long as
 // the interval's bytes ask for.
-pub fn change(area: &mut [u8], m: Measures, n: usize, site: Site, new: &[u8]) -> Result<Written, Full>
+pub fn change(
+    area: &mut [u8],
+    m: Measures,
+    n: usize,
+    site: Site,
+    new: &[u8],
+) -> Result<Written, Full>
     requires { Edits m n area.old site (fresh_in new.now) }
     ensures { MadeEdit m n area.old (edit_at site (fresh_in new.now)) result area.new }
 {
