@@ -7,7 +7,7 @@ use lib.ListN.{length, get_or, take, drop, length-drop}
 use lib.Seq.{length-take-le, get_or-take}
 use native.Mathlib.Omega.{arith}
 use borrow.Author.Tests.{eqb-true, eqb-false, lt-ltb}
-use Rattle.std.specs.Prelude.{Result, Ok, Err}
+use Rattle.std.specs.Prelude.{Ok, Err}
 use Rattle.fields.specs.Choice.{pick}
 use Rattle.fields.proofs.Choices.{false-true}
 use Rattle.measures.specs.Judgement.{width_for}
@@ -20,7 +20,6 @@ use Rattle.area.specs.Content.{Content, width_in}
 use Rattle.area.specs.Reading.{read_area, whole}
 use Rattle.change.specs.Parts.{Edit, divided, taken}
 use Rattle.change.specs.Plan.{Plan, index_after}
-use Rattle.change.specs.declared.Full.{Full}
 use Rattle.change.specs.declared.Full.TheVariants.{NoInterval, NoRoom}
 use Rattle.change.proofs.Planning.{refuse-interval, refuse-room, make-stores}
 use Rattle.index_write.specs.AidStream.{CutsLie, cuts_in}

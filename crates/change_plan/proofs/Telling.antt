@@ -3,7 +3,6 @@ use Prim.Native.Nat.{ℕ, zero, suc, ◌+◌, ◌-◌, ◌*◌, ◌≤◌, ◌<�
 use mathlib.Core.Path.{◌≡◌, refl, ◌∙◌, sym, ap}
 use mathlib.Core.Bool.{true, false}
 use mathlib.Core.List.{List, [], ◌∷◌, map}
-use mathlib.Core.Logic.{⊎_elim}
 use lib.ListN.{length, take, drop, length-map, length-drop}
 use lib.Seq.{take_all, drop-drop}
 use native.Mathlib.Omega.{arith}
@@ -26,7 +25,6 @@ use Rattle.interval_edit.specs.declared.Site.{Site}
 use Rattle.division.specs.Division.{division_of, counts, parts, pieces}
 use Rattle.division.specs.Fewest.{AllHeld}
 use Rattle.division.specs.declared.Division.{Division}
-use Rattle.division.specs.contracts.Division.{the_type}
 use Rattle.division.specs.declared.Division.TheVariants.{Stays, Two, Three}
 use Rattle.division.proofs.Answers.{is-stays, is-two, two-fit}
 use Rattle.division.proofs.Spreads.{pieces-2}

@@ -13,7 +13,7 @@ ghost use Rattle.change_plan.specs.AidPlanned.{FreeCounted, EnoughFree, TakenAt,
 
 use change::Full;
 use division::Division;
-use index_write::Cuts;
+use index_write::{Cut, Cuts};
 use interval_edit::Site;
 use measures::Measures;
 
@@ -101,12 +101,19 @@ pub fn cuts_out(
     let key = m.key;
     let to = cut_out(area, m, site, new, lens, parts.first, &mut keys[..key]);
     let n = cut_out(area, m, site, new, lens, parts.second, &mut keys[key..]);
+    let first = Cut { from: 0, to };
+    if parts.many != 3 {
+        return Cuts {
+            first,
+            second: None,
+        };
+    }
     Cuts {
-        three: parts.many == 3,
-        from: 0,
-        to,
-        from2: key,
-        to2: key + n,
+        first,
+        second: Some(Cut {
+            from: key,
+            to: key + n,
+        }),
     }
 }
 
