@@ -176,13 +176,11 @@ pub(crate) fn two_written(x: usize, y: usize) -> Written
     requires { (0 < x) × (0 < y) × (x ≡ y → ⊥) }
     ensures { result ≡ carrying (among x (among 0 (among y []))) }
 {
-    let low = if x < y { x } else { y };
-    let high = if x < y { y } else { x };
     Written {
         count: 3,
         first: 0,
-        second: low,
-        third: high,
+        second: x.min(y),
+        third: x.max(y),
         fourth: 0,
     }
 }
@@ -192,19 +190,14 @@ pub(crate) fn three_written(x: usize, y: usize, z: usize) -> Written
     requires { (0 < x) × (0 < y) × (0 < z) × (x ≡ y → ⊥) × (x ≡ z → ⊥) × (y ≡ z → ⊥) }
     ensures { result ≡ carrying (among x (among y (among 0 (among z [])))) }
 {
-    let two = two_written(y, z);
-    let low = two.second;
-    let high = two.third;
-    let second = if x < low { x } else { low };
-    let rest = if x < low { low } else { x };
-    let third = if rest < high { rest } else { high };
-    let fourth = if rest < high { high } else { rest };
+    let low = y.min(z);
+    let high = y.max(z);
     Written {
         count: 4,
         first: 0,
-        second,
-        third,
-        fourth,
+        second: x.min(low),
+        third: x.max(low).min(high),
+        fourth: x.max(high),
     }
 }
 
