@@ -186,9 +186,8 @@ pub fn plan(
     requires { Told m n area.now site new.now lens.now }
     ensures { PlannedAs m n area.now site (edit_at site (fresh_in new.now)) result }
 {
-    let division = division::divide(lens, m.size);
-    if let Division::Stays = division {
-        return Ok(Spread {
+    match division::divide(lens, m.size) {
+        Division::Stays => Ok(Spread {
             site,
             parts: Parts {
                 many: 1,
@@ -198,20 +197,22 @@ pub fn plan(
             a: 0,
             b: 0,
             index: 0,
-        });
+        }),
+        Division::Two { cut } => {
+            let two = Parts {
+                many: 2,
+                first: cut,
+                second: cut,
+            };
+            plan_divided(area, m, n, site, new, lens, two)
+        }
+        Division::Three => {
+            let three = Parts {
+                many: 3,
+                first: site.ordinal,
+                second: site.ordinal + 1,
+            };
+            plan_divided(area, m, n, site, new, lens, three)
+        }
     }
-    let Division::Two { cut } = division else {
-        let three = Parts {
-            many: 3,
-            first: site.ordinal,
-            second: site.ordinal + 1,
-        };
-        return plan_divided(area, m, n, site, new, lens, three);
-    };
-    let two = Parts {
-        many: 2,
-        first: cut,
-        second: cut,
-    };
-    plan_divided(area, m, n, site, new, lens, two)
 }
