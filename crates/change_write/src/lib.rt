@@ -176,11 +176,13 @@ pub(crate) fn two_written(x: usize, y: usize) -> Written
     requires { (0 < x) × (0 < y) × (x ≡ y → ⊥) }
     ensures { result ≡ carrying (among x (among 0 (among y []))) }
 {
+    let low = x.min(y);
+    let high = x.max(y);
     Written {
         count: 3,
         first: 0,
-        second: x.min(y),
-        third: x.max(y),
+        second: low,
+        third: high,
         fourth: 0,
     }
 }
