@@ -16,8 +16,8 @@ last-is : (j : Joined-parts-eq3)
 last-is j =
     let p = j.args.spread.parts in
     elim j.if-parts-eq3.branch [
-      then-parts-eq3 w ↦ w.last-is ∙ rw (eq-eqb p.many 3 w.if-parts-eq3.true)
-    | else-parts-eq3 w ↦ w.last-is ∙ rw (ne_eqb p.many 3 w.if-parts-eq3.false)
+      | then-parts-eq3 w ↦ w.last-is ∙ rw (eq-eqb p.many 3 w.if-parts-eq3.true)
+      | else-parts-eq3 w ↦ w.last-is ∙ rw (ne_eqb p.many 3 w.if-parts-eq3.false)
     ]
 
 pub overflow_add-middle : goal.overflow_add-middle
