@@ -8,12 +8,14 @@ use mathlib.Core.Logic.{⊎_elim}
 use lib.ListN.{length, take, drop}
 use native.Mathlib.Omega.{arith}
 use borrow.Author.Tests.{le-leb, lt-leb, eq-eqb, ne_eqb}
+use Rattle.std.specs.Prelude.{Result}
 use Rattle.fields.proofs.Splices.{part-is}
 use Rattle.measures.specs.declared.Measures.{Measures}
 use Rattle.interval.specs.Records.{key_of, within}
 use Rattle.change.specs.Plan.{Plan, no_interval, no_room, stores}
+use Rattle.change.specs.declared.Full.{Full}
+use Rattle.change.specs.declared.Written.{Written}
 use Rattle.change_write.specs.AidCarried.{Carries}
-use Rattle.change_write.specs.declared.Made.{Made}
 use Rattle.requests.specs.Model.{Change}
 use Rattle.requests.specs.Changing.{Outcome, length_fine, carry_out, change_in, change_of, Makes}
 use Rattle.requests.specs.declared.Answer.{Answer}
@@ -32,7 +34,7 @@ pub makes-as : {g h : Outcome} {a : Answer} {area : List ℕ} → g ≡ h → Ma
 makes-as e k = record { answers = k.answers ∙ ap (λ x. x.answer) e; leaves = k.leaves ∙ ap (λ x. x.area) e }
 
 -- a plan carried out, and told
-pub carried : (m : Measures) (area : List ℕ) (plan : Plan) (made : Made) (after : List ℕ) (a : Answer) → Carries m area plan made after → a ≡ answer_for made → Makes (carry_out m area plan) a after
+pub carried : (m : Measures) (area : List ℕ) (plan : Plan) (made : Result Written Full) (after : List ℕ) (a : Answer) → Carries m area plan made after → a ≡ answer_for made → Makes (carry_out m area plan) a after
 carried m area no_interval made after a k e = record { answers = e ∙ ap answer_for k.answers; leaves = k.leaves }
 carried m area no_room made after a k e = record { answers = e ∙ ap answer_for k.answers; leaves = k.leaves }
 carried m area (stores ss) made after a k e = record { answers = e ∙ ap answer_for k.answers; leaves = k.leaves }

@@ -16,7 +16,7 @@ ghost use Rattle.register.specs.AidChange.{change_for, change_at, MakesKeyed, ai
 
 use area_find::{KeyPlace, Lying};
 use area_seek::Looked;
-use change_write::Made;
+use change::{Full, Written};
 use interval::Found;
 use interval_edit::Site;
 use measures::{Judged, Measures, Numbers};
@@ -216,13 +216,13 @@ pub(crate) fn take_aim(kind: Kind, spot: KeyPlace) -> Aim
 }
 
 // What a change that was carried out is answered with.
-pub(crate) fn told(made: Made) -> Answer
+pub(crate) fn told(made: Result<Written, Full>) -> Answer
     ensures { result ≡ answer_for made }
 {
     match made {
-        Made::Done(written) => Answer::Done(written),
-        Made::NoInterval => Answer::NoInterval,
-        Made::NoRoom => Answer::NoRoom,
+        Ok(written) => Answer::Done(written),
+        Err(Full::NoInterval) => Answer::NoInterval,
+        Err(Full::NoRoom) => Answer::NoRoom,
     }
 }
 
