@@ -17,7 +17,7 @@ ghost use Rattle.exports.specs.Values.{values, values_told, index_told, Told, Gi
 use index_read::Index;
 use interval::Found;
 use measures::Measures;
-use requests::Answer;
+use requests::{Answer, Done, Refusal};
 
 // An answer as C reads it: its number, and the values that come with it, 0 where there are fewer.
 #[derive(Clone, Copy)]
@@ -35,7 +35,7 @@ pub(crate) fn told(answer: Answer) -> Values
 {
     let number = requests::number(answer);
     match answer {
-        Answer::Done(written) => {
+        Ok(Done::Changed(written)) => {
             let count = written.count;
             let second = counted(count, 0, written.first);
             let third = counted(count, 1, written.second);
@@ -50,24 +50,18 @@ pub(crate) fn told(answer: Answer) -> Values
                 fifth,
             }
         }
-        Answer::Found(length) => one(number, length),
-        Answer::Intact { records, free } => Values {
+        Ok(Done::Found(length)) => one(number, length),
+        Ok(Done::Intact(holds)) => Values {
             number,
-            first: records,
-            second: free,
+            first: holds.records,
+            second: holds.free,
             third: 0,
             fourth: 0,
             fifth: 0,
         },
-        Answer::Damaged(place) => one(number, place),
-        Answer::Short(needed) => one(number, needed),
-        Answer::Outside => one(number, 0),
-        Answer::WrongLength => one(number, 0),
-        Answer::Present => one(number, 0),
-        Answer::Absent => one(number, 0),
-        Answer::NoInterval => one(number, 0),
-        Answer::NoRoom => one(number, 0),
-        Answer::NoRecord => one(number, 0),
+        Err(Refusal::Damaged(place)) => one(number, place),
+        Err(Refusal::Short(needed)) => one(number, needed),
+        Err(_) => one(number, 0),
     }
 }
 
