@@ -1,7 +1,7 @@
 -- An answer as a number and eight values: document 01, 'What each number tells the depot'.
 use Rattle.std.specs.Prelude.{ℕ, List, [], ◌∷◌, get_or}
 use Rattle.requests.specs.Answers.{number_of, values_of}
-use Rattle.requests.specs.declared.Answer.{Answer}
+use Rattle.requests.specs.Answers.{Answer}
 use Rattle.walk.specs.declared.Place.{Place}
 use Rattle.walk.specs.declared.Begun.{Begun}
 use Rattle.walk.specs.declared.Begun.TheVariants.{At, Refused}

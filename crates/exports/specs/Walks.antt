@@ -3,7 +3,7 @@ use Rattle.std.specs.Prelude.{◌≡◌, ℕ, zero, suc, ◌+◌, ◌%◌, ◌^�
 use Rattle.measures.specs.declared.Measures.{Measures}
 use Rattle.requests.specs.Answers.{number_of, values_of}
 use Rattle.requests.specs.Walks.{walk_from_of, walk_end_of}
-use Rattle.requests.specs.declared.Answer.{Answer}
+use Rattle.requests.specs.Answers.{Answer}
 use Rattle.opening.specs.AidOpened.{opened_of}
 use Rattle.walk.specs.AidSteps.{next_of, record_of}
 use Rattle.walk.specs.AidGives.{Begins}

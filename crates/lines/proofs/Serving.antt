@@ -9,7 +9,7 @@ use Rattle.fields.specs.Bytes.{part}
 use Rattle.area.specs.Example.{depot}
 use Rattle.requests.specs.Reading.{get_of, Gives}
 use Rattle.requests.specs.Changing.{insert_of, update_of, erase_of, Makes}
-use Rattle.requests.specs.declared.Answer.{Answer}
+use Rattle.requests.specs.Answers.{Answer}
 use Rattle.lines.specs.Lines.{Command, command_of, bad, get, insert, update, erase, by_letter, serve, served_of, Serves}
 use Rattle.lines.specs.declared.Line.{Line}
 use Rattle.lines.specs.declared.Line.TheVariants.{Bad, Told}

@@ -11,7 +11,7 @@ use Rattle.fields.specs.Choice.{pick, both}
 use Rattle.fields.proofs.Octets.{octets-part}
 use Rattle.area.specs.Content.{Content, records_of}
 use Rattle.area.specs.Example.{depot}
-use Rattle.requests.specs.declared.Answer.{Answer}
+use Rattle.requests.specs.Answers.{Answer}
 use Rattle.promises.specs.Trace.{Step, Trace, area_after, accepted_in, Sound, Stands}
 use Rattle.promises.proofs.History.{history}
 use Rattle.lines.specs.Lines.{Command, command_of, bad, get, insert, update, erase, by_letter, serve, served_of, Serves}

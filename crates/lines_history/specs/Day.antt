@@ -4,7 +4,7 @@ use Rattle.std.specs.Prelude.{ℕ, ◌≡◌, List, [], ◌∷◌, ◌++◌}
 use Rattle.fields.specs.Bytes.{Octets}
 use Rattle.requests.specs.Model.{Change}
 use Rattle.requests.specs.Model as model
-use Rattle.requests.specs.declared.Answer.{Answer}
+use Rattle.requests.specs.Answers.{Answer}
 use Rattle.promises.specs.Trace.{Step}
 use Rattle.requests.specs.Allowed as asked
 use Rattle.lines.specs.Lines.{Command, command_of, bad, get, insert, update, erase, served_of, Serves}

@@ -1,14 +1,14 @@
 -- What an area is opened as, by the judgement of the measures and by the check of the area; and what the requests may take from it: a refusal is that
 -- of the meaning, and an area opened whole holds a content which its reading gives.
+use Rattle.std.specs.Prelude.{Err, None, Option}
 use Prim.Native.Nat.{ℕ}
 use mathlib.Core.Path.{◌≡◌, refl, ◌∙◌, sym, ap}
 use mathlib.Core.List.{List}
 use lib.ListN.{length}
 use native.Mathlib.Omega.{arith}
-use Rattle.measures.specs.Judgement.{Fits, judged_of}
+use Rattle.measures.specs.Judgement.{Fits, judged_of, passed}
 use Rattle.measures.specs.declared.Measures.{Measures}
 use Rattle.measures.specs.declared.Judged.{Judged}
-use Rattle.measures.specs.declared.Judged.TheVariants as judged
 use Rattle.measures.proofs.Fine.{judged-same, accepted-fits}
 use Rattle.area.specs.Content.{Content, records_of}
 use Rattle.area.specs.Reading.{Reading, damaged, whole, read_area}
@@ -16,8 +16,8 @@ use Rattle.area.specs.Checked.{checked_of}
 use Rattle.area.specs.declared.Checked.{Checked}
 use Rattle.area.specs.declared.Checked.TheVariants as checked
 use Rattle.requests.specs.Opening.{Opening, shut, holding, open_read, open_judged, opening_of}
-use Rattle.requests.specs.declared.Answer.{Answer}
-use Rattle.requests.specs.declared.Answer.TheVariants.{Damaged, Outside}
+use Rattle.requests.specs.Answers.{Answer}
+use Rattle.requests.specs.declared.Refusal.TheVariants.{Outside, Damaged}
 use Rattle.opening.specs.AidOpened.{opened_read, opened_judged, opened_of}
 use Rattle.opening.specs.declared.Opened.{Opened}
 use Rattle.opening.specs.declared.Opened.TheVariants.{Whole, Refused}
@@ -27,22 +27,22 @@ use Rattle.opening.specs.declared.Opened.TheVariants.{Whole, Refused}
 -- what it answers by what the check told
 abbrev pub opened_told : Measures → ℕ → Checked → Opened
 opened_told m n (checked.Intact records free) = Whole m n records free
-opened_told m n (checked.Damaged place) = Refused (Damaged place)
+opened_told m n (checked.Damaged place) = Refused (Err (Damaged place))
 
 told-read : (m : Measures) (n : ℕ) (x : Reading) → opened_told m n (checked_of x) ≡ opened_read m n x
 told-read m n (damaged place) = refl
 told-read m n (whole c) = refl
 
 module _ (k : Measures) (area : List ℕ) where
-  pub open-outside : judged_of k (length area) ≡ judged.Outside → Refused Outside ≡ opened_of k area
-  open-outside e = sym (ap (λ (j : Judged). opened_judged j area) e)
+  pub open-outside : judged_of k (length area) ≡ None → Refused (Err Outside) ≡ opened_of k area
+  open-outside e = sym (ap (λ (j : Option Judged). opened_judged j area) e)
 
-  module _ (m : Measures) (n : ℕ) (e : judged_of k (length area) ≡ judged.Fine m n) where
+  module _ (m : Measures) (n : ℕ) (e : judged_of k (length area) ≡ passed m n) where
     pub fits-lent : Fits m n (length area)
     fits-lent = accepted-fits m (length area) n (rw (judged-same k m (length area) n e) at e)
 
     pub open_told : (x : Checked) → x ≡ checked_of (read_area m n area) → opened_told m n x ≡ opened_of k area
-    open_told x h = ap (opened_told m n) h ∙ told-read m n (read_area m n area) ∙ sym (ap (λ (j : Judged). opened_judged j area) e)
+    open_told x h = ap (opened_told m n) h ∙ told-read m n (read_area m n area) ∙ sym (ap (λ (j : Option Judged). opened_judged j area) e)
 
 -- ---- what a caller takes from the answer
 
@@ -51,12 +51,12 @@ pub opened-shut : (m : Measures) (area : List ℕ) (a : Answer) → opened_of m 
 opened-shut m area a = by-judged (judged_of m (length area))
   where
     by_read : (m : Measures) (n : ℕ) (x : Reading) → opened_read m n x ≡ Refused a → open_read m x ≡ shut a
-    by_read m n (damaged place) e = let z : Damaged place ≡ a = cc in ap shut z
+    by_read m n (damaged place) e = let z : (Err (Damaged place)) ≡ a = cc in ap shut z
     by_read m n (whole c) e = absurd (let z : ◌≡◌ {A = ℕ} 0 1 = cc in omega arith)
 
-    by-judged : (j : Judged) → opened_judged j area ≡ Refused a → open_judged j area ≡ shut a
-    by-judged judged.Outside e = let z : Outside ≡ a = cc in ap shut z
-    by-judged (judged.Fine m n) e = by_read m n (read_area m n area) e
+    by-judged : (j : Option Judged) → opened_judged j area ≡ Refused a → open_judged j area ≡ shut a
+    by-judged None e = let z : (Err Outside) ≡ a = cc in ap shut z
+    by-judged (passed m n) e = by_read m n (read_area m n area) e
 
 -- An area that is opened whole fits its measures, reads as a content, which it holds by the meaning too, and the counts are that content's.
 pub opened-whole : (k : Measures) (area : List ℕ) (m : Measures) (n records free : ℕ) → opened_of k area ≡ Whole m n records free
@@ -84,6 +84,6 @@ opened-whole k area m n records free = by-judged (judged_of k (length area)) ref
         let z : q ≡ n = cc in
         (c, ap (λ (v : Measures). holding v c) y, rw (y, z) at h, rw (y, z) at f, cc, cc)
 
-    by-judged : (j : Judged) → judged_of k (length area) ≡ j → opened_judged j area ≡ Whole m n records free → Held (open_judged j area)
-    by-judged judged.Outside g e = absurd (let z : ◌≡◌ {A = ℕ} 0 1 = cc in omega arith)
-    by-judged (judged.Fine p q) g e = by_read p q (read_area p q area) refl (fits-lent k area p q g) e
+    by-judged : (j : Option Judged) → judged_of k (length area) ≡ j → opened_judged j area ≡ Whole m n records free → Held (open_judged j area)
+    by-judged None g e = absurd (let z : ◌≡◌ {A = ℕ} 0 1 = cc in omega arith)
+    by-judged (passed p q) g e = by_read p q (read_area p q area) refl (fits-lent k area p q g) e

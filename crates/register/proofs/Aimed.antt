@@ -32,7 +32,7 @@ use Rattle.change_plan.specs.AidEdited.{edit_at, Edits}
 use Rattle.requests.specs.Records.{with_key}
 use Rattle.requests.specs.Model.{Legal}
 use Rattle.requests.specs.Changing.{kept, bytes_of, key_in, edit_for, edit_of, carry_out}
-use Rattle.requests.specs.declared.Answer.{Answer}
+use Rattle.requests.specs.Answers.{Answer}
 use Rattle.requests.proofs.Edits.{led-entry, within-least}
 use Rattle.requests.proofs.Proper.{key-fine, change-proper}
 use Rattle.register.specs.AidChange.{change_at, Asked, keyed_in, gap_site, record_site, aim_at, aim_of}

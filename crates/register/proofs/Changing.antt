@@ -1,5 +1,6 @@
 -- The requests that change, against their meaning: a plan carried out and told, the lengths that the measures allow, and a change by what the area was
 -- opened as.
+use Rattle.std.specs.Prelude.{Err}
 use Prim.Native.Nat.{ℕ, ◌+◌, ◌-◌, ◌≤◌, ◌<◌}
 use mathlib.Core.Path.{◌≡◌, refl, ◌∙◌, ap}
 use mathlib.Core.Bool.{Bool, true, false}
@@ -16,8 +17,8 @@ use Rattle.change_write.specs.AidCarried.{Carries}
 use Rattle.change_write.specs.declared.Made.{Made}
 use Rattle.requests.specs.Model.{Change}
 use Rattle.requests.specs.Changing.{Outcome, length_fine, carry_out, change_in, change_of, Makes}
-use Rattle.requests.specs.declared.Answer.{Answer}
-use Rattle.requests.specs.declared.Answer.TheVariants.{WrongLength}
+use Rattle.requests.specs.Answers.{Answer}
+use Rattle.requests.specs.declared.Refusal.TheVariants.{WrongLength}
 use Rattle.opening.specs.AidOpened.{opened_of}
 use Rattle.opening.specs.declared.Opened.TheVariants as opened
 use Rattle.opening.proofs.Opening.{opened-shut, opened-whole}
@@ -62,7 +63,7 @@ module _ (k : Measures) (area : List ℕ) (ch : Change) where
 
 module _ (m : Measures) (n : ℕ) (area : List ℕ) (ch : Change) where
   -- a wrong length is told, and the area stays
-  pub wrong-makes : length_fine m ch ≡ false → MakesIn m n area (λ c. change_in m c area ch) WrongLength area
+  pub wrong-makes : length_fine m ch ≡ false → MakesIn m n area (λ c. change_in m c area ch) (Err WrongLength) area
   wrong-makes f c w = rw f (record { answers = refl; leaves = refl })
 
   -- of a fine one the key decides

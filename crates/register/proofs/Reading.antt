@@ -1,4 +1,5 @@
 -- The requests that read, against their meaning: a record handed out, get by key by what it judged and read, and the others by what the area was opened as.
+use Rattle.std.specs.Prelude.{Ok, Err, None}
 use Prim.Native.Nat.{ℕ, ◌+◌, ◌*◌, ◌≤◌, ◌<◌}
 use mathlib.Core.Path.{◌≡◌, refl, ◌∙◌, sym, ap}
 use mathlib.Core.Bool.{Bool, true, false}
@@ -9,9 +10,8 @@ use borrow.Author.Tests.{eq-eqb, ne_eqb, le-leb, lt-leb}
 use Rattle.fields.specs.Choice.{pick}
 use Rattle.fields.specs.Bytes.{part, splice}
 use Rattle.fields.proofs.Splices.{length-mid}
-use Rattle.measures.specs.Judgement.{Fits, judged_of}
+use Rattle.measures.specs.Judgement.{Fits, judged_of, passed}
 use Rattle.measures.specs.declared.Measures.{Measures}
-use Rattle.measures.specs.declared.Judged.TheVariants as judged
 use Rattle.interval.specs.Reading.{records_in}
 use Rattle.interval.specs.Search.{place_of}
 use Rattle.interval.specs.declared.Found.{Found}
@@ -25,9 +25,9 @@ use Rattle.area_seek.specs.declared.Looked.{Looked}
 use Rattle.area_seek.specs.declared.Looked.TheVariants as looked
 use Rattle.requests.specs.Records.{with_key}
 use Rattle.requests.specs.Reading.{check_of, Given, refused, hand_out, get_there, get_in, get_of, get_at_in, get_at_of, Gives}
-use Rattle.requests.specs.declared.Answer.{Answer}
-use Rattle.requests.specs.declared.Answer.TheVariants.{Intact, Damaged, Short, Outside, WrongLength, Absent}
-use Rattle.requests.specs.declared.Answer.TheVariants as answer
+use Rattle.requests.specs.Answers.{Answer}
+use Rattle.requests.specs.declared.Done.TheVariants.{Found, Intact}
+use Rattle.requests.specs.declared.Refusal.TheVariants.{Outside, Damaged, WrongLength, Absent, Short}
 use Rattle.opening.specs.AidOpened.{opened_of}
 use Rattle.opening.specs.declared.Opened.TheVariants as opened
 use Rattle.opening.proofs.Opening.{opened-shut, opened-whole}
@@ -40,12 +40,12 @@ module _ (area : List ℕ) (from bytes : ℕ) (out : List ℕ) (inside : from + 
   length-record : length (part area from bytes) ≡ bytes
   length-record = length-mid area from bytes inside
 
-  pub hand-short : length out < bytes → Gives (hand_out Absent (part area from bytes ∷ []) out) (Short bytes) out
+  pub hand-short : length out < bytes → Gives (hand_out (Err Absent) (part area from bytes ∷ []) out) (Err (Short bytes)) out
   hand-short h =
       let l = length-record in
       record { answers = rw (lt-leb (length (part area from bytes)) (length out) (omega arith), l); outputs = rw (lt-leb (length (part area from bytes)) (length out) (omega arith)) }
 
-  pub hand-found : bytes ≤ length out → (after : List ℕ) → after ≡ splice out 0 (part area from bytes) → Gives (hand_out Absent (part area from bytes ∷ []) out) (answer.Found bytes) after
+  pub hand-found : bytes ≤ length out → (after : List ℕ) → after ≡ splice out 0 (part area from bytes) → Gives (hand_out (Err Absent) (part area from bytes ∷ []) out) (Ok (Found bytes)) after
   hand-found h after e =
       let l = length-record in
       record { answers = rw (le-leb (length (part area from bytes)) (length out) (omega arith), l); outputs = e ∙ rw (le-leb (length (part area from bytes)) (length out) (omega arith)) }
@@ -58,24 +58,24 @@ gives_as e k = record { answers = k.answers ∙ ap (λ x. x.answer) e; outputs =
 
 -- the answer to a key of a wrong length, by what the index record's check told
 module _ (m : Measures) (n : ℕ) (area : List ℕ) where
-  pub wrong-sound : index_sound m n area ≡ true → WrongLength ≡ pick (index_sound m n area) WrongLength (Damaged 0)
+  pub wrong-sound : index_sound m n area ≡ true → (Err WrongLength) ≡ pick (index_sound m n area) (Err WrongLength) (Err (Damaged 0))
   wrong-sound h = sym (rw h)
 
-  pub wrong-unsound : index_sound m n area ≡ false → Damaged 0 ≡ pick (index_sound m n area) WrongLength (Damaged 0)
+  pub wrong-unsound : index_sound m n area ≡ false → (Err (Damaged 0)) ≡ pick (index_sound m n area) (Err WrongLength) (Err (Damaged 0))
   wrong-unsound h = sym (rw h)
 
 -- what a search comes to that judges only what it reads
 abbrev pub given_by : List ℕ → List ℕ → Looked → Given
-given_by area out (looked.Here from len) = hand_out Absent (part area from len ∷ []) out
-given_by area out looked.Nowhere = refused Absent out
-given_by area out (looked.Damaged place) = refused (Damaged place) out
+given_by area out (looked.Here from len) = hand_out (Err Absent) (part area from len ∷ []) out
+given_by area out looked.Nowhere = refused (Err Absent) out
+given_by area out (looked.Damaged place) = refused (Err (Damaged place)) out
 
 module _ (m : Measures) (n : ℕ) (area wanted out : List ℕ) where
-  pub get-wrong : (length wanted ≡ m.key → ⊥) → (a : Answer) → a ≡ pick (index_sound m n area) WrongLength (Damaged 0) → Gives (get_in m n area wanted out) a out
+  pub get-wrong : (length wanted ≡ m.key → ⊥) → (a : Answer) → a ≡ pick (index_sound m n area) (Err WrongLength) (Err (Damaged 0)) → Gives (get_in m n area wanted out) a out
   unfolding get_in
   get-wrong d a e = rw (ne_eqb (length wanted) m.key d) (go (index_sound m n area) e)
     where
-      go : (t : Bool) → a ≡ pick t WrongLength (Damaged 0) → Gives (pick t (refused WrongLength out) (refused (Damaged 0) out)) a out
+      go : (t : Bool) → a ≡ pick t (Err WrongLength) (Err (Damaged 0)) → Gives (pick t (refused (Err WrongLength) out) (refused (Err (Damaged 0)) out)) a out
       go true e = record { answers = e; outputs = refl }
       go false e = record { answers = e; outputs = refl }
 
@@ -97,21 +97,21 @@ module _ (m : Measures) (n : ℕ) (area wanted out : List ℕ) where
 
       go : (t u : Bool) → sound_for m es wanted ci ≡ u → (f : Found) → place_of m wanted (records_in ci) ≡ f
           → given_by area out (pick t (pick u (looked_at ((k + 1) * m.size) f) (looked.Damaged (k + 1))) (looked.Damaged 0))
-          ≡ pick t (pick u (hand_out Absent (with_key m wanted (records_in ci)) out) (refused (Damaged (k + 1)) out)) (refused (Damaged 0) out)
+          ≡ pick t (pick u (hand_out (Err Absent) (with_key m wanted (records_in ci)) out) (refused (Err (Damaged (k + 1))) out)) (refused (Err (Damaged 0)) out)
       go false u h f e = refl
       go true false h f e = refl
       go true true h (found.At i t l) e =
-          ap (λ (rs : List (List ℕ)). hand_out Absent rs out) (sym (found-there m area wanted k (there-readable m n area o es wanted k h) i t l e))
+          ap (λ (rs : List (List ℕ)). hand_out (Err Absent) rs out) (sym (found-there m area wanted k (there-readable m n area o es wanted k h) i t l e))
       go true true h (found.Gap i t) e =
-          ap (λ (rs : List (List ℕ)). hand_out Absent rs out) (sym (absent-there m area wanted k (there-readable m n area o es wanted k h) i t e))
+          ap (λ (rs : List (List ℕ)). hand_out (Err Absent) rs out) (sym (absent-there m area wanted k (there-readable m n area o es wanted k h) i t e))
 
 -- by the judgement of the measures
 module _ (k : Measures) (area wanted out : List ℕ) where
-  pub get-outside : judged_of k (length area) ≡ judged.Outside → Gives (get_of k area wanted out) Outside out
+  pub get-outside : judged_of k (length area) ≡ None → Gives (get_of k area wanted out) (Err Outside) out
   unfolding get_of
   get-outside e = rw e (record { answers = refl; outputs = refl })
 
-  pub get-fine : (m : Measures) (n : ℕ) → judged_of k (length area) ≡ judged.Fine m n → (a : Answer) (after : List ℕ) → Gives (get_in m n area wanted out) a after
+  pub get-fine : (m : Measures) (n : ℕ) → judged_of k (length area) ≡ passed m n → (a : Answer) (after : List ℕ) → Gives (get_in m n area wanted out) a after
       → Gives (get_of k area wanted out) a after
   unfolding get_of
   get-fine m n e a after g = rw e g
@@ -134,11 +134,11 @@ module _ (k : Measures) (area : List ℕ) where
     pub whole-there : Fits m n (length area) × Whole m n area
     whole-there = let o = opened-whole k area m n records free e in (o.3, record { content = o.0; reads = o.2 })
 
-    pub check-whole : Intact records free ≡ check_of k area
+    pub check-whole : (Ok (Intact records free)) ≡ check_of k area
     unfolding check_of
     check-whole =
         let o = opened-whole k area m n records free e in
-        let z : check_of k area ≡ Intact (length (records_of o.0.filled)) (length o.0.free) = rw o.1 in
+        let z : check_of k area ≡ (Ok (Intact (length (records_of o.0.filled)) (length o.0.free))) = rw o.1 in
         cc (z, o.4, o.5)
 
     pub get-at-whole : (address : ℕ) (out : List ℕ) (a : Answer) (after : List ℕ) → GivesIn m n area (λ c. get_at_in m c address out) a after

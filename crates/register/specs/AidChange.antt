@@ -1,5 +1,5 @@
 -- Aids: the change that a kind and some bytes ask for, and where a search says that it is made.
-use Rattle.std.specs.Prelude.{ℕ, ◌≡◌, true, List, []}
+use Rattle.std.specs.Prelude.{ℕ, ◌≡◌, true, List, [], Err}
 use Rattle.measures.specs.declared.Measures.{Measures}
 use Rattle.interval.specs.declared.Found.{Found}
 use Rattle.interval.specs.declared.Found.TheVariants.{At, Gap}
@@ -10,8 +10,8 @@ use Rattle.change.specs.Plan.{plan_of}
 use Rattle.requests.specs.Records.{with_key}
 use Rattle.requests.specs.Model.{Change, insert, update, erase}
 use Rattle.requests.specs.Changing.{Outcome, key_in, length_fine, edit_of, carry_out, if_keyed}
-use Rattle.requests.specs.declared.Answer.{Answer}
-use Rattle.requests.specs.declared.Answer.TheVariants.{Present, Absent}
+use Rattle.requests.specs.Answers.{Answer}
+use Rattle.requests.specs.declared.Refusal.TheVariants.{Present, Absent}
 use Rattle.register.specs.AidTold.{MakesIn}
 use Rattle.register.specs.declared.Kind.{Kind}
 use Rattle.register.specs.declared.Kind.TheVariants.{Insert, Update, Erase}
@@ -55,10 +55,10 @@ record_site entry number i s l = record { entry = entry; number = number; ordina
 -- an insert is made at a gap, the others at a record
 abbrev pub aim_at : Kind → ℕ → ℕ → Found → Aim
 aim_at Insert entry number (Gap i s) = aim.At (gap_site entry number i s)
-aim_at Insert entry number (At i s l) = aim.Not Present
-aim_at Update entry number (Gap i s) = aim.Not Absent
+aim_at Insert entry number (At i s l) = aim.Not (Err Present)
+aim_at Update entry number (Gap i s) = aim.Not (Err Absent)
 aim_at Update entry number (At i s l) = aim.At (record_site entry number i s l)
-aim_at Erase entry number (Gap i s) = aim.Not Absent
+aim_at Erase entry number (Gap i s) = aim.Not (Err Absent)
 aim_at Erase entry number (At i s l) = aim.At (record_site entry number i s l)
 
 abbrev pub aim_of : Kind → KeyPlace → Aim

@@ -1,4 +1,5 @@
 -- A walk that has begun in a whole area gives its records: those of `walk_of`.
+use Rattle.std.specs.Prelude.{Err, None, Option}
 use Prim.Native.Nat.{ℕ, ◌+◌, ◌-◌, ◌*◌, ◌≤◌, ◌<◌}
 use mathlib.Core.Path.{◌≡◌, refl, ◌∙◌, sym, ap}
 use mathlib.Core.Bool.{Bool, true, false}
@@ -10,10 +11,9 @@ use native.Mathlib.Omega.{arith}
 use borrow.Author.Tests.{eqb-true, eqb-false, ltb-true, ltb-false, lt-ltb, le-ltb, lt-leb, le-leb}
 use Rattle.fields.specs.Bytes.{Octets}
 use Rattle.fields.proofs.Choices.{agree, false-true, both_false}
-use Rattle.measures.specs.Judgement.{Fits, judged_of}
+use Rattle.measures.specs.Judgement.{Fits, judged_of, passed}
 use Rattle.measures.specs.declared.Measures.{Measures}
 use Rattle.measures.specs.declared.Judged.{Judged}
-use Rattle.measures.specs.declared.Judged.TheVariants as judged
 use Rattle.measures.proofs.Fine.{judged-same, fits-large}
 use Rattle.interval.specs.Search.{lower}
 use Rattle.interval.proofs.Search.{lower-most}
@@ -28,8 +28,8 @@ use Rattle.area_find.specs.AidSought.{Whole}
 use Rattle.index_walk.specs.AidPasses.{edge_first}
 use Rattle.requests.specs.Walks.{Item, Walk, refused_with, giving, items_of, backwards, walk_of, head_fine, if_some, walk_from_of, walk_end_of}
 use Rattle.requests.specs.Opening.{shut, holding, opening_of}
-use Rattle.requests.specs.declared.Answer.{Answer}
-use Rattle.requests.specs.declared.Answer.TheVariants.{WrongLength, Absent}
+use Rattle.requests.specs.Answers.{Answer}
+use Rattle.requests.specs.declared.Refusal.TheVariants.{WrongLength, Absent}
 use Rattle.requests.proofs.Items.{items-long, back_long}
 use Rattle.requests.proofs.Walks.{pad, reached, walk-drops, walk-takes, walk-all, walk-back, reached-most}
 use Rattle.opening.specs.AidOpened.{opened_read, opened_judged, opened_of}
@@ -49,21 +49,21 @@ use Rattle.walk.proofs.Giving.{steps_up, steps-down, gives_up, gives-down, stood
 -- ---- what a caller of `open` needs besides: the measures are those that were asked with
 
 pub opened-judged : (k : Measures) (area : List ℕ) (m : Measures) (n records free : ℕ) → opened_of k area ≡ opened.Whole m n records free
-    → (judged_of k (length area) ≡ judged.Fine m n) × (m ≡ k)
+    → (judged_of k (length area) ≡ passed m n) × (m ≡ k)
 opened-judged k area m n records free = by-judged (judged_of k (length area)) refl
   where
-    by_read : (p : Measures) (q : ℕ) (x : Reading) → opened_read p q x ≡ opened.Whole m n records free → judged.Fine p q ≡ judged.Fine m n
+    by_read : (p : Measures) (q : ℕ) (x : Reading) → opened_read p q x ≡ opened.Whole m n records free → passed p q ≡ passed m n
     by_read p q (damaged place) e = absurd (let z : ◌≡◌ {A = ℕ} 0 1 = cc in omega arith)
     by_read p q (whole c) e =
         let y : p ≡ m = cc in
         let z : q ≡ n = cc in
         cc
 
-    by-judged : (j : Judged) → judged_of k (length area) ≡ j → opened_judged j area ≡ opened.Whole m n records free
-        → (judged_of k (length area) ≡ judged.Fine m n) × (m ≡ k)
-    by-judged judged.Outside g e = absurd (let z : ◌≡◌ {A = ℕ} 0 1 = cc in omega arith)
-    by-judged (judged.Fine p q) g e =
-        let f : judged_of k (length area) ≡ judged.Fine m n = g ∙ by_read p q (read_area p q area) e in
+    by-judged : (j : Option Judged) → judged_of k (length area) ≡ j → opened_judged j area ≡ opened.Whole m n records free
+        → (judged_of k (length area) ≡ passed m n) × (m ≡ k)
+    by-judged None g e = absurd (let z : ◌≡◌ {A = ℕ} 0 1 = cc in omega arith)
+    by-judged (passed p q) g e =
+        let f : judged_of k (length area) ≡ passed m n = g ∙ by_read p q (read_area p q area) e in
         (f, sym (judged-same k m (length area) n f))
 
 -- ---- from what the steps give to how the walk begins
@@ -76,7 +76,7 @@ module _ (area : List ℕ) (size : ℕ) (forward : Bool) (p : Place) where
   begun-some (i ∷ is) g l = (p, refl, g)
 
   -- and one that has none
-  pub begun-none : (is : List Item) → Gives area size forward is p → p.length ≡ 0 → Begins area size forward (if_some is) (Refused Absent)
+  pub begun-none : (is : List Item) → Gives area size forward is p → p.length ≡ 0 → Begins area size forward (if_some is) (Refused (Err Absent))
   unfolding steps_from
   begun-none [] g z = refl
   begun-none (i ∷ is) g z = absurd (omega (arith, z, (g.there 0 (omega arith)).2))
@@ -203,7 +203,7 @@ module _ (k : Measures) (area : List ℕ) (forward : Bool) where
     unfolding walk_from_of
     from-refused given = (
       rw shut-is,
-      λ (p : Place) (q : Refused a ≡ At p) (n : ℕ) (j : judged_of k (length area) ≡ judged.Fine k n) (c : Content) (w : read_area k n area ≡ whole c). absurd (refused-at a p q),
+      λ (p : Place) (q : Refused a ≡ At p) (n : ℕ) (j : judged_of k (length area) ≡ passed k n) (c : Content) (w : read_area k n area ≡ whole c). absurd (refused-at a p q),
     )
 
   -- one that is
@@ -252,7 +252,7 @@ module _ (k : Measures) (area : List ℕ) (forward : Bool) where
 
     -- From the bytes of a key: none of them or too many,
     module _ (given : List ℕ) where
-      wrong-bytes : head_fine m given ≡ false → Begins area k.size forward (walk_from_of k area forward given) (Refused WrongLength)
+      wrong-bytes : head_fine m given ≡ false → Begins area k.size forward (walk_from_of k area forward given) (Refused (Err WrongLength))
       unfolding walk_from_of
       wrong-bytes f = rw (there.1, f)
 
@@ -260,12 +260,12 @@ module _ (k : Measures) (area : List ℕ) (forward : Bool) where
       nowhere-at a p q n' j c w = absurd (refused-at a p q)
 
       pub from_nothing : length given ≡ 0
-          → Begins area k.size forward (walk_from_of k area forward given) (Refused WrongLength) × BeginsAt k area forward given (Refused WrongLength)
-      from_nothing z = (wrong-bytes (rw (le-ltb 0 (length given) (omega arith))), nowhere-at WrongLength)
+          → Begins area k.size forward (walk_from_of k area forward given) (Refused (Err WrongLength)) × BeginsAt k area forward given (Refused (Err WrongLength))
+      from_nothing z = (wrong-bytes (rw (le-ltb 0 (length given) (omega arith))), nowhere-at (Err WrongLength))
 
       pub from-too-many : m.key < length given
-          → Begins area k.size forward (walk_from_of k area forward given) (Refused WrongLength) × BeginsAt k area forward given (Refused WrongLength)
-      from-too-many l = (wrong-bytes (rw (lt-leb (length given) m.key l) (both_false (ltb 0 (length given)))), nowhere-at WrongLength)
+          → Begins area k.size forward (walk_from_of k area forward given) (Refused (Err WrongLength)) × BeginsAt k area forward given (Refused (Err WrongLength))
+      from-too-many l = (wrong-bytes (rw (lt-leb (length given) m.key l) (both_false (ltb 0 (length given)))), nowhere-at (Err WrongLength))
 
       -- or so many as a key has at most: where the walk stands, if it stands anywhere.
       module _ (o : Octets area) (some : length given ≡ 0 → ⊥) (short : length given ≤ m.key) (p : Place)
@@ -283,8 +283,8 @@ module _ (k : Measures) (area : List ℕ) (forward : Bool) where
             (gives-from m n area there.3 there.0 there.2 forward given p short o (t there.0 there.2))
 
         pub from-absent : p.length ≡ 0
-            → Begins area k.size forward (walk_from_of k area forward given) (Refused Absent) × BeginsAt k area forward given (Refused Absent)
-        from-absent z = (rw given_is (begun-none area k.size forward p (walk_of m forward given there.0) gives z), nowhere-at Absent)
+            → Begins area k.size forward (walk_from_of k area forward given) (Refused (Err Absent)) × BeginsAt k area forward given (Refused (Err Absent))
+        from-absent z = (rw given_is (begun-none area k.size forward p (walk_of m forward given there.0) gives z), nowhere-at (Err Absent))
 
         pub from-present : (p.length ≡ 0 → ⊥) → Begins area k.size forward (walk_from_of k area forward given) (At p) × BeginsAt k area forward given (At p)
         from-present d = (rw given_is (begun-some area k.size forward p (walk_of m forward given there.0) gives (omega (arith, d))), stands)
@@ -292,7 +292,7 @@ module _ (k : Measures) (area : List ℕ) (forward : Bool) where
             stands : BeginsAt k area forward given (At p)
             stands q r n' j c w =
                 let x : p ≡ q = at_at p q r in
-                let v : judged.Fine m n ≡ judged.Fine k n' = sym (opened-judged k area m n records free e).0 ∙ j in
+                let v : passed m n ≡ passed k n' = sym (opened-judged k area m n records free e).0 ∙ j in
                 let y : m ≡ k = cc in
                 let z : n ≡ n' = cc in
                 let s : StoodIn k n' area forward (λ (c' : Content). begins_from k forward given (records_of c'.filled)) q = rw (y, z, x) at t in
@@ -311,7 +311,7 @@ module _ (k : Measures) (area : List ℕ) (forward : Bool) where
             absurd (refused-at a p (sym z ∙ x))
         go (opened.Whole m n records free) e =
             let i = opened-judged k area m n records free e in
-            let j : judged_of k (length area) ≡ judged.Fine k n = rw i.1 at i.0 in
+            let j : judged_of k (length area) ≡ passed k n = rw i.1 at i.0 in
             let w = opened-whole k area k n records free (rw i.1 at e) in
             stood-same k n area w.3 w.0 w.2 forward (begins_from k forward given (records_of w.0.filled)) p q (t p x n j w.0 w.2) (u q y n j w.0 w.2)
 
@@ -334,7 +334,7 @@ module _ (k : Measures) (area : List ℕ) (forward : Bool) where
             absurd (refused-at a p (sym z ∙ x))
         go (opened.Whole m n records free) e =
             let i = opened-judged k area m n records free e in
-            let j : judged_of k (length area) ≡ judged.Fine k n = rw i.1 at i.0 in
+            let j : judged_of k (length area) ≡ passed k n = rw i.1 at i.0 in
             let w = opened-whole k area k n records free (rw i.1 at e) in
             rw (i.1, w.4)
             (x
@@ -378,15 +378,15 @@ module _ (k : Measures) (area : List ℕ) (forward : Bool) where
               rw z at t
 
           go : (b : Bool) → eqb p.length 0 ≡ b → Meant
-          go true f = as-told (Refused Absent) (from-absent m n records free e given o some short p stood (eqb-true p.length 0 f))
+          go true f = as-told (Refused (Err Absent)) (from-absent m n records free e given o some short p stood (eqb-true p.length 0 f))
           go false f = as-told (At p) (from-present m n records free e given o some short p stood (eqb-false p.length 0 f))
 
       opened-begins : Meant
       opened-begins = go (eqb (length given) 0) (ltb m.key (length given)) refl refl
         where
           go : (a b : Bool) → eqb (length given) 0 ≡ a → ltb m.key (length given) ≡ b → Meant
-          go true b f g = as-told (Refused WrongLength) (from_nothing m n records free e given (eqb-true (length given) 0 f))
-          go false true f g = as-told (Refused WrongLength) (from-too-many m n records free e given (ltb-true m.key (length given) g))
+          go true b f g = as-told (Refused (Err WrongLength)) (from_nothing m n records free e given (eqb-true (length given) 0 f))
+          go false true f g = as-told (Refused (Err WrongLength)) (from-too-many m n records free e given (ltb-true m.key (length given) g))
           go false false f g =
               let w = opened-whole k area m n records free e in
               let j : ℕ = begins_from m forward given (records_of w.0.filled) in

@@ -10,9 +10,8 @@ use native.Mathlib.Omega.{arith}
 use Rattle.fields.specs.Bytes.{number, digits}
 use Rattle.fields.specs.Order.{order_of, common}
 use Rattle.fields.specs.Lists.{sum, concat, every}
-use Rattle.measures.specs.Judgement.{Fits, width_for, judged_of}
+use Rattle.measures.specs.Judgement.{Fits, width_for, judged_of, passed}
 use Rattle.measures.specs.Sizes.{any_below, permitted_size}
-use Rattle.measures.specs.declared.Judged.TheVariants.{Fine}
 use Rattle.measures.proofs.Fine.{accepted}
 use Rattle.room.specs.Room.{rdf_count, push, groups, need}
 use Rattle.interval.specs.Records.{ascend_from, ascending}
@@ -84,7 +83,7 @@ gapped-fits =
       few = omega arith;
     }
 
-gapped-judged : judged_of depot (length gapped_bytes) ≡ Fine depot 3
+gapped-judged : judged_of depot (length gapped_bytes) ≡ passed depot 3
 gapped-judged = accepted depot (length gapped_bytes) 3 gapped-fits
 
 end-gives : (forward : Bool) → walk_end_of depot gapped_bytes forward ≡ giving (walk_of depot forward [] gapped)

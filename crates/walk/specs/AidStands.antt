@@ -1,9 +1,8 @@
 -- Aids: where a walk stands in a sound area. `walk_of` of crate requests says which records come: document 02, L1.
 use Rattle.std.specs.Prelude.{ℕ, suc, ◌+◌, ◌-◌, ◌*◌, ◌≤◌, ◌<◌, ◌≡◌, Bool, true, false, List, [], length, get_or, take}
 use Rattle.fields.specs.Choice.{pick}
-use Rattle.measures.specs.Judgement.{width_for, judged_of}
+use Rattle.measures.specs.Judgement.{width_for, judged_of, passed}
 use Rattle.measures.specs.declared.Measures.{Measures}
-use Rattle.measures.specs.declared.Judged.TheVariants.{Fine}
 use Rattle.interval.specs.Reading.{records_in, displacement}
 use Rattle.interval.specs.Search.{lower, Within}
 use Rattle.interval.specs.declared.Found.{Found}
@@ -97,7 +96,7 @@ begins_from m false given rs = reached m (pad m.key 255 given) rs
 -- A walk that begins at a place begins at the one for that.
 abbrev pub BeginsAt : Measures → List ℕ → Bool → List ℕ → Begun → Type 0
 BeginsAt m area forward given r =
-    (p : Place) → r ≡ At p → (n : ℕ) → judged_of m (length area) ≡ Fine m n
+    (p : Place) → r ≡ At p → (n : ℕ) → judged_of m (length area) ≡ passed m n
     → StoodIn m n area forward (λ (c : Content). begins_from m forward given (records_of c.filled)) p
 
 -- what a walk from an end begins with, by how the area was opened

@@ -6,9 +6,8 @@ use mathlib.Core.List.{List}
 use lib.ListN.{length}
 use contract.Lifetimes.{Lfts}
 use denote.Ref.{Bor}
-use Rattle.measures.specs.Judgement.{judged_of}
+use Rattle.measures.specs.Judgement.{judged_of, passed}
 use Rattle.measures.specs.declared.Measures.{Measures}
-use Rattle.measures.specs.declared.Judged.TheVariants.{Fine}
 use Rattle.area.specs.Content.{Content}
 use Rattle.area.specs.Reading.{read_area, whole}
 use Rattle.requests.specs.Walks.{walk_of}
@@ -52,7 +51,7 @@ module _ (area : Bor (List ℕ)) (size : ℕ) (forward : Bool) (place : Place) (
 -- callers of `walk_from`, `walk_end`, `begun`, `next` and `seen` learn.
 pub walker-gives : (area : Bor (List ℕ)) (m : Measures) (forward : Bool) (given : List ℕ) (r : Begun) → Began area m forward given r
     → (place : Place) → r ≡ At place → (walkers : ℕ → Walker) (parts : ℕ → Bor (List ℕ)) → Walking area m.size forward place walkers parts
-    → (n : ℕ) (c : Content) → judged_of m (length area.now) ≡ Fine m n
+    → (n : ℕ) (c : Content) → judged_of m (length area.now) ≡ passed m n
     → read_area m n area.now ≡ whole c → Given area (walk_of m forward given c) parts
 walker-gives area m forward given r b place at walkers parts w =
     steps-give area m forward given r b (λ (k : ℕ). (walkers k).place) parts (at ∙ ap (λ (x : Walker). At x.place) (sym w.first))

@@ -5,8 +5,7 @@ use Rattle.opening.proofs.open.Reads
 use Rattle.opening.proofs.open.Tie
 use mathlib.Core.Path.{◌≡◌, ◌∙◌, sym}
 use lib.ListN.{length}
-use Rattle.measures.specs.Judgement.{asked, judged_of}
-use Rattle.measures.specs.declared.Judged.TheVariants.{Fine}
+use Rattle.measures.specs.Judgement.{asked, judged_of, passed}
 use Rattle.area.specs.declared.Checked.TheVariants.{Intact, Damaged}
 use Rattle.opening.proofs.Opening.{fits-lent, open-outside, open_told}
 use Rattle.opening.proofs.open.Goals as goal
@@ -14,7 +13,7 @@ use Rattle.opening.proofs.open.Goals as goal
 abbrev After-known_told-state : Type 0
 After-known_told-state = Lts.Past-After-known_told Tie.the-claims Reads.Pre Reads.Post
 
-fine : (k : After-known_told-state) → judged_of (asked k.args.numbers) (length k.args.area.now) ≡ Fine k.in-Fine.measures k.in-Fine.count
+fine : (k : After-known_told-state) → judged_of (asked k.args.numbers) (length k.args.area.now) ≡ passed k.in-Fine.measures k.in-Fine.count
 fine k = sym k.judge.ensures ∙ k.in-Fine.is
 
 pub returns-in_default : goal.returns-in_default

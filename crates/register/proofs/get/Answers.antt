@@ -5,9 +5,8 @@ use Rattle.register.proofs.get.Reads
 use Rattle.register.proofs.get.Tie
 use mathlib.Core.Path.{◌≡◌, ◌∙◌, sym}
 use lib.ListN.{length}
-use Rattle.measures.specs.Judgement.{judged_of, measures}
+use Rattle.measures.specs.Judgement.{judged_of, measures, passed}
 use Rattle.measures.specs.declared.Measures.{Measures}
-use Rattle.measures.specs.declared.Judged.TheVariants.{Fine}
 use Rattle.opening.proofs.Opening.{fits-lent}
 use Rattle.register.proofs.Reading.{get-outside, get-fine}
 use Rattle.register.proofs.get.Goals as goal
@@ -22,7 +21,7 @@ abbrev asked : After-judge-state → Measures
 asked k = let a = k.args in measures a.size a.offset a.key a.most
 
 fine : (q : After-known_told-state)
-    → judged_of (asked q.before) (length q.args.area.now) ≡ Fine q.in-Fine.measures q.in-Fine.count
+    → judged_of (asked q.before) (length q.args.area.now) ≡ passed q.in-Fine.measures q.in-Fine.count
 fine q = sym q.judge.ensures ∙ q.in-Fine.is
 
 pub returns-in_default : goal.returns-in_default

@@ -1,5 +1,6 @@
 -- No loop. sought-lies does the work: each number is named once, so that the record which the search finds in one interval is all that lies there.
 -- An interval with another number doesn't reach the address, and a free one has no record. What was found ends within the area (Inside).
+use Rattle.std.specs.Prelude.{Err}
 use Rattle.register.proofs.get_at_in.Lts
 use Rattle.register.proofs.get_at_in.Reads
 use Rattle.register.proofs.get_at_in.Tie
@@ -12,7 +13,7 @@ use Rattle.area_find.specs.AidSought.{sought_at}
 use Rattle.area_find.specs.declared.Lying.{Lying}
 use Rattle.requests.specs.Records.{lying_at}
 use Rattle.requests.specs.Reading.{hand_out}
-use Rattle.requests.specs.declared.Answer.TheVariants.{NoRecord}
+use Rattle.requests.specs.declared.Refusal.TheVariants.{NoRecord}
 use Rattle.register.proofs.AddressFound.{LiesAs, sought-lies}
 use Rattle.register.proofs.Reading.{gives_as}
 use Rattle.register.proofs.get_at_in.Goals as goal
@@ -32,7 +33,7 @@ pub returns-in_default : goal.returns-in_default
 returns-in_default c =
     let a = c.args in
     λ (d : Content) (h : read_area a.m a.n a.area.now ≡ whole d).
-    gives_as (ap (λ (rs : List (List ℕ)). hand_out NoRecord rs a.out.now) (sym (lies c.before.before d h _ c.in_default.is))) (record { answers = refl; outputs = refl })
+    gives_as (ap (λ (rs : List (List ℕ)). hand_out (Err NoRecord) rs a.out.now) (sym (lies c.before.before d h _ c.in_default.is))) (record { answers = refl; outputs = refl })
 
 pub hand_out-requires : goal.hand_out-requires
 hand_out-requires c = rw c.in-Here.is at c.record_at.ensures.inside
@@ -41,4 +42,4 @@ pub returns : goal.returns
 returns c =
     let a = c.args in
     λ (d : Content) (h : read_area a.m a.n a.area.now ≡ whole d).
-    gives_as (ap (λ (rs : List (List ℕ)). hand_out NoRecord rs a.out.now) (sym (lies c.before.before.before.before.before.before d h _ c.in-Here.is))) c.hand_out.ensures
+    gives_as (ap (λ (rs : List (List ℕ)). hand_out (Err NoRecord) rs a.out.now) (sym (lies c.before.before.before.before.before.before d h _ c.in-Here.is))) c.hand_out.ensures
