@@ -20,7 +20,7 @@ use Rattle.opening.specs.AidOpened.{opened_of}
 use Rattle.walk.specs.AidSteps.{next_of, record_of}
 use Rattle.walk.specs.AidStands.{ended_by, begun_from}
 use Rattle.walk.specs.declared.Place.{Place}
-use Rattle.walk.specs.declared.Begun.{Begun}
+use Rattle.walk.specs.AidGives.{Begun}
 use Rattle.ask.specs.declared.Told.{Told}
 use Rattle.ask.specs.declared.ReadKind.{ReadKind}
 use Rattle.ask.specs.declared.ReadKind.TheVariants.{Check, Get, GetAt, WalkFrom, WalkEnd, Step, Record}

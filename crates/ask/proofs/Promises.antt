@@ -16,8 +16,7 @@ use Rattle.requests.specs.declared.Refusal.TheVariants.{Outside, Damaged, WrongL
 use Rattle.opening.specs.AidOpened.{opened_of}
 use Rattle.walk.specs.AidGives.{Begins}
 use Rattle.walk.specs.AidStands.{ended_by, begun_from}
-use Rattle.walk.specs.declared.Begun.{Begun}
-use Rattle.walk.specs.declared.Begun.TheVariants.{At, Refused}
+use Rattle.walk.specs.AidGives.{Begun}
 use Rattle.walk.proofs.Walking.{ended-begins, begun-begins}
 use Rattle.ask.specs.declared.ReadKind.{ReadKind}
 use Rattle.ask.specs.declared.ReadKind.TheVariants.{Check, Get, GetAt, WalkFrom, WalkEnd, Step, Record}
@@ -46,8 +45,8 @@ number-few (Err NoRoom) = omega arith
 number-few (Err NoRecord) = omega arith
 
 begun-few : (b : Begun) → (begun_told b).number ≤ 9
-begun-few (At p) = omega arith
-begun-few (Refused a) = number-few a
+begun-few (Ok p) = omega arith
+begun-few (Err a) = number-few a
 
 -- what is served has one of document 01's numbers
 read-few : (k : ReadKind) (q : Question) → (read_made k q).told.number ≤ 9

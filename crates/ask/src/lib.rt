@@ -15,7 +15,7 @@ ghost use Rattle.ask.specs.Asking.{left, read_of, ask_of};
 
 use measures::Numbers;
 use requests::{Answer, Done, Refusal};
-use walk::Place;
+use walk::{Begun, Place};
 
 // The requests that only read. A new one stands last.
 #[derive(Clone, Copy)]
@@ -118,7 +118,7 @@ pub(crate) fn tell(answer: Answer) -> Told
                 eighth: 0,
             }
         }
-        Ok(Done::Intact(holds)) => two(number, holds.records, holds.free),
+        Ok(Done::Intact { records, free }) => two(number, records, free),
         Ok(Done::Found(length)) => two(number, length, 0),
         Err(Refusal::Damaged(place)) => two(number, place, 0),
         Err(Refusal::Short(needed)) => two(number, needed, 0),
@@ -144,7 +144,7 @@ pub(crate) fn standing(p: Place) -> Told
 }
 
 // A walk that was begun: its place, or the refusal.
-pub(crate) fn begun(b: Result<Place, Refusal>) -> Told
+pub(crate) fn begun(b: Begun) -> Told
     ensures { result ≡ begun_told b }
 {
     match b {

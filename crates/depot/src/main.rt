@@ -21,8 +21,8 @@ fn check(area: &[u8]) -> Answer {
 // area whose lines could not all be printed is not stored: nobody would know what was accepted.
 fn close(rt: &(impl Print + Files), area: &[u8], served: End) -> End {
     match check(area) {
-        Ok(Done::Intact(holds)) => {
-            if let Err(error) = print::closing(rt, holds.records, holds.free) {
+        Ok(Done::Intact { records, free }) => {
+            if let Err(error) = print::closing(rt, records, free) {
                 return depot_io::failed(b"standard output", error);
             }
             if !files::store(rt, area) {
@@ -49,7 +49,10 @@ fn open(rt: &(impl Print + Files), area: &mut [u8]) -> End
     ensures { Leads area.old area.new }
 {
     match check(area) {
-        Ok(Done::Intact(_)) => day(rt, area),
+        Ok(Done::Intact {
+            records: _,
+            free: _,
+        }) => day(rt, area),
         other => depot_io::refused(rt, other),
     }
 }

@@ -51,10 +51,10 @@ pub(crate) fn told(answer: Answer) -> Values
             }
         }
         Ok(Done::Found(length)) => one(number, length),
-        Ok(Done::Intact(holds)) => Values {
+        Ok(Done::Intact { records, free }) => Values {
             number,
-            first: holds.records,
-            second: holds.free,
+            first: records,
+            second: free,
             third: 0,
             fourth: 0,
             fifth: 0,

@@ -5,7 +5,7 @@ ghost use Rattle.exports.specs.Walks.{place, Denies, Tells, Starts, Opens, Steps
 
 use measures::Numbers;
 use requests::Refusal;
-use walk::Place;
+use walk::{Begun, Place};
 
 // What a walk begins with, as C reads it: 0 and the place; or a refusal's number and, in the place of an entry, the place of damage.
 #[derive(Clone, Copy)]
@@ -33,7 +33,7 @@ pub(crate) fn refused(refusal: Refusal) -> Start
     }
 }
 
-pub(crate) fn started(begun: Result<Place, Refusal>) -> Start
+pub(crate) fn started(begun: Begun) -> Start
     ensures { Tells begun result.number result.place }
 {
     match begun {

@@ -1,6 +1,6 @@
 -- What an area is opened as, by the judgement of the measures and by the check of the area; and what the requests may take from it: a refusal is that
 -- of the meaning, and an area opened whole holds a content which its reading gives.
-use Rattle.std.specs.Prelude.{Err, None, Option}
+use Rattle.std.specs.Prelude.{Err, None, Option, Result}
 use Prim.Native.Nat.{ℕ}
 use mathlib.Core.Path.{◌≡◌, refl, ◌∙◌, sym, ap}
 use mathlib.Core.List.{List}
@@ -13,53 +13,54 @@ use Rattle.measures.proofs.Fine.{judged-same, accepted-fits}
 use Rattle.area.specs.Content.{Content, records_of}
 use Rattle.area.specs.Reading.{Reading, damaged, whole, read_area}
 use Rattle.area.specs.Checked.{checked_of}
-use Rattle.area.specs.declared.Checked.{Checked}
-use Rattle.area.specs.declared.Checked.TheVariants as checked
 use Rattle.requests.specs.Opening.{Opening, shut, holding, open_read, open_judged, opening_of}
 use Rattle.requests.specs.Answers.{Answer}
 use Rattle.requests.specs.declared.Refusal.TheVariants.{Outside, Damaged}
 use Rattle.opening.specs.AidOpened.{opened_read, opened_judged, opened_of}
-use Rattle.opening.specs.declared.Opened.{Opened}
-use Rattle.opening.specs.declared.Opened.TheVariants.{Whole, Refused}
+use Rattle.opening.specs.AidOpened.{Opened}
+use Rattle.opening.specs.AidOpened.{opened}
+use Rattle.area.specs.Checked.{sound_with, damaged_at}
+use Rattle.area.specs.declared.Intact.{Intact}
+use Rattle.area.specs.declared.Damage.{Damage}
 
 -- ---- the ways of the code
 
 -- what it answers by what the check told
-abbrev pub opened_told : Measures → ℕ → Checked → Opened
-opened_told m n (checked.Intact records free) = Whole m n records free
-opened_told m n (checked.Damaged place) = Refused (Err (Damaged place))
+abbrev pub opened_told : Measures → ℕ → Result Intact Damage → Opened
+opened_told m n (sound_with records free) = opened m n records free
+opened_told m n (damaged_at place) = Err (Err (Damaged place))
 
 told-read : (m : Measures) (n : ℕ) (x : Reading) → opened_told m n (checked_of x) ≡ opened_read m n x
 told-read m n (damaged place) = refl
 told-read m n (whole c) = refl
 
 module _ (k : Measures) (area : List ℕ) where
-  pub open-outside : judged_of k (length area) ≡ None → Refused (Err Outside) ≡ opened_of k area
+  pub open-outside : judged_of k (length area) ≡ None → Err (Err Outside) ≡ opened_of k area
   open-outside e = sym (ap (λ (j : Option Judged). opened_judged j area) e)
 
   module _ (m : Measures) (n : ℕ) (e : judged_of k (length area) ≡ passed m n) where
     pub fits-lent : Fits m n (length area)
     fits-lent = accepted-fits m (length area) n (rw (judged-same k m (length area) n e) at e)
 
-    pub open_told : (x : Checked) → x ≡ checked_of (read_area m n area) → opened_told m n x ≡ opened_of k area
+    pub open_told : (x : Result Intact Damage) → x ≡ checked_of (read_area m n area) → opened_told m n x ≡ opened_of k area
     open_told x h = ap (opened_told m n) h ∙ told-read m n (read_area m n area) ∙ sym (ap (λ (j : Option Judged). opened_judged j area) e)
 
 -- ---- what a caller takes from the answer
 
 -- A refusal is that of the meaning.
-pub opened-shut : (m : Measures) (area : List ℕ) (a : Answer) → opened_of m area ≡ Refused a → opening_of m area ≡ shut a
+pub opened-shut : (m : Measures) (area : List ℕ) (a : Answer) → opened_of m area ≡ Err a → opening_of m area ≡ shut a
 opened-shut m area a = by-judged (judged_of m (length area))
   where
-    by_read : (m : Measures) (n : ℕ) (x : Reading) → opened_read m n x ≡ Refused a → open_read m x ≡ shut a
+    by_read : (m : Measures) (n : ℕ) (x : Reading) → opened_read m n x ≡ Err a → open_read m x ≡ shut a
     by_read m n (damaged place) e = let z : (Err (Damaged place)) ≡ a = cc in ap shut z
     by_read m n (whole c) e = absurd (let z : ◌≡◌ {A = ℕ} 0 1 = cc in omega arith)
 
-    by-judged : (j : Option Judged) → opened_judged j area ≡ Refused a → open_judged j area ≡ shut a
+    by-judged : (j : Option Judged) → opened_judged j area ≡ Err a → open_judged j area ≡ shut a
     by-judged None e = let z : (Err Outside) ≡ a = cc in ap shut z
     by-judged (passed m n) e = by_read m n (read_area m n area) e
 
 -- An area that is opened whole fits its measures, reads as a content, which it holds by the meaning too, and the counts are that content's.
-pub opened-whole : (k : Measures) (area : List ℕ) (m : Measures) (n records free : ℕ) → opened_of k area ≡ Whole m n records free
+pub opened-whole : (k : Measures) (area : List ℕ) (m : Measures) (n records free : ℕ) → opened_of k area ≡ opened m n records free
     → (c : Content)
     × (opening_of k area ≡ holding m c)
     × (read_area m n area ≡ whole c)
@@ -77,13 +78,13 @@ opened-whole k area m n records free = by-judged (judged_of k (length area)) ref
         × (records ≡ length (records_of c.filled))
         × (free ≡ length c.free)
 
-    by_read : (p : Measures) (q : ℕ) (x : Reading) → read_area p q area ≡ x → Fits p q (length area) → opened_read p q x ≡ Whole m n records free → Held (open_read p x)
+    by_read : (p : Measures) (q : ℕ) (x : Reading) → read_area p q area ≡ x → Fits p q (length area) → opened_read p q x ≡ opened m n records free → Held (open_read p x)
     by_read p q (damaged place) h f e = absurd (let z : ◌≡◌ {A = ℕ} 0 1 = cc in omega arith)
     by_read p q (whole c) h f e =
         let y : p ≡ m = cc in
         let z : q ≡ n = cc in
         (c, ap (λ (v : Measures). holding v c) y, rw (y, z) at h, rw (y, z) at f, cc, cc)
 
-    by-judged : (j : Option Judged) → judged_of k (length area) ≡ j → opened_judged j area ≡ Whole m n records free → Held (open_judged j area)
+    by-judged : (j : Option Judged) → judged_of k (length area) ≡ j → opened_judged j area ≡ opened m n records free → Held (open_judged j area)
     by-judged None g e = absurd (let z : ◌≡◌ {A = ℕ} 0 1 = cc in omega arith)
     by-judged (passed p q) g e = by_read p q (read_area p q area) refl (fits-lent k area p q g) e

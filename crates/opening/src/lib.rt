@@ -9,12 +9,13 @@ use area::Intact;
 use measures::{Judged, Measures, Numbers};
 use requests::Refusal;
 
-// A sound area: its measures, how many data intervals it has, and what they hold.
+// A sound area: its measures, and how many data intervals, records and free intervals it has.
 #[derive(Clone, Copy)]
 pub struct Whole {
     pub measures: Measures,
     pub count: usize,
-    pub holds: Intact,
+    pub records: usize,
+    pub free: usize,
 }
 
 // Judges the four numbers, then checks the area: refusals 1 and 2.
@@ -24,10 +25,11 @@ pub fn open(area: &[u8], numbers: Numbers) -> Result<Whole, Refusal>
     let Some(Judged { measures, count }) = measures::judge(numbers, area.len()) else {
         return Err(Refusal::Outside);
     };
-    let holds = area_read::check(area, measures, count)?;
+    let Intact { records, free } = area_read::check(area, measures, count)?;
     Ok(Whole {
         measures,
         count,
-        holds,
+        records,
+        free,
     })
 }

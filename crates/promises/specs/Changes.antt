@@ -83,7 +83,7 @@ unit_at S area k = part area (k * S) S
 abbrev pub Framed : ℕ → List ℕ → List ℕ → Answer → Type 0
 Framed S before after a = (k : ℕ) → (Memᴰ k (told_written a) → ⊥) → unit_at S after k ≡ unit_at S before k
 
--- (Ok (Changed tells)) which intervals were written, ascending, four at the most, and how many: the index record exactly if the free list got shorter; a data interval
+-- Changed tells which intervals were written, ascending, four at the most, and how many: the index record exactly if the free list got shorter; a data interval
 -- exactly if it is the one to which the key belongs, or was free and no longer is. Every other is as it was. Said over what the area was read as before (c) and
 -- after (d); old is the number of the key's interval.
 pub record WrittenTrue (m : Measures) (before after : List ℕ) (c d : Content) (a : Answer) (old : ℕ) : Type 0 where

@@ -210,7 +210,7 @@ scratched = splice bytes 1024 (replicate 512 0)
 
 -- what a get comes to that reads the whole area first, as gets did before: damage wherever it lies refuses it
 abbrev vouched : Opening → List ℕ → Given → Given
-vouched (shut a) out right = refused a out
+vouched (shut r) out right = refused (Err r) out
 vouched (holding m c) out right = right
 
 -- vouches for the whole area in every get

@@ -20,7 +20,6 @@ use Rattle.requests.specs.Changing.{Outcome, length_fine, carry_out, change_in, 
 use Rattle.requests.specs.Answers.{Answer}
 use Rattle.requests.specs.declared.Refusal.TheVariants.{WrongLength}
 use Rattle.opening.specs.AidOpened.{opened_of}
-use Rattle.opening.specs.declared.Opened.TheVariants as opened
 use Rattle.opening.proofs.Opening.{opened-shut, opened-whole}
 use Rattle.register.specs.AidTold.{answer_for, MakesIn}
 use Rattle.register.specs.AidChange.{change_for, change_at, Asked, keyed_in}
@@ -50,11 +49,11 @@ length-long m l h k = rw (le-leb m.least l h, lt-leb l m.most k)
 
 -- a refusal is the answer, and the area stays; a whole area is answered by what it holds
 module _ (k : Measures) (area : List ℕ) (ch : Change) where
-  pub change-shut : (a : Answer) → opened_of k area ≡ opened.Refused a → Makes (change_of k area ch) a area
+  pub change-shut : (a : Answer) → opened_of k area ≡ Err a → Makes (change_of k area ch) a area
   unfolding change_of
   change-shut a e = rw (opened-shut k area a e) (record { answers = refl; leaves = refl })
 
-  pub change-whole : (m : Measures) (n records free : ℕ) → opened_of k area ≡ opened.Whole m n records free
+  pub change-whole : (m : Measures) (n records free : ℕ) → opened_of k area ≡ opened m n records free
       → (a : Answer) (after : List ℕ) → MakesIn m n area (λ c. change_in m c area ch) a after → Makes (change_of k area ch) a after
   unfolding change_of
   change-whole m n records free e a after g = let o = opened-whole k area m n records free e in rw o.1 (g o.0 o.2)

@@ -1,5 +1,5 @@
 -- The requests that read, against their meaning: a record handed out, get by key by what it judged and read, and the others by what the area was opened as.
-use Rattle.std.specs.Prelude.{Ok, Err, None}
+use Rattle.std.specs.Prelude.{Ok, Err, None, Result, Option}
 use Prim.Native.Nat.{ℕ, ◌+◌, ◌*◌, ◌≤◌, ◌<◌}
 use mathlib.Core.Path.{◌≡◌, refl, ◌∙◌, sym, ap}
 use mathlib.Core.Bool.{Bool, true, false}
@@ -21,18 +21,18 @@ use Rattle.area.specs.Content.{records_of}
 use Rattle.area.specs.Leads.{index_sound, entries_for, number_for, interval_for, sound_for}
 use Rattle.area_find.specs.AidSought.{Whole}
 use Rattle.area_seek.specs.AidLooked.{looked_at, looked_of}
-use Rattle.area_seek.specs.declared.Looked.{Looked}
-use Rattle.area_seek.specs.declared.Looked.TheVariants as looked
 use Rattle.requests.specs.Records.{with_key}
 use Rattle.requests.specs.Reading.{check_of, Given, refused, hand_out, get_there, get_in, get_of, get_at_in, get_at_of, Gives}
 use Rattle.requests.specs.Answers.{Answer}
 use Rattle.requests.specs.declared.Done.TheVariants.{Found, Intact}
 use Rattle.requests.specs.declared.Refusal.TheVariants.{Outside, Damaged, WrongLength, Absent, Short}
 use Rattle.opening.specs.AidOpened.{opened_of}
-use Rattle.opening.specs.declared.Opened.TheVariants as opened
 use Rattle.opening.proofs.Opening.{opened-shut, opened-whole}
 use Rattle.register.specs.AidTold.{GivesIn}
 use Rattle.register.proofs.KeyFound.{there-readable, found-there, absent-there}
+use Rattle.area.specs.Checked.{damaged_at, lies_at}
+use Rattle.area.specs.declared.Lying.{Lying}
+use Rattle.area.specs.declared.Damage.{Damage}
 
 -- ---- handing a record out
 
@@ -65,10 +65,10 @@ module _ (m : Measures) (n : ℕ) (area : List ℕ) where
   wrong-unsound h = sym (rw h)
 
 -- what a search comes to that judges only what it reads
-abbrev pub given_by : List ℕ → List ℕ → Looked → Given
-given_by area out (looked.Here from len) = hand_out (Err Absent) (part area from len ∷ []) out
-given_by area out looked.Nowhere = refused (Err Absent) out
-given_by area out (looked.Damaged place) = refused (Err (Damaged place)) out
+abbrev pub given_by : List ℕ → List ℕ → Result (Option Lying) Damage → Given
+given_by area out (Ok (lies_at from len)) = hand_out (Err Absent) (part area from len ∷ []) out
+given_by area out (Ok None) = refused (Err Absent) out
+given_by area out (damaged_at place) = refused (Err (Damaged place)) out
 
 module _ (m : Measures) (n : ℕ) (area wanted out : List ℕ) where
   pub get-wrong : (length wanted ≡ m.key → ⊥) → (a : Answer) → a ≡ pick (index_sound m n area) (Err WrongLength) (Err (Damaged 0)) → Gives (get_in m n area wanted out) a out
@@ -96,7 +96,7 @@ module _ (m : Measures) (n : ℕ) (area wanted out : List ℕ) where
       ci = interval_for m n area wanted
 
       go : (t u : Bool) → sound_for m es wanted ci ≡ u → (f : Found) → place_of m wanted (records_in ci) ≡ f
-          → given_by area out (pick t (pick u (looked_at ((k + 1) * m.size) f) (looked.Damaged (k + 1))) (looked.Damaged 0))
+          → given_by area out (pick t (pick u (looked_at ((k + 1) * m.size) f) (damaged_at (k + 1))) (damaged_at 0))
           ≡ pick t (pick u (hand_out (Err Absent) (with_key m wanted (records_in ci)) out) (refused (Err (Damaged (k + 1))) out)) (refused (Err (Damaged 0)) out)
       go false u h f e = refl
       go true false h f e = refl
@@ -120,7 +120,7 @@ module _ (k : Measures) (area wanted out : List ℕ) where
 
 module _ (k : Measures) (area : List ℕ) where
   -- a refusal is the answer, and the output stays
-  module _ (a : Answer) (e : opened_of k area ≡ opened.Refused a) where
+  module _ (a : Answer) (e : opened_of k area ≡ Err a) where
     pub check-shut : a ≡ check_of k area
     unfolding check_of
     check-shut = sym (rw (opened-shut k area a e))
@@ -130,7 +130,7 @@ module _ (k : Measures) (area : List ℕ) where
     get-at-shut address out = rw (opened-shut k area a e) (record { answers = refl; outputs = refl })
 
   -- an area that is whole is one in which the floors below may search, and it is answered by what it holds
-  module _ (m : Measures) (n records free : ℕ) (e : opened_of k area ≡ opened.Whole m n records free) where
+  module _ (m : Measures) (n records free : ℕ) (e : opened_of k area ≡ opened m n records free) where
     pub whole-there : Fits m n (length area) × Whole m n area
     whole-there = let o = opened-whole k area m n records free e in (o.3, record { content = o.0; reads = o.2 })
 

@@ -34,7 +34,10 @@ pub fn check(area: &[u8], size: usize, offset: usize, key: usize, most: usize) -
         most,
     };
     let whole = opening::open(area, numbers)?;
-    Ok(Done::Intact(whole.holds))
+    Ok(Done::Intact {
+        records: whole.records,
+        free: whole.free,
+    })
 }
 
 // A record of the area at the front of the output, or refusal 8 with the length that it needs.

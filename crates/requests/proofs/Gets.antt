@@ -134,13 +134,13 @@ module _ (Wanted : List ℕ → Type 0) (none : Answer) (out : List ℕ) (not_fo
 absent-found : (l : ℕ) → (Err Absent) ≡ (Ok (Found l)) → ⊥
 absent-found l e = let z : ◌≡◌ {A = ℕ} 0 1 = cc in omega arith
 
-absent-short : (l : ℕ) → (Err Absent) ≡ (Err (Short l)) → ⊥
+absent-short : (l : ℕ) → ◌≡◌ {A = Answer} (Err Absent) (Err (Short l)) → ⊥
 absent-short l e = let z : ◌≡◌ {A = ℕ} 0 1 = cc in omega arith
 
 nowhere-found : (l : ℕ) → (Err NoRecord) ≡ (Ok (Found l)) → ⊥
 nowhere-found l e = let z : ◌≡◌ {A = ℕ} 0 1 = cc in omega arith
 
-nowhere-short : (l : ℕ) → (Err NoRecord) ≡ (Err (Short l)) → ⊥
+nowhere-short : (l : ℕ) → ◌≡◌ {A = Answer} (Err NoRecord) (Err (Short l)) → ⊥
 nowhere-short l e = let z : ◌≡◌ {A = ℕ} 0 1 = cc in omega arith
 
 fine-among : (least most : ℕ) (rs : List (List ℕ)) (r : List ℕ) → all_within least most (map length rs) ≡ true → Memᴰ r rs → least ≤ length r

@@ -1,8 +1,14 @@
 -- Document 01's number for each kind of answer, and the values that come back with it: 'What each number tells the depot'.
-use Rattle.std.specs.Prelude.{ℕ, List, [], ◌∷◌, Ok, Err}
+use Rattle.std.specs.Prelude.{ℕ, List, [], ◌∷◌, Result, Ok, Err}
 use Rattle.change.specs.Written.{numbers_of}
+use Rattle.requests.specs.declared.Done.{Done}
+use Rattle.requests.specs.declared.Refusal.{Refusal}
 use Rattle.requests.specs.declared.Done.TheVariants.{Changed, Found, Intact}
 use Rattle.requests.specs.declared.Refusal.TheVariants.{Outside, Damaged, WrongLength, Present, Absent, NoInterval, NoRoom, Short, NoRecord}
+
+-- what every request answers: what it tells, or why it is refused
+abbrev pub Answer : Type 0
+Answer = Result Done Refusal
 
 abbrev pub number_of : Answer → ℕ
 number_of (Ok (Changed w)) = 0

@@ -85,7 +85,7 @@ change_in m c area ch =
     (kept (Err WrongLength) area)
 
 abbrev pub change_opened : Opening → List ℕ → Change → Outcome
-change_opened (shut a) area ch = kept a area
+change_opened (shut r) area ch = kept (Err r) area
 change_opened (holding m c) area ch = change_in m c area ch
 
 unfoldable pub change_of : Measures → List ℕ → Change → Outcome

@@ -1,9 +1,9 @@
 -- The requests that read, what each answers and what the output holds afterwards: document 01, 'What each number tells the depot'. The area is not lent
 -- for change.
-use Rattle.std.specs.Prelude.{ℕ, ◌+◌, ◌≡◌, List, [], ◌∷◌, length, eqb, leb, Ok, Err, None, Option}
+use Rattle.std.specs.Prelude.{ℕ, ◌+◌, ◌≡◌, List, [], ◌∷◌, length, eqb, leb, Option, Some, None, Ok, Err}
 use Rattle.fields.specs.Choice.{pick}
 use Rattle.fields.specs.Bytes.{splice}
-use Rattle.measures.specs.Judgement.{judged_of, passed}
+use Rattle.measures.specs.Judgement.{judged_of}
 use Rattle.measures.specs.declared.Measures.{Measures}
 use Rattle.measures.specs.declared.Judged.{Judged}
 use Rattle.interval.specs.Reading.{records_in}
@@ -21,7 +21,7 @@ use Rattle.requests.specs.declared.Refusal.TheVariants.{Outside, Damaged, WrongL
 
 -- how many records, and how many free intervals
 abbrev pub check_opened : Opening → Answer
-check_opened (shut a) = a
+check_opened (shut r) = Err r
 check_opened (holding m c) = (Ok (Intact (length (records_of c.filled)) (length c.free)))
 
 unfoldable pub check_of : Measures → List ℕ → Answer
@@ -59,7 +59,7 @@ get_in m n area wanted out =
 
 abbrev pub get_judged : Option Judged → List ℕ → List ℕ → List ℕ → Given
 get_judged None area wanted out = refused (Err Outside) out
-get_judged (passed m n) area wanted out = get_in m n area wanted out
+get_judged (Some j) area wanted out = get_in j.measures j.count area wanted out
 
 -- 1 before all of them
 unfoldable pub get_of : Measures → List ℕ → List ℕ → List ℕ → Given
@@ -75,7 +75,7 @@ abbrev pub get_at_in : Measures → Content → ℕ → List ℕ → Given
 get_at_in m c address out = hand_out (Err NoRecord) (lying_at m (base_of c) address c.filled) out
 
 abbrev pub get_at_opened : Opening → ℕ → List ℕ → Given
-get_at_opened (shut a) address out = refused a out
+get_at_opened (shut r) address out = refused (Err r) out
 get_at_opened (holding m c) address out = get_at_in m c address out
 
 unfoldable pub get_at_of : Measures → List ℕ → ℕ → List ℕ → Given

@@ -1,12 +1,12 @@
 -- What a walk over the register gives: document 02, L1. Said over demand 2's reading alone; nothing here searches or steps.
-use Rattle.std.specs.Prelude.{ℕ, ◌+◌, ◌*◌, Bool, true, false, List, [], ◌∷◌, ◌++◌, length, take, ltb, leb, Err}
+use Rattle.std.specs.Prelude.{ℕ, ◌+◌, ◌*◌, Bool, true, false, List, [], ◌∷◌, ◌++◌, length, take, ltb, leb}
 use Rattle.fields.specs.Choice.{pick, both, no}
 use Rattle.fields.specs.Order.{less}
 use Rattle.measures.specs.declared.Measures.{Measures}
 use Rattle.interval.specs.Records.{key_of}
 use Rattle.area.specs.Content.{Filled, Content}
 use Rattle.requests.specs.Opening.{Opening, shut, holding, opening_of}
-use Rattle.requests.specs.Answers.{Answer}
+use Rattle.requests.specs.declared.Refusal.{Refusal}
 use Rattle.requests.specs.declared.Refusal.TheVariants.{WrongLength, Absent}
 
 -- a record with its place: where its first byte lies in the area
@@ -53,7 +53,7 @@ walk_of m false given c = backwards (kept (beyond m false given) (items_of m c.f
 
 -- a refusal, or what the walk gives
 pub data Walk : Type 0 where
-  refused_with : Answer → Walk
+  refused_with : Refusal → Walk
   giving : List Item → Walk
 
 -- none or more than K bytes

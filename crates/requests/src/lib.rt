@@ -5,7 +5,7 @@ ghost use Rattle.std.specs.Prelude.{◌≡◌};
 ghost use Rattle.requests.specs.Answers.{number_of};
 ghost use Rattle.requests.specs.declared.Refusal.TheVariants.{Damaged};
 
-use area::{Damage, Intact};
+use area::Damage;
 use change::Written;
 
 // What a request that is not refused tells: which intervals a change wrote, how long the record found is, how many
@@ -14,7 +14,7 @@ use change::Written;
 pub enum Done {
     Changed(Written),
     Found(usize),
-    Intact(Intact),
+    Intact { records: usize, free: usize },
 }
 
 // Why a request is refused, with what it tells: the place of the damage, or the length that the output needs.

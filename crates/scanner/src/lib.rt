@@ -25,7 +25,7 @@ pub(crate) fn word(answer: Answer) -> u64
     let number = requests::number(answer);
     match answer {
         Ok(Done::Found(length)) => joined(number, 0, length),
-        Ok(Done::Intact(holds)) => joined(number, holds.free, holds.records),
+        Ok(Done::Intact { records, free }) => joined(number, free, records),
         Err(Refusal::Damaged(place)) => joined(number, place, 0),
         Err(Refusal::Short(needed)) => joined(number, 0, needed),
         _ => joined(number, 0, 0),

@@ -38,9 +38,9 @@ fn told(word: &[u8], answer: Answer) {
     match answer {
         Ok(Done::Changed(written)) => numbers(written),
         Ok(Done::Found(length)) => value(length),
-        Ok(Done::Intact(holds)) => {
-            value(holds.records);
-            value(holds.free);
+        Ok(Done::Intact { records, free }) => {
+            value(records);
+            value(free);
         }
         Err(Refusal::Short(length)) => value(length),
         Err(Refusal::Damaged(place)) => value(place),

@@ -4,7 +4,7 @@ ghost use Rattle.std.specs.Prelude.{◌+◌, ◌≤◌, ◌<◌, length};
 use crate::script::Ask;
 use crate::{print, request};
 use requests::Refusal;
-use walk::Place;
+use walk::{Begun, Place};
 
 // The record at a place, by where it begins and its length; or that it is the end.
 fn record(area: &[u8], p: Place) {
@@ -64,7 +64,7 @@ fn refused(refusal: Refusal) {
 }
 
 // A walk that has begun, or was refused.
-fn told(area: &[u8], ask: Ask, forward: bool, begun: Result<Place, Refusal>) {
+fn told(area: &[u8], ask: Ask, forward: bool, begun: Begun) {
     match begun {
         Err(refusal) => refused(refusal),
         Ok(p) => {

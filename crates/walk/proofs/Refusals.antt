@@ -24,7 +24,7 @@ use Rattle.promises.specs.Tables.{done, row, First}
 use Rattle.promises.proofs.Rows.{first_two, held}
 use Rattle.walk.specs.AidGives.{Begins}
 use Rattle.walk.specs.Refusals.{number_in, values_in, WrongBytes, NothingBeyond, from_table, end_table}
-use Rattle.walk.specs.declared.Begun.{Begun}
+use Rattle.walk.specs.AidGives.{Begun}
 
 -- the number of a walk's meaning
 abbrev number_for : Walk → ℕ

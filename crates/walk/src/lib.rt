@@ -37,6 +37,9 @@ pub struct Place {
     pub end: usize,
 }
 
+// A walk begun at a place, or refused.
+pub type Begun = Result<Place, Refusal>;
+
 // The end.
 pub(crate) fn ended() -> Place
     ensures { result ≡ end_place }
@@ -389,7 +392,7 @@ pub(crate) fn begin_at(area: &[u8], m: Measures, n: usize, forward: bool, given:
 }
 
 // A walk from the bytes of a key, or from its first ones: refusals 1, 2, 3 for none or more than K bytes, 5 if nothing lies at or beyond them.
-pub fn walk_from(area: &[u8], numbers: Numbers, forward: bool, given: &[u8]) -> Result<Place, Refusal>
+pub fn walk_from(area: &[u8], numbers: Numbers, forward: bool, given: &[u8]) -> Begun
     ensures begins { Begins area.now numbers.size forward
         (walk_from_of (asked numbers) area.now forward given.now) result }
     ensures there { BeginsAt (asked numbers) area.now forward given.now result }
@@ -421,12 +424,11 @@ pub(crate) fn end_in(area: &[u8], m: Measures, n: usize, free: usize, forward: b
 }
 
 // A walk from an end: refusals 1 and 2; an empty register opens at the end.
-pub fn walk_end(area: &[u8], numbers: Numbers, forward: bool) -> Result<Place, Refusal>
+pub fn walk_end(area: &[u8], numbers: Numbers, forward: bool) -> Begun
     ensures begins { Begins area.now numbers.size forward
         (walk_end_of (asked numbers) area.now forward) result }
     ensures is { result ≡ ended_by area.now forward (opened_of (asked numbers) area.now) }
 {
     let whole = opening::open(area, numbers)?;
-    let holds = whole.holds;
-    Ok(end_in(area, whole.measures, whole.count, holds.free, forward))
+    Ok(end_in(area, whole.measures, whole.count, whole.free, forward))
 }

@@ -6,9 +6,9 @@ use Rattle.opening.proofs.open.Tie
 use mathlib.Core.Path.{◌≡◌, ◌∙◌, sym}
 use lib.ListN.{length}
 use Rattle.measures.specs.Judgement.{asked, judged_of, passed}
-use Rattle.area.specs.declared.Checked.TheVariants.{Intact, Damaged}
 use Rattle.opening.proofs.Opening.{fits-lent, open-outside, open_told}
 use Rattle.opening.proofs.open.Goals as goal
+use Rattle.area.specs.Checked.{sound_with, damaged_at}
 
 abbrev After-known_told-state : Type 0
 After-known_told-state = Lts.Past-After-known_told Tie.the-claims Reads.Pre Reads.Post
@@ -29,9 +29,9 @@ check-requires c =
 pub returns-in-Intact : goal.returns-in-Intact
 returns-in-Intact c =
     open_told (asked c.args.numbers) c.args.area.now c.in-Fine.measures c.in-Fine.count (fine c.before.before.before)
-    (Intact c.in-Intact.records c.in-Intact.free) (sym c.in-Intact.is ∙ c.check.ensures)
+    (sound_with c.in-Intact.records c.in-Intact.free) (sym c.in-Intact.is ∙ c.check.ensures)
 
 pub returns-in-Damaged : goal.returns-in-Damaged
 returns-in-Damaged c =
     open_told (asked c.args.numbers) c.args.area.now c.in-Fine.measures c.in-Fine.count (fine c.before.before.before)
-    (Damaged c.in-Damaged.place) (sym c.in-Damaged.is ∙ c.check.ensures)
+    (damaged_at c.in-Damaged.place) (sym c.in-Damaged.is ∙ c.check.ensures)

@@ -5,17 +5,17 @@ use Rattle.register.proofs.change.Tie
 use mathlib.Core.Path.{◌≡◌, ◌∙◌, sym}
 use Rattle.measures.specs.Judgement.{asked}
 use Rattle.opening.specs.AidOpened.{opened_of}
-use Rattle.opening.specs.declared.Opened.TheVariants.{Whole}
 use Rattle.register.specs.AidChange.{change_for}
 use Rattle.register.proofs.Changing.{change-shut, change-whole}
 use Rattle.register.proofs.Reading.{whole-there}
 use Rattle.register.proofs.change.Goals as goal
+use Rattle.opening.specs.AidOpened.{opened}
 
 abbrev After-known_told2-state : Type 0
 After-known_told2-state = Lts.Past-After-known_told2 Tie.the-claims Reads.Pre Reads.Post
 
 is_whole : (q : After-known_told2-state)
-    → opened_of (asked q.args.numbers) q.args.area.now ≡ Whole q.in-Whole.measures q.in-Whole.count
+    → opened_of (asked q.args.numbers) q.args.area.now ≡ opened q.in-Whole.measures q.in-Whole.count
     q.in-Whole.records q.in-Whole.free
 is_whole q = sym q.open.ensures ∙ q.in-Whole.is
 

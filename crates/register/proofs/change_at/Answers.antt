@@ -1,5 +1,6 @@
 -- No loop. What the search finds either refuses the change (aim-not) or aims it at a site, where its edit fits (aim-edits); and then its meaning is that the plan
 -- of that edit is carried out (aim_at_lem), which is what is made and told (carried).
+use Rattle.std.specs.Prelude.{Ok}
 use Rattle.register.proofs.change_at.Lts
 use Rattle.register.proofs.change_at.Reads
 use Rattle.register.proofs.change_at.Tie
@@ -16,7 +17,6 @@ use Rattle.change_plan.specs.AidEdited.{edit_at}
 use Rattle.requests.specs.Changing.{carry_out}
 use Rattle.requests.proofs.Proper.{key-fine}
 use Rattle.register.specs.AidChange.{change_at, aim_of}
-use Rattle.register.specs.declared.Aim.TheVariants as aim
 use Rattle.register.proofs.Aimed.{aim-not, aim_at_lem, aim-edits}
 use Rattle.register.proofs.Changing.{makes-as, carried}
 use Rattle.register.proofs.change_at.Goals as goal
@@ -38,7 +38,7 @@ area-octets : (f : After-find-state) → Octets f.args.area.now
 area-octets f i = omega (arith, f.slice_known-1.given i)
 
 -- where the change is aimed
-is-aimed : (k : After-known_told2-state) → aim_of k.args.kind k.find.result ≡ aim.At k.in-At.site
+is-aimed : (k : After-known_told2-state) → aim_of k.args.kind k.find.result ≡ Ok k.in-At.site
 is-aimed k = sym k.take_aim.ensures ∙ k.in-At.is
 
 pub find-requires : goal.find-requires

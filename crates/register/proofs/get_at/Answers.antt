@@ -6,9 +6,9 @@ use mathlib.Core.Path.{◌≡◌, ◌∙◌, sym}
 use Rattle.measures.specs.Judgement.{measures}
 use Rattle.measures.specs.declared.Measures.{Measures}
 use Rattle.opening.specs.AidOpened.{opened_of}
-use Rattle.opening.specs.declared.Opened.TheVariants.{Whole}
 use Rattle.register.proofs.Reading.{get-at-shut, whole-there, get-at-whole}
 use Rattle.register.proofs.get_at.Goals as goal
+use Rattle.opening.specs.AidOpened.{opened}
 
 abbrev After-open-state : Type 0
 After-open-state = Lts.After-open Tie.the-claims Reads.Pre Reads.Post
@@ -20,7 +20,7 @@ abbrev asked : After-open-state → Measures
 asked k = let a = k.args in measures a.size a.offset a.key a.most
 
 is_whole : (q : After-known_told2-state)
-    → opened_of (asked q.before) q.args.area.now ≡ Whole q.in-Whole.measures q.in-Whole.count
+    → opened_of (asked q.before) q.args.area.now ≡ opened q.in-Whole.measures q.in-Whole.count
     q.in-Whole.records q.in-Whole.free
 is_whole q = sym q.open.ensures ∙ q.in-Whole.is
 

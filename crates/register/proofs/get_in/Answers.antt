@@ -1,19 +1,21 @@
 -- No loop. A key of another length is answered by the index record alone, with the output untouched (get-wrong). Else the search says all (get-looked): damage at the
 -- index record or at the interval that the key leads to, no record there, or one that lies within the area (Inside) and is handed out.
+use Rattle.std.specs.Prelude.{Result, Option}
 use Rattle.register.proofs.get_in.Lts
 use Rattle.register.proofs.get_in.Reads
 use Rattle.register.proofs.get_in.Tie
 use mathlib.Core.Path.{◌≡◌, refl, ◌∙◌, sym, ap}
-use Rattle.area_seek.specs.declared.Looked.{Looked}
 use Rattle.requests.specs.Reading.{get_in}
 use Rattle.register.proofs.Reading.{gives_as, given_by, get-wrong, get-looked}
 use Rattle.register.proofs.get_in.Goals as goal
+use Rattle.area.specs.declared.Lying.{Lying}
+use Rattle.area.specs.declared.Damage.{Damage}
 
 abbrev After-look_up-state : Type 0
 After-look_up-state = Lts.After-look_up Tie.the-claims Reads.Pre Reads.Post Tie.handed_clauses
 
 -- what the search told is what is to be given
-given : (k : After-look_up-state) (r : Looked) → k.look_up.result ≡ r
+given : (k : After-look_up-state) (r : Result (Option Lying) Damage) → k.look_up.result ≡ r
     → given_by k.args.area.now k.args.out.now r
     ≡ get_in k.args.m k.args.n k.args.area.now k.args.wanted.now k.args.out.now
 given k r e =
