@@ -15,7 +15,7 @@ ghost use Rattle.area.specs.Reading.{read_area};
 ghost use Rattle.area.specs.Checked.{checked_of};
 ghost use Rattle.area_read.specs.AidEntries.{Closed, Counted, EntriesSound};
 
-use area::Checked;
+use area::{Damage, Intact};
 use index_step::BUFFER;
 use interval_read::Opened;
 use measures::Measures;
@@ -118,23 +118,23 @@ pub(crate) fn used_worst(
 }
 
 // The whole area: the index record first; data intervals are not looked at where it is unsound.
-pub fn check(area: &[u8], m: Measures, n: usize) -> Checked
+pub fn check(area: &[u8], m: Measures, n: usize) -> Result<Intact, Damage>
     requires { Fits m n (length area.now) }
     ensures { result ≡ checked_of (read_area m n area.now) }
 {
     let size = m.size;
     let Some(index) = index_read::check(&area[..size], m.key, n) else {
-        return Checked::Damaged { place: 0 };
+        return Err(Damage { place: 0 });
     };
     let worst = free_worst(area, &area[..size], m, n, index.free);
     let tally = used_worst(area, &area[..size], m, n, worst, index.entries);
     if tally.worst < n {
-        return Checked::Damaged {
+        return Err(Damage {
             place: tally.worst + 1,
-        };
+        });
     }
-    Checked::Intact {
+    Ok(Intact {
         records: tally.records,
         free: index.free,
-    }
+    })
 }

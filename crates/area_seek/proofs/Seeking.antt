@@ -1,4 +1,5 @@
 -- From what the index record tells of a key to the answer: the interval's judgement between two separators, the bound before an entry, and the ways out.
+use Rattle.std.specs.Prelude.{Ok, None}
 use Prim.Native.Nat.{ℕ, zero, suc, ◌+◌, ◌*◌, ◌≤◌, ◌<◌}
 use mathlib.Core.Path.{◌≡◌, refl, ◌∙◌, sym, ap}
 use mathlib.Core.Bool.{Bool, true, false}
@@ -36,7 +37,7 @@ use Rattle.area.specs.Leads.{index_sound, entries_for, number_for, interval_for,
 use Rattle.area.proofs.Intervals.{used-apart}
 use Rattle.area.proofs.Places.{length-data, data-ends}
 use Rattle.area_seek.specs.AidLooked.{looked_at, looked_of}
-use Rattle.area_seek.specs.declared.Looked.TheVariants.{Here, Nowhere, Damaged}
+use Rattle.area.specs.Checked.{damaged_at, lies_at}
 
 -- ---- an interval between two bounds
 
@@ -100,7 +101,7 @@ pub spot-within : (n K : ℕ) (r : Option Lead) (spot : Lead) → r ≡ Some spo
 spot-within n K r spot e w = rw e at w
 
 -- the index record is unsound
-pub way-unsound : (m : Measures) (n : ℕ) (area key : List ℕ) → length key ≡ m.key → sound_with n (index_in m area) key ≡ false → Damaged 0 ≡ looked_of m n area key
+pub way-unsound : (m : Measures) (n : ℕ) (area key : List ℕ) → length key ≡ m.key → sound_with n (index_in m area) key ≡ false → damaged_at 0 ≡ looked_of m n area key
 unfolding looked_of
 way-unsound m n area key long h = let t : index_sound m n area ≡ false = rw long at h in sym (rw t)
 
@@ -129,7 +130,7 @@ module _ (m : Measures) (n : ℕ) (area key : List ℕ) (spot : Lead) (before ow
 
 module _ (m : Measures) (n : ℕ) (area key : List ℕ) (h : index_sound m n area ≡ true) (k : ℕ) (number : k ≡ number_for m n area key) where
   -- that interval is unsound
-  pub way-damaged : sound_for m (entries_for m n area) key (interval_for m n area key) ≡ false → Damaged (k + 1) ≡ looked_of m n area key
+  pub way-damaged : sound_for m (entries_for m n area) key (interval_for m n area key) ≡ false → damaged_at (k + 1) ≡ looked_of m n area key
   unfolding looked_of
   way-damaged t = sym (rw (h, t, number))
 
@@ -139,10 +140,10 @@ module _ (m : Measures) (n : ℕ) (area key : List ℕ) (h : index_sound m n are
     unfolding looked_of
     there f is = rw (h, t, is, lent, number)
 
-    pub way-found : (f : Found) (i start len : ℕ) → f ≡ At i start len → f ≡ place_of m key (records_in ci) → Here ((k + 1) * m.size + start) len ≡ looked_of m n area key
+    pub way-found : (f : Found) (i start len : ℕ) → f ≡ At i start len → f ≡ place_of m key (records_in ci) → Ok (lies_at ((k + 1) * m.size + start) len) ≡ looked_of m n area key
     way-found f i start len e is = ap (looked_at ((k + 1) * m.size)) (sym e) ∙ there f is
 
-    pub way-absent : (f : Found) (i start : ℕ) → f ≡ Gap i start → f ≡ place_of m key (records_in ci) → Nowhere ≡ looked_of m n area key
+    pub way-absent : (f : Found) (i start : ℕ) → f ≡ Gap i start → f ≡ place_of m key (records_in ci) → (Ok None) ≡ looked_of m n area key
     way-absent f i start e is = ap (looked_at ((k + 1) * m.size)) (sym e) ∙ there f is
 
     module _ (o : Fits m n (length area)) (within : k < n) where

@@ -1,4 +1,5 @@
 -- The doors: which request is asked for, what each arm makes, and what is left then.
+use Rattle.std.specs.Prelude.{Ok, Err}
 use Prim.Native.Nat.{ℕ, ◌<◌, ◌≤◌}
 use mathlib.Core.Path.{◌≡◌, refl, ap}
 use mathlib.Core.Bool.{Bool, true, false, not}
@@ -12,13 +13,14 @@ use Rattle.measures.specs.Judgement.{asked}
 use Rattle.measures.specs.declared.Numbers.{Numbers}
 use Rattle.requests.specs.Reading.{check_of, get_of, get_at_of, Gives}
 use Rattle.requests.specs.Changing.{insert_of, update_of, erase_of, Makes}
-use Rattle.requests.specs.declared.Answer.{Answer}
-use Rattle.requests.specs.declared.Answer.TheVariants.{Found, Short}
+use Rattle.requests.specs.Answers.{Answer}
+use Rattle.requests.specs.declared.Done.TheVariants.{Found}
+use Rattle.requests.specs.declared.Refusal.TheVariants.{Short}
 use Rattle.opening.specs.AidOpened.{opened_of}
 use Rattle.walk.specs.AidSteps.{next_of, record_of}
 use Rattle.walk.specs.AidStands.{ended_by, begun_from}
 use Rattle.walk.specs.declared.Place.{Place}
-use Rattle.walk.specs.declared.Begun.{Begun}
+use Rattle.walk.specs.AidGives.{Begun}
 use Rattle.ask.specs.declared.Told.{Told}
 use Rattle.ask.specs.declared.ReadKind.{ReadKind}
 use Rattle.ask.specs.declared.ReadKind.TheVariants.{Check, Get, GetAt, WalkFrom, WalkEnd, Step, Record}
@@ -114,10 +116,10 @@ module _ (q : Question) (values : List ℕ) where
 -- ---- the record at a place of a walk
 
 module _ (area : List ℕ) (p : Place) (out r : List ℕ) (is : r ≡ record_of area p) where
-  pub record-short : length out < length r → Gives (record_given area p out) (Short (length r)) out
+  pub record-short : length out < length r → Gives (record_given area p out) (Err (Short (length r))) out
   record-short h = rw (← is, lt-leb (length r) (length out) h) (record { answers = refl; outputs = refl })
 
-  pub record-fits : (after : List ℕ) → length r ≤ length out → after ≡ splice out 0 r → Gives (record_given area p out) (Found (length r)) after
+  pub record-fits : (after : List ℕ) → length r ≤ length out → after ≡ splice out 0 r → Gives (record_given area p out) (Ok (Found (length r))) after
   record-fits after h e = rw (← is, le-leb (length r) (length out) h) (record { answers = refl; outputs = e })
 
 -- ---- the arms that read

@@ -1,4 +1,5 @@
 -- What a caller may count on at either door, whatever it asks with.
+use Rattle.std.specs.Prelude.{Ok, Err}
 use Prim.Native.Nat.{ℕ, ◌≤◌}
 use mathlib.Core.Path.{◌≡◌, refl}
 use mathlib.Core.List.{List}
@@ -9,13 +10,13 @@ use Rattle.requests.specs.Answers.{number_of}
 use Rattle.requests.specs.Reading.{check_of, get_of, get_at_of}
 use Rattle.requests.specs.Changing.{insert_of, update_of, erase_of}
 use Rattle.requests.specs.Walks.{walk_from_of, walk_end_of}
-use Rattle.requests.specs.declared.Answer.{Answer}
-use Rattle.requests.specs.declared.Answer.TheVariants.{Done, Found, Intact, Damaged, Short, Outside, WrongLength, Present, Absent, NoInterval, NoRoom, NoRecord}
+use Rattle.requests.specs.Answers.{Answer}
+use Rattle.requests.specs.declared.Done.TheVariants.{Changed, Found, Intact}
+use Rattle.requests.specs.declared.Refusal.TheVariants.{Outside, Damaged, WrongLength, Present, Absent, NoInterval, NoRoom, Short, NoRecord}
 use Rattle.opening.specs.AidOpened.{opened_of}
 use Rattle.walk.specs.AidGives.{Begins}
 use Rattle.walk.specs.AidStands.{ended_by, begun_from}
-use Rattle.walk.specs.declared.Begun.{Begun}
-use Rattle.walk.specs.declared.Begun.TheVariants.{At, Refused}
+use Rattle.walk.specs.AidGives.{Begun}
 use Rattle.walk.proofs.Walking.{ended-begins, begun-begins}
 use Rattle.ask.specs.declared.ReadKind.{ReadKind}
 use Rattle.ask.specs.declared.ReadKind.TheVariants.{Check, Get, GetAt, WalkFrom, WalkEnd, Step, Record}
@@ -30,22 +31,22 @@ use Rattle.ask.specs.Asking.{Question, number_at, measures_in, upwards, place_fr
 -- ---- 255 says that nothing was served, and all is as it was
 
 number-few : (a : Answer) → number_of a ≤ 9
-number-few (Done w) = omega arith
-number-few (Found length) = omega arith
-number-few (Intact records free) = omega arith
-number-few (Damaged place) = omega arith
-number-few (Short needed) = omega arith
-number-few Outside = omega arith
-number-few WrongLength = omega arith
-number-few Present = omega arith
-number-few Absent = omega arith
-number-few NoInterval = omega arith
-number-few NoRoom = omega arith
-number-few NoRecord = omega arith
+number-few (Ok (Changed w)) = omega arith
+number-few (Ok (Found length)) = omega arith
+number-few (Ok (Intact records free)) = omega arith
+number-few (Err (Damaged place)) = omega arith
+number-few (Err (Short needed)) = omega arith
+number-few (Err Outside) = omega arith
+number-few (Err WrongLength) = omega arith
+number-few (Err Present) = omega arith
+number-few (Err Absent) = omega arith
+number-few (Err NoInterval) = omega arith
+number-few (Err NoRoom) = omega arith
+number-few (Err NoRecord) = omega arith
 
 begun-few : (b : Begun) → (begun_told b).number ≤ 9
-begun-few (At p) = omega arith
-begun-few (Refused a) = number-few a
+begun-few (Ok p) = omega arith
+begun-few (Err a) = number-few a
 
 -- what is served has one of document 01's numbers
 read-few : (k : ReadKind) (q : Question) → (read_made k q).told.number ≤ 9

@@ -1,12 +1,12 @@
 -- What each request, asked through the door, answers and leaves: its number, both areas, the output and the values.
-use Rattle.std.specs.Prelude.{ℕ, ◌+◌, Bool, List, [], ◌∷◌, length, get_or, eqb}
+use Rattle.std.specs.Prelude.{ℕ, ◌+◌, Bool, List, [], ◌∷◌, length, get_or, eqb, Err}
 use Rattle.fields.specs.Bytes.{splice}
 use Rattle.measures.specs.Judgement.{asked}
 use Rattle.measures.specs.declared.Measures.{Measures}
 use Rattle.measures.specs.declared.Numbers.{Numbers}
 use Rattle.requests.specs.Reading.{Given, hand_out, check_of, get_of, get_at_of}
 use Rattle.requests.specs.Changing.{Outcome, insert_of, update_of, erase_of}
-use Rattle.requests.specs.declared.Answer.TheVariants.{Absent}
+use Rattle.requests.specs.declared.Refusal.TheVariants.{Absent}
 use Rattle.opening.specs.AidOpened.{opened_of}
 use Rattle.walk.specs.AidSteps.{next_of, record_of}
 use Rattle.walk.specs.AidStands.{ended_by, begun_from}
@@ -63,7 +63,7 @@ place_from ns i =
 
 -- the record at a place, handed out as a get does it: at the end, and at a place that does not lie in the area, 0 bytes
 abbrev pub record_given : List ℕ → Place → List ℕ → Given
-record_given area p out = hand_out Absent (record_of area p ∷ []) out
+record_given area p out = hand_out (Err Absent) (record_of area p ∷ []) out
 
 -- ---- what a request makes
 

@@ -14,7 +14,7 @@ ghost use Rattle.ask.specs.Asking.{question, numbers_in, place_from, record_give
 ghost use Rattle.ask.specs.Asking.{left, read_of, ask_of};
 
 use measures::Numbers;
-use requests::Answer;
+use requests::{Answer, Done, Refusal};
 use walk::{Begun, Place};
 
 // The requests that only read. A new one stands last.
@@ -100,7 +100,7 @@ pub(crate) fn tell(answer: Answer) -> Told
 {
     let number = requests::number(answer);
     match answer {
-        Answer::Done(written) => {
+        Ok(Done::Changed(written)) => {
             let count = written.count;
             let second = counted(count, 0, written.first);
             let third = counted(count, 1, written.second);
@@ -118,11 +118,11 @@ pub(crate) fn tell(answer: Answer) -> Told
                 eighth: 0,
             }
         }
-        Answer::Intact { records, free } => two(number, records, free),
-        Answer::Found(length) => two(number, length, 0),
-        Answer::Damaged(place) => two(number, place, 0),
-        Answer::Short(needed) => two(number, needed, 0),
-        _ => two(number, 0, 0),
+        Ok(Done::Intact { records, free }) => two(number, records, free),
+        Ok(Done::Found(length)) => two(number, length, 0),
+        Err(Refusal::Damaged(place)) => two(number, place, 0),
+        Err(Refusal::Short(needed)) => two(number, needed, 0),
+        Err(_) => two(number, 0, 0),
     }
 }
 
@@ -148,8 +148,8 @@ pub(crate) fn begun(b: Begun) -> Told
     ensures { result ≡ begun_told b }
 {
     match b {
-        Begun::At(place) => standing(place),
-        Begun::Refused(answer) => tell(answer),
+        Ok(place) => standing(place),
+        Err(refusal) => tell(Err(refusal)),
     }
 }
 
@@ -248,10 +248,10 @@ pub(crate) fn show(area: &[u8], p: Place, out: &mut [u8]) -> Answer
     let r = walk::walk_record(area, p);
     let long = r.len();
     if out.len() < long {
-        return Answer::Short(long);
+        return Err(Refusal::Short(long));
     }
     fields::copy(out, 0, r);
-    Answer::Found(long)
+    Ok(Done::Found(long))
 }
 
 // A request that only reads, on its numbers, and its answer told. One arm for each kind: so it grows with the kinds. None

@@ -3,7 +3,7 @@ ghost use Rattle.lines_history.specs.Day.{Leads};
 
 use crate::print;
 use depot_io::End;
-use lines::Line;
+use requests::Answer;
 use std::fs;
 use std::io::{ErrorKind, Read};
 use std::rt::Files;
@@ -19,7 +19,7 @@ enum Turn {
 }
 
 // Which lines a file holds cannot be said here; that the area went from each to the next by lines served is all that is.
-fn served(area: &mut [u8], request: &[u8], out: &mut [u8]) -> Line
+fn served(area: &mut [u8], request: &[u8], out: &mut [u8]) -> Option<Answer>
     ensures { Leads area.old area.new }
 {
     lines::step(area, request, out)

@@ -1,11 +1,12 @@
 -- An answer told in numbers.
+use Rattle.std.specs.Prelude.{Ok}
 use Rattle.std.proofs.Common.{◌≡◌, ℕ, Bool, true, false, ltb, List, [], ◌∷◌, get_or, take, sym, refl, arith, length-take, get_or-take, ltb-false, ltb-true}
 use lib.ListN.{get_or-eq_default}
 use Rattle.fields.specs.Choice.{pick}
 use Rattle.change.specs.declared.Written.{Written}
 use Rattle.requests.specs.Answers.{number_of, values_of}
-use Rattle.requests.specs.declared.Answer.{Answer}
-use Rattle.requests.specs.declared.Answer.TheVariants.{Done}
+use Rattle.requests.specs.Answers.{Answer}
+use Rattle.requests.specs.declared.Done.TheVariants.{Changed}
 use Rattle.exports.specs.Values.{values_told}
 use Rattle.exports.specs.declared.Values.{Values}
 
@@ -23,7 +24,7 @@ first-at c xs i = go (ltb i c) refl
     go false e = sym (get_or-eq_default (take c xs) 0 (omega (arith, ltb-false i c e, length-take c xs)))
 
 -- the values of a change: how many intervals were written, and so many of the numbers
-pub told-done : (a : Answer) (w : Written) (n first second third fourth : ℕ) → a ≡ Done w → n ≡ number_of a
+pub told-done : (a : Answer) (w : Written) (n first second third fourth : ℕ) → a ≡ (Ok (Changed w)) → n ≡ number_of a
     → first ≡ pick (ltb 0 w.count) w.first 0 → second ≡ pick (ltb 1 w.count) w.second 0
     → third ≡ pick (ltb 2 w.count) w.third 0 → fourth ≡ pick (ltb 3 w.count) w.fourth 0
     → ◌≡◌ {A = Values} (record { number = n; first = w.count; second = first; third = second; fourth = third; fifth = fourth }) (values_told a)

@@ -9,7 +9,7 @@ use Rattle.index_read.specs.declared.Index.{Index}
 use Rattle.requests.specs.Answers.{number_of, values_of}
 use Rattle.requests.specs.Reading as reading
 use Rattle.requests.specs.Changing.{Outcome}
-use Rattle.requests.specs.declared.Answer.{Answer}
+use Rattle.requests.specs.Answers.{Answer}
 use Rattle.exports.specs.declared.Values.{Values}
 
 -- a number and two values

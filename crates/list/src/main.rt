@@ -12,7 +12,7 @@ use measures::Numbers;
 use std::env::FillError;
 use std::io::Result;
 use std::rt::{Env, Files};
-use walk::{Begun, Place};
+use walk::Place;
 
 // How the depot's areas are measured: intervals of 512 bytes, keys of 8 bytes at the front of records of at most 60.
 const MEASURES: Numbers = Numbers {
@@ -46,8 +46,8 @@ fn ended(printed: Result<()>) -> End {
 // The list, or the line for an area that is refused.
 fn listed(rt: &impl Print, area: &[u8], with_text: bool) -> End {
     match walk::walk_end(area, MEASURES, true) {
-        Begun::At(p) => ended(records(rt, area, p, with_text)),
-        Begun::Refused(answer) => depot_io::refused(rt, answer),
+        Ok(p) => ended(records(rt, area, p, with_text)),
+        Err(refusal) => depot_io::refused(rt, Err(refusal)),
     }
 }
 

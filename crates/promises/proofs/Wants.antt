@@ -16,7 +16,7 @@ use Rattle.area.specs.Content.{Content, records_of, entries_of, meaning_of, widt
 use Rattle.requests.specs.Answers.{number_of}
 use Rattle.requests.specs.Model.{Change, Legal}
 use Rattle.requests.specs.Changing.{length_fine}
-use Rattle.requests.specs.declared.Answer.{Answer}
+use Rattle.requests.specs.Answers.{Answer}
 use Rattle.requests.proofs.Ways.{way-planned}
 use Rattle.requests.specs.Allowed.{ChangeAllowed}
 use Rattle.promises.specs.Trace.{Sound}

@@ -1,4 +1,5 @@
 -- The promises are not empty: each wrong register breaks one of them on an area written out, and so breaks its contracts.
+use Rattle.std.specs.Prelude.{Ok, Err}
 use Prim.Native.Nat.{ℕ, ◌+◌, ◌≤◌}
 use mathlib.Core.Path.{◌≡◌, refl, ◌∙◌, sym, ap, subst}
 use mathlib.Core.List.{List, [], ◌∷◌, ◌++◌, map, Memᴰ}
@@ -29,7 +30,8 @@ use Rattle.requests.specs.Answers.{number_of, values_of}
 use Rattle.requests.specs.Model.{Change, insert, erase, add, remove, make_change, make_all, update, replace, total, gained, gained_all, lost, lost_all}
 use Rattle.requests.specs.Reading.{Given}
 use Rattle.requests.specs.Finding.{Keyed, Finds}
-use Rattle.requests.specs.declared.Answer.TheVariants.{Intact, Absent, Done, NoInterval, NoRoom, Found}
+use Rattle.requests.specs.declared.Done.TheVariants.{Changed, Found, Intact}
+use Rattle.requests.specs.declared.Refusal.TheVariants.{Absent, NoInterval, NoRoom}
 use Rattle.requests.proofs.Making.{count_add}
 use Rattle.requests.specs.Allowed.{Request, check, get, get_at, changes, Allowed}
 use Rattle.promises.specs.Trace.{Step, Trace, accepted_in, Sound, Stands}
@@ -129,21 +131,21 @@ always-full (inr (a, inr (b, inr (d, inr (e, inr (f, inl x)))))) = omega (arith,
 always-full (inr (a, inr (b, inr (d, inr (e, inr (f, inr x)))))) = omega (arith, x.1)
 
 -- Version three breaks `want-of-interval`: an interval must be divided, one is free, which is enough, and it says 6.
-full-answer : (full_too_soon roomy (changes (insert ninth))).answer ≡ NoInterval
+full-answer : (full_too_soon roomy (changes (insert ninth))).answer ≡ (Err NoInterval)
 full-answer = rw answers.roomy refl
 
 pub full-too-soon : ((number_of (full_too_soon roomy (changes (insert ninth))).answer ≡ 6) ↔ WantOfInterval depot roomy (insert ninth)) → ⊥
 full-too-soon w = six-just-not (w.0 (ap number_of full-answer))
 
 -- A register that looks for room in the index record where the change stays in its interval breaks `want-of-room`.
-home-answer : (cramped_at_home bytes (changes (insert third))).answer ≡ NoRoom
+home-answer : (cramped_at_home bytes (changes (insert third))).answer ≡ (Err NoRoom)
 home-answer = rw answers.inserted refl
 
 pub cramped-at-home : ((number_of (cramped_at_home bytes (changes (insert third))).answer ≡ 7) ↔ WantOfRoom depot bytes (insert third)) → ⊥
 cramped-at-home w = home-not-seven (w.0 (ap number_of home-answer))
 
 -- And so does one that finds no room where the renewed record just fits.
-brim-answer : (cramped_at_brim brimful (changes (insert (high 0x32)))).answer ≡ NoRoom
+brim-answer : (cramped_at_brim brimful (changes (insert (high 0x32)))).answer ≡ (Err NoRoom)
 brim-answer = rw (left.brimful, answers.brimful) refl
 
 pub cramped-at-brim : ((number_of (cramped_at_brim brimful (changes (insert (high 0x32)))).answer ≡ 7) ↔ WantOfRoom all_key brimful (insert (high 0x32))) → ⊥
@@ -152,7 +154,7 @@ cramped-at-brim w = seven-just-not (w.0 (ap number_of brim-answer))
 -- ---- counts
 
 -- A register that invents counts breaks `check-true`.
-pub invents-counts : (invents_counts bytes check).answer ≡ Intact (length (records_of held.filled)) (length held.free) → ⊥
+pub invents-counts : (invents_counts bytes check).answer ≡ (Ok (Intact (length (records_of held.filled)) (length held.free))) → ⊥
 unfolding records_of
 invents-counts e = let z : ◌≡◌ {A = ℕ} 7 2 = cc in omega arith
 
@@ -170,7 +172,7 @@ invents-written old t =
     omega (arith, u.most)
 
 -- One that tells the right count, but each interval by the number behind it, breaks it too: the key's interval is 0, in the buffer 1, and 2 was told.
-misnamed : (misnames_written bytes (changes (insert third))).answer ≡ Done (carrying (2 ∷ []))
+misnamed : (misnames_written bytes (changes (insert third))).answer ≡ (Ok (Changed (carrying (2 ∷ []))))
 misnamed = rw answers.inserted refl
 
 pub misnames-written : (h : Home depot held (key_of depot third))
@@ -184,7 +186,7 @@ misnames-written h t =
     omega (arith, ap (λ (x : Filled). x.num) o)
 
 -- And so does one that leaves out the index record: an interval is free no longer.
-forgot : (forgets_index roomy (changes (insert ninth))).answer ≡ Done (carrying (1 ∷ 2 ∷ []))
+forgot : (forgets_index roomy (changes (insert ninth))).answer ≡ (Ok (Changed (carrying (1 ∷ 2 ∷ []))))
 forgot = rw answers.roomy refl
 
 forgot-left : (forgets_index roomy (changes (insert ninth))).area ≡ (rightly depot roomy (changes (insert ninth))).area
@@ -225,16 +227,16 @@ forgot-read = rw forgot-left left.halved
 -- ---- gets
 
 -- A register that hands out the same certificate each time breaks `get-finds`: the second one was asked for.
-same_answer : (same_record bytes (get (key_of depot second) (replicate 60 0))).answer ≡ Found 10
+same_answer : (same_record bytes (get (key_of depot second) (replicate 60 0))).answer ≡ (Ok (Found 10))
 same_answer = rw answers.got-second refl
 
-pub same-record : Finds (Keyed depot (key_of depot second) (make_all depot (accepted_in []) (records_of held.filled))) Absent (replicate 60 0)
+pub same-record : Finds (Keyed depot (key_of depot second) (make_all depot (accepted_in []) (records_of held.filled))) (Err Absent) (replicate 60 0)
     (record { answer = (same_record bytes (get (key_of depot second) (replicate 60 0))).answer; output = (same_record bytes (get (key_of depot second) (replicate 60 0))).output })
     → ⊥
 unfolding records_of make_all
 same-record f =
     let g = ap (λ (x : Given). values_of x.answer) (f.found second (record { among = mathlib.Core.List.Memᴰ.tail (mathlib.Core.List.Memᴰ.head refl); has = refl }) (omega arith)) in
-    let h : values_of (Found 10) ≡ values_of (Found 14) = sym (ap values_of same_answer) ∙ g in
+    let h : values_of (Ok (Found 10)) ≡ values_of (Ok (Found 14)) = sym (ap values_of same_answer) ∙ g in
     let z : ◌≡◌ {A = ℕ} 10 14 = cc in
     omega arith
 
@@ -243,7 +245,7 @@ revoked-taken : accepted_in (keeps_revoked bytes (changes (erase (key_of depot f
 revoked-taken = rw answers.erased refl
 
 pub keeps-revoked : Finds
-    (Keyed depot (key_of depot first) (make_all depot (accepted_in (keeps_revoked bytes (changes (erase (key_of depot first))) ∷ [])) (records_of held.filled))) Absent
+    (Keyed depot (key_of depot first) (make_all depot (accepted_in (keeps_revoked bytes (changes (erase (key_of depot first))) ∷ [])) (records_of held.filled))) (Err Absent)
     (replicate 60 0)
     (record { answer = (keeps_revoked bytes (get (key_of depot first) (replicate 60 0))).answer; output = (keeps_revoked bytes (get (key_of depot first) (replicate 60 0))).output })
     → ⊥
@@ -294,7 +296,7 @@ lost-fine =
 
 -- what a register must come to there where it keeps its contracts: the certificate itself
 abbrev pub FindsSought : Step → Type 0
-FindsSought x = Finds (Keyed depot (key_of depot sought) (certificates 2 0x31 60)) Absent (replicate 60 0) (record { answer = x.answer; output = x.output })
+FindsSought x = Finds (Keyed depot (key_of depot sought) (certificates 2 0x31 60)) (Err Absent) (replicate 60 0) (record { answer = x.answer; output = x.output })
 
 sought-out : (x : Step) → FindsSought x → x.output ≡ sought
 sought-out x f = ap (λ (g : Given). g.output) (f.found sought (record { among = mathlib.Core.List.Memᴰ.tail (mathlib.Core.List.Memᴰ.head refl); has = refl }) (omega arith))

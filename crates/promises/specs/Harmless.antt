@@ -4,7 +4,7 @@ use Rattle.measures.specs.declared.Measures.{Measures}
 use Rattle.requests.specs.Answers.{number_of}
 use Rattle.requests.specs.Reading.{get_of, get_at_of, Gives}
 use Rattle.requests.specs.Changing.{insert_of, update_of, erase_of, Makes}
-use Rattle.requests.specs.declared.Answer.{Answer}
+use Rattle.requests.specs.Answers.{Answer}
 
 -- the answer's number is not 0
 abbrev pub Refusal : Answer → Type 0

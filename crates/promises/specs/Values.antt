@@ -6,7 +6,7 @@ use Rattle.area.specs.Reading.{damaged, read_area}
 use Rattle.area.specs.Leads.{index_sound, number_for}
 use Rattle.requests.specs.Answers.{number_of, values_of}
 use Rattle.requests.specs.Finding.{Keyed, Lies}
-use Rattle.requests.specs.declared.Answer.{Answer}
+use Rattle.requests.specs.Answers.{Answer}
 use Rattle.requests.specs.Allowed.{Request, check, get, get_at, changes}
 use Rattle.promises.specs.Tables.{many, Holding, DamagedIndex, DamagedThere, records_there}
 

@@ -5,7 +5,7 @@ use native.Mathlib.Omega.{arith}
 use Rattle.measures.specs.Judgement.{limit}
 use Rattle.requests.specs.Answers.{number_of}
 use Rattle.requests.specs.Words.{small_of, large_of, word_of, Small}
-use Rattle.requests.specs.declared.Answer.{Answer}
+use Rattle.requests.specs.Answers.{Answer}
 use Rattle.requests.proofs.Words.{number_small}
 
 -- b is the kind that the answer a was found to be

@@ -6,7 +6,7 @@ use crate::{print, walks};
 use change::Written;
 use fields::Order;
 use measures::Numbers;
-use requests::Answer;
+use requests::{Answer, Done, Refusal};
 
 pub(crate) fn value(n: usize) {
     print::words(b" ");
@@ -36,15 +36,15 @@ fn told(word: &[u8], answer: Answer) {
     print::words(word);
     value(requests::number(answer));
     match answer {
-        Answer::Done(written) => numbers(written),
-        Answer::Found(length) => value(length),
-        Answer::Short(length) => value(length),
-        Answer::Intact { records, free } => {
+        Ok(Done::Changed(written)) => numbers(written),
+        Ok(Done::Found(length)) => value(length),
+        Ok(Done::Intact { records, free }) => {
             value(records);
             value(free);
         }
-        Answer::Damaged(place) => value(place),
-        _ => {}
+        Err(Refusal::Short(length)) => value(length),
+        Err(Refusal::Damaged(place)) => value(place),
+        Err(_) => {}
     }
     print::words(b"\n");
 }

@@ -21,8 +21,7 @@ use index_walk::Edge;
 use interval::Found;
 use interval_walk::Spot;
 use measures::{Measures, Numbers};
-use opening::Opened;
-use requests::Answer;
+use requests::Refusal;
 
 // Where a walk stands: at a record, or at the end, where the length is 0. `entry` is its entry, from 0, `start` where it begins in the area. The rest makes steps quick:
 // how many records of its run are still to come, and where the run's RDFs end in the direction, in the interval; forwards also where the next entry of the
@@ -39,11 +38,7 @@ pub struct Place {
 }
 
 // A walk begun at a place, or refused.
-#[derive(Clone, Copy)]
-pub enum Begun {
-    At(Place),
-    Refused(Answer),
-}
+pub type Begun = Result<Place, Refusal>;
 
 // The end.
 pub(crate) fn ended() -> Place
@@ -389,24 +384,16 @@ pub fn walk_from(area: &[u8], numbers: Numbers, forward: bool, given: &[u8]) -> 
     ensures there { BeginsAt (asked numbers) area.now forward given.now result }
     ensures is { result ≡ begun_from (asked numbers) area.now forward given.now }
 {
-    match opening::open(area, numbers) {
-        Opened::Refused { answer } => Begun::Refused(answer),
-        Opened::Whole {
-            measures,
-            count,
-            records: _,
-            free: _,
-        } => {
-            if given.len() == 0 || measures.key < given.len() {
-                return Begun::Refused(Answer::WrongLength);
-            }
-            let p = begin_at(area, measures, count, forward, given);
-            if p.length == 0 {
-                return Begun::Refused(Answer::Absent);
-            }
-            Begun::At(p)
-        }
+    let whole = opening::open(area, numbers)?;
+    let m = whole.measures;
+    if given.len() == 0 || m.key < given.len() {
+        return Err(Refusal::WrongLength);
     }
+    let p = begin_at(area, m, whole.count, forward, given);
+    if p.length == 0 {
+        return Err(Refusal::Absent);
+    }
+    Ok(p)
 }
 
 // In a sound area, the first record from an end.
@@ -428,13 +415,6 @@ pub fn walk_end(area: &[u8], numbers: Numbers, forward: bool) -> Begun
         (walk_end_of (asked numbers) area.now forward) result }
     ensures is { result ≡ ended_by area.now forward (opened_of (asked numbers) area.now) }
 {
-    match opening::open(area, numbers) {
-        Opened::Refused { answer } => Begun::Refused(answer),
-        Opened::Whole {
-            measures,
-            count,
-            records: _,
-            free,
-        } => Begun::At(end_in(area, measures, count, free, forward)),
-    }
+    let whole = opening::open(area, numbers)?;
+    Ok(end_in(area, whole.measures, whole.count, whole.free, forward))
 }

@@ -5,7 +5,6 @@ use Rattle.walk.proofs.walk_end.Tie
 use mathlib.Core.Path.{◌≡◌, ◌∙◌, sym}
 use Rattle.measures.specs.Judgement.{asked}
 use Rattle.opening.specs.AidOpened.{opened_of}
-use Rattle.opening.specs.declared.Opened.TheVariants.{Whole}
 use Rattle.walk.proofs.Walking.{opened-asks, end_refused, end-begins}
 use Rattle.walk.proofs.walk_end.Goals as goal
 
@@ -15,7 +14,7 @@ After-known_told2-state = Lts.Past-After-known_told2 Tie.the-claims Reads.Pre Re
 -- what the area was opened as
 opened-told : (k : After-known_told2-state)
     → opened_of (asked k.args.numbers) k.args.area.now
-    ≡ Whole k.in-Whole.measures k.in-Whole.count k.in-Whole.records k.in-Whole.free
+    ≡ opened k.in-Whole.measures k.in-Whole.count k.in-Whole.records k.in-Whole.free
 opened-told k = sym k.open.ensures ∙ k.in-Whole.is
 
 pub end_in-requires : goal.end_in-requires
