@@ -66,7 +66,7 @@ module _ (m : Measures) (area : List ℕ) where
   refused-harmless-called q a after out k n = spared q a after out (allowed m area q a after out k) n
 
   pub check-true-called : (n : ℕ) (c : Content) → Sound m n area c → (a : Answer) (after out : List ℕ)
-      → Called m area check a after out → a ≡ (Ok (Intact (length (records_of c.filled)) (length c.free)))
+      → Called m area check a after out → a ≡ Ok (Intact (length (records_of c.filled)) (length c.free))
   check-true-called n c s a after out k = check-true m n area c s a (allowed m area check a after out k).1
 
   -- ---- get by key
@@ -79,8 +79,8 @@ module _ (m : Measures) (area : List ℕ) where
 
   pub get-damage-placed-called : Lent m (count_of m.size (length area)) area → (wanted : List ℕ) → Octets wanted
       → (lent : List ℕ) (a : Answer) (after out : List ℕ) → Called m area (get wanted lent) a after out
-      → ((a ≡ (Err (Damaged 0))) ↔ ((ix : Meaning) → IndexInterval m (count_of m.size (length area)) ix (index_in m area) → ⊥))
-      × ((k : ℕ) → (a ≡ (Err (Damaged (k + 1)))) ↔ DamagedHome m (count_of m.size (length area)) area wanted k)
+      → ((a ≡ Err (Damaged 0)) ↔ ((ix : Meaning) → IndexInterval m (count_of m.size (length area)) ix (index_in m area) → ⊥))
+      × ((k : ℕ) → (a ≡ Err (Damaged (k + 1))) ↔ DamagedHome m (count_of m.size (length area)) area wanted k)
   get-damage-placed-called l wanted b lent a after out k =
       get-damage-placed m area l wanted b lent a after out (allowed m area (get wanted lent) a after out k)
 

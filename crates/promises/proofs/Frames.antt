@@ -37,7 +37,7 @@ module _ (m : Measures) (area : List ℕ) where
 
       done : Accepted m area ch (change_of m area ch) → Framed m.size area after a
       done t k d =
-          let told : a ≡ (Ok (Changed (written_of t.ss))) = makes.answers ∙ t.answers in
+          let told : a ≡ Ok (Changed (written_of t.ss)) = makes.answers ∙ t.answers in
           let fits = accepted-fits-area m area ch (change_of m area ch) o t in
           ap (λ (b : List ℕ). unit_at m.size b k) (makes.leaves ∙ t.leaves)
           ∙ made-frame m t.n area t.c (edit_of m t.c ch) fits t.ss t.planned k (λ (i : Memᴰ k (told_written (Ok (Changed (written_of t.ss))))). d (rw told i))

@@ -8,7 +8,7 @@ use native.Mathlib.Omega.{arith}
 use Rattle.fields.specs.Bytes.{Octets}
 use Rattle.fields.proofs.Choices.{both-split}
 use Rattle.measures.specs.declared.Measures.{Measures}
-use Rattle.measures.specs.Judgement.{passed}
+use Rattle.measures.proofs.Fine.{passed_apart}
 use Rattle.index.specs.Meaning.{named, count, below, once, named_once}
 use Rattle.index.proofs.Counting.{once-each, count-out}
 use Rattle.area.specs.Content.{Content, records_of, meaning_of, base_of}
@@ -65,8 +65,7 @@ module _ (m : Measures) where
     change-left before c s ch o a =
         let f = accepted-fits-area m before ch o s.octets a in
         let e : Edit = edit_of m a.c ch in
-        let j : passed m a.n ≡ passed m n = sym a.judges ∙ s.judges in
-        let en : n ≡ a.n = cc in
+        let en : n ≡ a.n = sym (passed_apart m m a.n n (sym a.judges ∙ s.judges)).1 in
         let w : read_area m a.n before ≡ whole c = rw (← en) s.reads in
         let v : whole c ≡ whole a.c = sym w ∙ a.reads in
         let ec : c ≡ a.c = cc in

@@ -7,8 +7,6 @@ use mathlib.Core.List.{List, [], ◌∷◌}
 use mathlib.Core.Logic.{◌↔◌}
 use lib.ListN.{length}
 use native.Mathlib.Omega.{arith}
-use Rattle.interval.specs.Search.{holds}
-use Rattle.index.specs.Bounds.{separator}
 use Rattle.area.specs.Example.{bytes}
 use Rattle.requests.specs.Records.{with_key}
 use Rattle.fields.proofs.Octets.{all-octets}
