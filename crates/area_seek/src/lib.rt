@@ -50,16 +50,18 @@ pub fn look_up(area: &[u8], m: Measures, n: usize, key: &[u8]) -> Result<Option<
             place: spot.number + 1,
         });
     }
-    let Found::At {
-        ordinal: _,
-        start,
-        length,
-    } = interval_find::find(&area[a..e], m, key)
-    else {
-        return Ok(None);
-    };
-    Ok(Some(Lying {
-        from: a + start,
-        length,
-    }))
+    match interval_find::find(&area[a..e], m, key) {
+        Found::At {
+            ordinal: _,
+            start,
+            length,
+        } => Ok(Some(Lying {
+            from: a + start,
+            length,
+        })),
+        Found::Gap {
+            ordinal: _,
+            start: _,
+        } => Ok(None),
+    }
 }

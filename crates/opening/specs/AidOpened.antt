@@ -1,6 +1,6 @@
 -- An aid: what an area is opened as, with the numbers that the code hands on.
-use Rattle.std.specs.Prelude.{List, ℕ, length, Err, None, Option}
-use Rattle.measures.specs.Judgement.{judged_of, passed}
+use Rattle.std.specs.Prelude.{List, ℕ, Option, Some, None, Result, Ok, Err, length}
+use Rattle.measures.specs.Judgement.{judged_of}
 use Rattle.measures.specs.declared.Measures.{Measures}
 use Rattle.measures.specs.declared.Judged.{Judged}
 use Rattle.area.specs.Content.{records_of}

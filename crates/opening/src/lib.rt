@@ -5,8 +5,7 @@ ghost use Rattle.std.specs.Prelude.{◌≡◌};
 ghost use Rattle.measures.specs.Judgement.{asked};
 ghost use Rattle.opening.specs.AidOpened.{opened_of};
 
-use area::Intact;
-use measures::{Judged, Measures, Numbers};
+use measures::{Measures, Numbers};
 use requests::Refusal;
 
 // A sound area: its measures, and how many data intervals, records and free intervals it has.
@@ -22,14 +21,14 @@ pub struct Whole {
 pub fn open(area: &[u8], numbers: Numbers) -> Result<Whole, Refusal>
     ensures { result ≡ opened_of (asked numbers) area.now }
 {
-    let Some(Judged { measures, count }) = measures::judge(numbers, area.len()) else {
+    let Some(fine) = measures::judge(numbers, area.len()) else {
         return Err(Refusal::Outside);
     };
-    let Intact { records, free } = area_read::check(area, measures, count)?;
+    let holds = area_read::check(area, fine.measures, fine.count)?;
     Ok(Whole {
-        measures,
-        count,
-        records,
-        free,
+        measures: fine.measures,
+        count: fine.count,
+        records: holds.records,
+        free: holds.free,
     })
 }

@@ -14,13 +14,12 @@ ghost use Rattle.requests.specs.declared.Answer.TheVariants.{Absent, WrongLength
 ghost use Rattle.register.specs.AidTold.{answer_for, GivesIn, MakesIn};
 ghost use Rattle.register.specs.AidChange.{change_for, change_at, MakesKeyed, aim_of, Asked};
 
-use area::Lying;
 use area_find::KeyPlace;
 use change_write::Made;
 use index_read::Index;
 use interval::Found;
 use interval_edit::Site;
-use measures::{Judged, Measures, Numbers};
+use measures::{Measures, Numbers};
 use requests::{Answer, Done, Refusal};
 
 // Whether the area is sound, with how many records and free intervals it has: refusals 1 and 2.
@@ -77,10 +76,10 @@ pub(crate) fn get_in(area: &[u8], m: Measures, n: usize, wanted: &[u8], out: &mu
     if wanted.len() != m.key {
         return wrong_length(area, m, n);
     }
-    let Some(Lying { from, length }) = area_seek::look_up(area, m, n, wanted)? else {
+    let Some(lying) = area_seek::look_up(area, m, n, wanted)? else {
         return Err(Refusal::Absent);
     };
-    hand_out(area, from, length, out)
+    hand_out(area, lying.from, lying.length, out)
 }
 
 // The record with a key: refusals 1, 2 at the index record, 3, 2 at the interval that the key leads to, 5, 8. It vouches for these two places only: a caller
@@ -103,10 +102,10 @@ pub fn get(
         key,
         most,
     };
-    let Some(Judged { measures, count }) = measures::judge(numbers, area.len()) else {
+    let Some(fine) = measures::judge(numbers, area.len()) else {
         return Err(Refusal::Outside);
     };
-    get_in(area, measures, count, wanted, out)
+    get_in(area, fine.measures, fine.count, wanted, out)
 }
 
 // In a sound area, the record at an address.
@@ -114,10 +113,10 @@ pub(crate) fn get_at_in(area: &[u8], m: Measures, n: usize, address: u64, out: &
     requires { Fits m n (length area.now) × Whole m n area.now }
     ensures { GivesIn m n area.now (λ c. get_at_in m c address out.old) result out.new }
 {
-    let Some(Lying { from, length }) = area_find::record_at(area, m, n, address) else {
+    let Some(lying) = area_find::record_at(area, m, n, address) else {
         return Err(Refusal::NoRecord);
     };
-    hand_out(area, from, length, out)
+    hand_out(area, lying.from, lying.length, out)
 }
 
 // The record at an address: refusals 1, 2, 9, 8.
