@@ -12,11 +12,10 @@ use Rattle.index.specs.Meaning.{Meaning}
 use Rattle.area.specs.Content.{Content, index_in, records_of}
 use Rattle.area.specs.Layout.{Lent, IndexInterval}
 use Rattle.area.specs.Reading.{whole, read_area}
-use Rattle.requests.specs.Answers.{number_of}
+use Rattle.requests.specs.Answers.{Answer, number_of}
 use Rattle.requests.specs.Finding.{Keyed, Finds}
 use Rattle.requests.specs.Model.{Change, insert, update, erase, Legal}
 use Rattle.requests.specs.Allowed.{Request, check, get, get_at, changes, Allowed}
-use Rattle.requests.specs.Answers.{Answer}
 use Rattle.requests.specs.declared.Done.TheVariants.{Intact}
 use Rattle.requests.specs.declared.Refusal.TheVariants.{Damaged, Absent}
 use Rattle.promises.specs.Harmless.{Refusal}

@@ -29,11 +29,10 @@ use Rattle.change.proofs.Planning.{planned}
 use Rattle.change.proofs.After.{after-meaning}
 use Rattle.change.proofs.Fitted.{fit-laid, edited-parting, one-to-three}
 use Rattle.change.proofs.Made.{made-laid, made-whole, made-fewest, made-only-named, made-written, made-index, made-count, made-numbers}
-use Rattle.requests.specs.Answers.{number_of}
+use Rattle.requests.specs.Answers.{Answer, number_of}
 use Rattle.requests.specs.Model.{Change}
 use Rattle.requests.specs.Reading.{check_of}
 use Rattle.requests.specs.Changing.{Outcome, bytes_of, key_in, edit_of}
-use Rattle.requests.specs.Answers.{Answer}
 use Rattle.requests.specs.declared.Done.TheVariants.{Changed, Intact}
 use Rattle.requests.proofs.Edits.{led_to}
 use Rattle.requests.proofs.Ways.{Carried, carried}

@@ -15,11 +15,10 @@ use Rattle.measures.specs.declared.Measures.{Measures}
 use Rattle.area.specs.Content.{Content, base_of}
 use Rattle.area.specs.Reading.{damaged, whole, read_area}
 use Rattle.area.specs.Leads.{index_sound, entries_for, number_for, interval_for, sound_for}
-use Rattle.requests.specs.Answers.{number_of}
+use Rattle.requests.specs.Answers.{Answer, number_of}
 use Rattle.requests.specs.Records.{lying_at}
 use Rattle.requests.specs.Reading.{Given, check_of, get_of, get_at_of, Gives}
 use Rattle.requests.specs.Finding.{Keyed, Lies, Finds}
-use Rattle.requests.specs.Answers.{Answer}
 use Rattle.requests.specs.declared.Done.TheVariants.{Found}
 use Rattle.requests.specs.declared.Refusal.TheVariants.{Damaged, WrongLength, Absent, Short, NoRecord}
 use Rattle.requests.proofs.Gets.{judged-least, get-index-damaged, get-length-wrong, get-there-damaged, get-there-finds, get-at-finds}

@@ -10,12 +10,11 @@ use Rattle.fields.specs.Bytes.{Octets}
 use Rattle.measures.specs.declared.Measures.{Measures}
 use Rattle.change.specs.Written.{written_of}
 use Rattle.change.proofs.Made.{made-frame}
-use Rattle.requests.specs.Answers.{number_of}
+use Rattle.requests.specs.Answers.{Answer, number_of}
 use Rattle.requests.specs.Model.{Change}
 use Rattle.requests.specs.Changing.{edit_of, change_of, Makes}
 use Rattle.requests.specs.Accepted.{Accepted}
 use Rattle.requests.specs.Allowed.{Request, check, get, get_at, changes, ChangeAllowed, Allowed}
-use Rattle.requests.specs.Answers.{Answer}
 use Rattle.requests.specs.declared.Done.TheVariants.{Changed}
 use Rattle.requests.proofs.Accepted.{accepted}
 use Rattle.promises.specs.Changes.{told_written, unit_at, Framed}

@@ -17,13 +17,12 @@ use Rattle.area.proofs.Ascending.{records-ascend, numbers-once}
 use Rattle.change.specs.Parts.{Edit}
 use Rattle.change.specs.Content.{content_after}
 use Rattle.change.proofs.Made.{made-whole, made-records, made-lent}
-use Rattle.requests.specs.Answers.{number_of}
+use Rattle.requests.specs.Answers.{Answer, number_of}
 use Rattle.requests.specs.Model.{Change, insert, update, erase, make_change, make_all, Legal, total, gained_all, lost_all}
 use Rattle.requests.specs.Reading.{Given, get_of, get_at_of, Gives}
 use Rattle.requests.specs.Finding.{Keyed, Lies, Finds}
 use Rattle.requests.specs.Changing.{Outcome, bytes_of, edit_of, change_of, Makes}
 use Rattle.requests.specs.Accepted.{Accepted}
-use Rattle.requests.specs.Answers.{Answer}
 use Rattle.requests.specs.declared.Refusal.TheVariants.{Absent, NoRecord}
 use Rattle.requests.proofs.Making.{total-all}
 use Rattle.requests.proofs.Gets.{get-finds as area-get-finds, get-at-finds as area-get-at-finds}

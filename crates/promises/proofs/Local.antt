@@ -33,11 +33,10 @@ use Rattle.area.proofs.Intervals.{laid-used, laid-used-reads, used-laid}
 use Rattle.area.proofs.Laying.{index-sound, index_read, index-laid}
 use Rattle.area.proofs.Parts.{length-data, octets-data}
 use Rattle.area.proofs.Sounding.{sound-apart}
-use Rattle.requests.specs.Answers.{number_of, values_of}
+use Rattle.requests.specs.Answers.{Answer, number_of, values_of}
 use Rattle.requests.specs.Records.{with_key}
 use Rattle.requests.specs.Reading.{Given, refused, get_of}
 use Rattle.requests.specs.Finding.{Keyed, Finds}
-use Rattle.requests.specs.Answers.{Answer}
 use Rattle.requests.specs.declared.Refusal.TheVariants.{Damaged}
 use Rattle.requests.specs.declared.Refusal.TheVariants as refusal
 use Rattle.requests.specs.Allowed.{get, Allowed}

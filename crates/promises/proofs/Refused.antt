@@ -18,13 +18,12 @@ use Rattle.index.specs.Search.{entry_for}
 use Rattle.area.specs.Content.{records_of, base_of}
 use Rattle.area.specs.Leads.{index_sound, entries_for, interval_for, sound_for}
 use Rattle.change.specs.Plan.{plan_of}
-use Rattle.requests.specs.Answers.{number_of}
+use Rattle.requests.specs.Answers.{Answer, number_of}
 use Rattle.requests.specs.Records.{with_key, lying_at}
 use Rattle.requests.specs.Model.{Change, insert, update, erase, Legal}
 use Rattle.requests.specs.Opening.{Opening, shut, holding, opening_of}
 use Rattle.requests.specs.Reading.{Given, refused, hand_out, get_there, get_in, get_judged, get_of, get_at_opened, get_at_of, Gives}
 use Rattle.requests.specs.Changing.{Outcome, kept, key_in, length_fine, edit_of, carry_out, if_keyed, change_opened, change_of, Makes}
-use Rattle.requests.specs.Answers.{Answer}
 use Rattle.requests.specs.declared.Done.TheVariants.{Found}
 use Rattle.requests.specs.declared.Refusal.TheVariants.{Damaged, WrongLength, Absent, Short, NoRecord}
 use Rattle.requests.proofs.Order.{refused-spares as carry-spares}

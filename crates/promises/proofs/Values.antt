@@ -13,13 +13,12 @@ use Rattle.measures.specs.Judgement.{judged_of, count_of, passed}
 use Rattle.measures.specs.declared.Measures.{Measures}
 use Rattle.measures.proofs.Fine.{judged-either}
 use Rattle.area.specs.Leads.{index_sound, entries_for, interval_for, sound_for}
-use Rattle.requests.specs.Answers.{number_of, values_of}
+use Rattle.requests.specs.Answers.{Answer, number_of, values_of}
 use Rattle.requests.specs.Model.{Change}
 use Rattle.requests.specs.Opening.{Opening, shut, opening_of}
 use Rattle.requests.specs.Reading.{Given, refused, check_opened, check_of, get_of, get_at_opened, get_at_of}
 use Rattle.requests.specs.Finding.{Keyed, Finds}
 use Rattle.requests.specs.Changing.{change_opened, change_of}
-use Rattle.requests.specs.Answers.{Answer}
 use Rattle.requests.specs.declared.Refusal.{Refusal}
 use Rattle.requests.specs.declared.Done.TheVariants.{Changed, Found, Intact}
 use Rattle.requests.specs.declared.Refusal.TheVariants.{Outside, Damaged, WrongLength, Present, Absent, NoInterval, NoRoom, Short, NoRecord}

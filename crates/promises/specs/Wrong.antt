@@ -20,12 +20,11 @@ use Rattle.change.specs.Parts.{entry_at}
 use Rattle.change.specs.Places.{nexts}
 use Rattle.change.specs.Written.{carrying}
 use Rattle.requests.specs.Model.{Change, insert, update, erase, make_change}
-use Rattle.requests.specs.Answers.{number_of, values_of}
+use Rattle.requests.specs.Answers.{Answer, number_of, values_of}
 use Rattle.requests.specs.Opening.{Opening, shut, holding, opening_of}
 use Rattle.requests.specs.Records.{with_key}
 use Rattle.requests.specs.Reading.{Given, refused, hand_out, check_of, get_of, get_at_of}
 use Rattle.requests.specs.Changing.{Outcome, kept, bytes_of, key_in, change_of}
-use Rattle.requests.specs.Answers.{Answer}
 use Rattle.requests.specs.declared.Done.TheVariants.{Changed, Found, Intact}
 use Rattle.requests.specs.declared.Refusal.TheVariants.{Outside, Damaged, WrongLength, Present, Absent, NoInterval, NoRoom, Short, NoRecord}
 use Rattle.requests.specs.Allowed.{Request, check, get, get_at, changes}
