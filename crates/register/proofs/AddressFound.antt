@@ -1,5 +1,5 @@
 -- The records at an address: they are sought in the one interval that the address lies in.
-use Rattle.std.specs.Prelude.{None, Option}
+use Rattle.std.specs.Prelude.{Some, None, Option}
 use Prim.Native.Nat.{ℕ, zero, suc, ◌+◌, ◌-◌, ◌*◌, ◌/◌, ◌%◌, ◌≤◌, ◌<◌}
 use mathlib.Core.Path.{◌≡◌, refl, ◌∙◌, sym, ap}
 use mathlib.Core.Bool.{Bool, true, false}
@@ -219,7 +219,7 @@ module _ (m : Measures) (n : ℕ) (area : List ℕ) (o : Fits m n (length area))
 
 -- what is told of an address is what lies there
 abbrev pub LiesAs : List ℕ → List (List ℕ) → Option Lying → Type 0
-LiesAs area rs (lies_at from len) = rs ≡ part area from len ∷ []
+LiesAs area rs (Some lying) = rs ≡ part area lying.from lying.length ∷ []
 LiesAs area rs None = rs ≡ []
 
 module _ (m : Measures) (n : ℕ) (area : List ℕ) (o : Fits m n (length area)) (k : ℕ) (h : k < n) (d : Readable m (data_in m area k)) where

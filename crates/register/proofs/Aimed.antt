@@ -34,6 +34,7 @@ use Rattle.requests.specs.Records.{with_key}
 use Rattle.requests.specs.Model.{Legal}
 use Rattle.requests.specs.Changing.{kept, bytes_of, key_in, edit_for, edit_of, carry_out}
 use Rattle.requests.specs.Answers.{Answer}
+use Rattle.requests.specs.declared.Refusal.{Refusal}
 use Rattle.requests.proofs.Edits.{led-entry, within-least}
 use Rattle.requests.proofs.Proper.{key-fine, change-proper}
 use Rattle.register.specs.AidChange.{change_at, Asked, keyed_in, gap_site, record_site, aim_at, aim_of}
@@ -139,7 +140,7 @@ module _ (m : Measures) (n : ℕ) (area : List ℕ) (o : Fits m n (length area))
 
   -- Refused as its meaning is; or made as its meaning is, at a site of its key, where it may be made.
   abbrev Aims : Kind → List ℕ → Result Site Refusal → Type 0
-  Aims kind new (Err a) = keyed_in m w.content area (change_at kind key new) ≡ kept a area
+  Aims kind new (Err r) = keyed_in m w.content area (change_at kind key new) ≡ kept (Err r) area
   Aims kind new (Ok site) =
       Sited (gone_for kind) site
       × Legal m (change_at kind key new) (records_of w.content.filled)
@@ -181,8 +182,8 @@ module _ (m : Measures) (n : ℕ) (area : List ℕ) (o : Fits m n (length area))
   told x e = rw e at (aims m n area o w key long key-bytes spot s kind new asked.is spot.found refl)
 
   -- Refused: that is its meaning.
-  pub aim-not : (a : Answer) → aim_of kind spot ≡ Err a → keyed_in m c area (change_at kind key new) ≡ kept a area
-  aim-not a e = told (Err a) e
+  pub aim-not : (r : Refusal) → aim_of kind spot ≡ Err r → keyed_in m c area (change_at kind key new) ≡ kept (Err r) area
+  aim-not r e = told (Err r) e
 
   module _ (site : Site) (e : aim_of kind spot ≡ Ok site) where
     -- Aimed at a site: its meaning is that its plan is carried out, and its edit is the one at the site.

@@ -18,8 +18,9 @@ use Rattle.change_write.specs.declared.Made.{Made}
 use Rattle.requests.specs.Model.{Change}
 use Rattle.requests.specs.Changing.{Outcome, length_fine, carry_out, change_in, change_of, Makes}
 use Rattle.requests.specs.Answers.{Answer}
+use Rattle.requests.specs.declared.Refusal.{Refusal}
 use Rattle.requests.specs.declared.Refusal.TheVariants.{WrongLength}
-use Rattle.opening.specs.AidOpened.{opened_of}
+use Rattle.opening.specs.AidOpened.{opened, opened_of}
 use Rattle.opening.proofs.Opening.{opened-shut, opened-whole}
 use Rattle.register.specs.AidTold.{answer_for, MakesIn}
 use Rattle.register.specs.AidChange.{change_for, change_at, Asked, keyed_in}
@@ -47,11 +48,15 @@ length-short m l h = rw (lt-leb m.least l h)
 pub length-long : (m : Measures) (l : ℕ) → m.least ≤ l → m.most < l → within m.least m.most l ≡ false
 length-long m l h k = rw (le-leb m.least l h, lt-leb l m.most k)
 
+-- an answer that is the same
+pub makes-same-answer : {o : Outcome} {a b : Answer} {area : List ℕ} → a ≡ b → Makes o b area → Makes o a area
+makes-same-answer e k = record { answers = e ∙ k.answers; leaves = k.leaves }
+
 -- a refusal is the answer, and the area stays; a whole area is answered by what it holds
 module _ (k : Measures) (area : List ℕ) (ch : Change) where
-  pub change-shut : (a : Answer) → opened_of k area ≡ Err a → Makes (change_of k area ch) a area
+  pub change-shut : (r : Refusal) → opened_of k area ≡ Err r → Makes (change_of k area ch) (Err r) area
   unfolding change_of
-  change-shut a e = rw (opened-shut k area a e) (record { answers = refl; leaves = refl })
+  change-shut r e = rw (opened-shut k area r e) (record { answers = refl; leaves = refl })
 
   pub change-whole : (m : Measures) (n records free : ℕ) → opened_of k area ≡ opened m n records free
       → (a : Answer) (after : List ℕ) → MakesIn m n area (λ c. change_in m c area ch) a after → Makes (change_of k area ch) a after

@@ -1,5 +1,5 @@
 -- The requests that read, against their meaning: a record handed out, get by key by what it judged and read, and the others by what the area was opened as.
-use Rattle.std.specs.Prelude.{Ok, Err, None, Result, Option}
+use Rattle.std.specs.Prelude.{Option, Some, None, Result, Ok, Err}
 use Prim.Native.Nat.{ℕ, ◌+◌, ◌*◌, ◌≤◌, ◌<◌}
 use mathlib.Core.Path.{◌≡◌, refl, ◌∙◌, sym, ap}
 use mathlib.Core.Bool.{Bool, true, false}
@@ -24,13 +24,14 @@ use Rattle.area_seek.specs.AidLooked.{looked_at, looked_of}
 use Rattle.requests.specs.Records.{with_key}
 use Rattle.requests.specs.Reading.{check_of, Given, refused, hand_out, get_there, get_in, get_of, get_at_in, get_at_of, Gives}
 use Rattle.requests.specs.Answers.{Answer}
-use Rattle.requests.specs.declared.Done.TheVariants.{Found, Intact}
+use Rattle.requests.specs.declared.Done.TheVariants as done
+use Rattle.requests.specs.declared.Refusal.{Refusal}
 use Rattle.requests.specs.declared.Refusal.TheVariants.{Outside, Damaged, WrongLength, Absent, Short}
-use Rattle.opening.specs.AidOpened.{opened_of}
+use Rattle.opening.specs.AidOpened.{opened, opened_of}
 use Rattle.opening.proofs.Opening.{opened-shut, opened-whole}
 use Rattle.register.specs.AidTold.{GivesIn}
 use Rattle.register.proofs.KeyFound.{there-readable, found-there, absent-there}
-use Rattle.area.specs.Checked.{damaged_at, lies_at}
+use Rattle.area.specs.Checked.{damaged_at}
 use Rattle.area.specs.declared.Lying.{Lying}
 use Rattle.area.specs.declared.Damage.{Damage}
 
@@ -45,7 +46,7 @@ module _ (area : List ℕ) (from bytes : ℕ) (out : List ℕ) (inside : from + 
       let l = length-record in
       record { answers = rw (lt-leb (length (part area from bytes)) (length out) (omega arith), l); outputs = rw (lt-leb (length (part area from bytes)) (length out) (omega arith)) }
 
-  pub hand-found : bytes ≤ length out → (after : List ℕ) → after ≡ splice out 0 (part area from bytes) → Gives (hand_out (Err Absent) (part area from bytes ∷ []) out) (Ok (Found bytes)) after
+  pub hand-found : bytes ≤ length out → (after : List ℕ) → after ≡ splice out 0 (part area from bytes) → Gives (hand_out (Err Absent) (part area from bytes ∷ []) out) (Ok (done.Found bytes)) after
   hand-found h after e =
       let l = length-record in
       record { answers = rw (le-leb (length (part area from bytes)) (length out) (omega arith), l); outputs = e ∙ rw (le-leb (length (part area from bytes)) (length out) (omega arith)) }
@@ -54,21 +55,25 @@ module _ (area : List ℕ) (from bytes : ℕ) (out : List ℕ) (inside : from + 
 pub gives_as : {g h : Given} {a : Answer} {out : List ℕ} → g ≡ h → Gives g a out → Gives h a out
 gives_as e k = record { answers = k.answers ∙ ap (λ x. x.answer) e; outputs = k.outputs ∙ ap (λ x. x.output) e }
 
+-- and of an answer that is the same
+pub gives-same : {g : Given} {a b : Answer} {out : List ℕ} → a ≡ b → Gives g b out → Gives g a out
+gives-same e k = record { answers = e ∙ k.answers; outputs = k.outputs }
+
 -- ---- get by key
 
 -- the answer to a key of a wrong length, by what the index record's check told
 module _ (m : Measures) (n : ℕ) (area : List ℕ) where
-  pub wrong-sound : index_sound m n area ≡ true → (Err WrongLength) ≡ pick (index_sound m n area) (Err WrongLength) (Err (Damaged 0))
+  pub wrong-sound : index_sound m n area ≡ true → ◌≡◌ {A = Answer} (Err WrongLength) (pick (index_sound m n area) (Err WrongLength) (Err (Damaged 0)))
   wrong-sound h = sym (rw h)
 
-  pub wrong-unsound : index_sound m n area ≡ false → (Err (Damaged 0)) ≡ pick (index_sound m n area) (Err WrongLength) (Err (Damaged 0))
+  pub wrong-unsound : index_sound m n area ≡ false → ◌≡◌ {A = Answer} (Err (Damaged 0)) (pick (index_sound m n area) (Err WrongLength) (Err (Damaged 0)))
   wrong-unsound h = sym (rw h)
 
 -- what a search comes to that judges only what it reads
 abbrev pub given_by : List ℕ → List ℕ → Result (Option Lying) Damage → Given
-given_by area out (Ok (lies_at from len)) = hand_out (Err Absent) (part area from len ∷ []) out
+given_by area out (Ok (Some lying)) = hand_out (Err Absent) (part area lying.from lying.length ∷ []) out
 given_by area out (Ok None) = refused (Err Absent) out
-given_by area out (damaged_at place) = refused (Err (Damaged place)) out
+given_by area out (Err damage) = refused (Err (Damaged damage.place)) out
 
 module _ (m : Measures) (n : ℕ) (area wanted out : List ℕ) where
   pub get-wrong : (length wanted ≡ m.key → ⊥) → (a : Answer) → a ≡ pick (index_sound m n area) (Err WrongLength) (Err (Damaged 0)) → Gives (get_in m n area wanted out) a out
@@ -120,25 +125,25 @@ module _ (k : Measures) (area wanted out : List ℕ) where
 
 module _ (k : Measures) (area : List ℕ) where
   -- a refusal is the answer, and the output stays
-  module _ (a : Answer) (e : opened_of k area ≡ Err a) where
-    pub check-shut : a ≡ check_of k area
+  module _ (r : Refusal) (e : opened_of k area ≡ Err r) where
+    pub check-shut : Err r ≡ check_of k area
     unfolding check_of
-    check-shut = sym (rw (opened-shut k area a e))
+    check-shut = sym (rw (opened-shut k area r e))
 
-    pub get-at-shut : (address : ℕ) (out : List ℕ) → Gives (get_at_of k area address out) a out
+    pub get-at-shut : (address : ℕ) (out : List ℕ) → Gives (get_at_of k area address out) (Err r) out
     unfolding get_at_of
-    get-at-shut address out = rw (opened-shut k area a e) (record { answers = refl; outputs = refl })
+    get-at-shut address out = rw (opened-shut k area r e) (record { answers = refl; outputs = refl })
 
   -- an area that is whole is one in which the floors below may search, and it is answered by what it holds
   module _ (m : Measures) (n records free : ℕ) (e : opened_of k area ≡ opened m n records free) where
     pub whole-there : Fits m n (length area) × Whole m n area
     whole-there = let o = opened-whole k area m n records free e in (o.3, record { content = o.0; reads = o.2 })
 
-    pub check-whole : (Ok (Intact records free)) ≡ check_of k area
+    pub check-whole : (Ok (done.Intact records free)) ≡ check_of k area
     unfolding check_of
     check-whole =
         let o = opened-whole k area m n records free e in
-        let z : check_of k area ≡ (Ok (Intact (length (records_of o.0.filled)) (length o.0.free))) = rw o.1 in
+        let z : check_of k area ≡ (Ok (done.Intact (length (records_of o.0.filled)) (length o.0.free))) = rw o.1 in
         cc (z, o.4, o.5)
 
     pub get-at-whole : (address : ℕ) (out : List ℕ) (a : Answer) (after : List ℕ) → GivesIn m n area (λ c. get_at_in m c address out) a after

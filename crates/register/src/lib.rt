@@ -2,7 +2,7 @@
 // each answers, and a refusal leaves area and output byte for byte as they were.
 #![tactic(auto)]
 
-ghost use Rattle.std.specs.Prelude.{◌+◌, ◌≤◌, ◌≡◌, [], ◌∷◌, length};
+ghost use Rattle.std.specs.Prelude.{◌+◌, ◌≤◌, ◌≡◌, [], ◌∷◌, Err, length};
 ghost use Rattle.fields.specs.Choice.{pick};
 ghost use Rattle.fields.specs.Bytes.{part};
 ghost use Rattle.measures.specs.Judgement.{Fits, measures, asked};
@@ -10,7 +10,7 @@ ghost use Rattle.area.specs.Leads.{index_sound};
 ghost use Rattle.area_find.specs.AidSought.{Whole};
 ghost use Rattle.requests.specs.Reading.{check_of, get_in, get_of, get_at_in, get_at_of, hand_out, Gives};
 ghost use Rattle.requests.specs.Changing.{change_in, change_of, insert_of, update_of, erase_of, Makes};
-ghost use Rattle.requests.specs.declared.Answer.TheVariants.{Absent, WrongLength, Damaged};
+ghost use Rattle.requests.specs.declared.Refusal.TheVariants.{Absent, WrongLength, Damaged};
 ghost use Rattle.register.specs.AidTold.{answer_for, GivesIn, MakesIn};
 ghost use Rattle.register.specs.AidChange.{change_for, change_at, MakesKeyed, aim_of, Asked};
 
@@ -42,7 +42,7 @@ pub fn check(area: &[u8], size: usize, offset: usize, key: usize, most: usize) -
 // A record of the area at the front of the output, or refusal 8 with the length that it needs.
 pub(crate) fn hand_out(area: &[u8], from: usize, bytes: usize, out: &mut [u8]) -> Answer
     requires { from + bytes ≤ length area.now }
-    ensures { Gives (hand_out Absent (part area.now from bytes ∷ []) out.old) result out.new }
+    ensures { Gives (hand_out (Err Absent) (part area.now from bytes ∷ []) out.old) result out.new }
 {
     if out.len() < bytes {
         return Err(Refusal::Short(bytes));
@@ -55,7 +55,7 @@ pub(crate) fn hand_out(area: &[u8], from: usize, bytes: usize, out: &mut [u8]) -
 // A key of a wrong length: 3, if the index record is sound. Where the key would lead is then not known, so that no data interval is looked at.
 pub(crate) fn wrong_length(area: &[u8], m: Measures, n: usize) -> Answer
     requires { Fits m n (length area.now) }
-    ensures { result ≡ pick (index_sound m n area.now) WrongLength (Damaged 0) }
+    ensures { result ≡ pick (index_sound m n area.now) (Err WrongLength) (Err (Damaged 0)) }
 {
     let size = m.size;
     let Index::Sound {
