@@ -12,11 +12,10 @@ use Rattle.index.specs.Meaning.{Meaning}
 use Rattle.area.specs.Content.{Content, index_in, records_of}
 use Rattle.area.specs.Layout.{Lent, IndexInterval}
 use Rattle.area.specs.Reading.{whole, read_area}
-use Rattle.requests.specs.Answers.{number_of}
+use Rattle.requests.specs.Answers.{Answer, number_of}
 use Rattle.requests.specs.Finding.{Keyed, Finds}
 use Rattle.requests.specs.Model.{Change, insert, update, erase, Legal}
 use Rattle.requests.specs.Allowed.{Request, check, get, get_at, changes, Allowed}
-use Rattle.requests.specs.Answers.{Answer}
 use Rattle.requests.specs.declared.Done.TheVariants.{Intact}
 use Rattle.requests.specs.declared.Refusal.TheVariants.{Damaged, Absent}
 use Rattle.promises.specs.Harmless.{Refusal}
@@ -66,7 +65,7 @@ module _ (m : Measures) (area : List ℕ) where
   refused-harmless-called q a after out k n = spared q a after out (allowed m area q a after out k) n
 
   pub check-true-called : (n : ℕ) (c : Content) → Sound m n area c → (a : Answer) (after out : List ℕ)
-      → Called m area check a after out → a ≡ (Ok (Intact (length (records_of c.filled)) (length c.free)))
+      → Called m area check a after out → a ≡ Ok (Intact (length (records_of c.filled)) (length c.free))
   check-true-called n c s a after out k = check-true m n area c s a (allowed m area check a after out k).1
 
   -- ---- get by key
@@ -79,8 +78,8 @@ module _ (m : Measures) (area : List ℕ) where
 
   pub get-damage-placed-called : Lent m (count_of m.size (length area)) area → (wanted : List ℕ) → Octets wanted
       → (lent : List ℕ) (a : Answer) (after out : List ℕ) → Called m area (get wanted lent) a after out
-      → ((a ≡ (Err (Damaged 0))) ↔ ((ix : Meaning) → IndexInterval m (count_of m.size (length area)) ix (index_in m area) → ⊥))
-      × ((k : ℕ) → (a ≡ (Err (Damaged (k + 1)))) ↔ DamagedHome m (count_of m.size (length area)) area wanted k)
+      → ((a ≡ Err (Damaged 0)) ↔ ((ix : Meaning) → IndexInterval m (count_of m.size (length area)) ix (index_in m area) → ⊥))
+      × ((k : ℕ) → (a ≡ Err (Damaged (k + 1))) ↔ DamagedHome m (count_of m.size (length area)) area wanted k)
   get-damage-placed-called l wanted b lent a after out k =
       get-damage-placed m area l wanted b lent a after out (allowed m area (get wanted lent) a after out k)
 

@@ -3,10 +3,9 @@ use Rattle.std.specs.Prelude.{ℕ, ◌≡◌, List, length, get_or, eqb, leb, So
 use Rattle.fields.specs.Choice.{pick, both}
 use Rattle.fields.specs.Bytes.{part}
 use Rattle.area.specs.Example.{depot}
-use Rattle.requests.specs.Answers.{number_of}
+use Rattle.requests.specs.Answers.{Answer, number_of}
 use Rattle.requests.specs.Reading.{Given, get_of}
 use Rattle.requests.specs.Changing.{Outcome, insert_of, update_of, erase_of}
-use Rattle.requests.specs.Answers.{Answer}
 
 -- the request as data: the bytes are a key or a record
 pub data Command : Type 0 where

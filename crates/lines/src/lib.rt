@@ -7,7 +7,8 @@ ghost use Rattle.lines.specs.Hex.{hex_text_of, HexWritten, digit_of};
 
 use requests::Answer;
 
-// One line, and what the register answers, if the line is a request: a letter G, I, U or E, a length byte, and the key (G, E) or the record (I, U), whatever lies past the length. Only a line
+// One line, and what the register answers where it is a request: a letter G, I, U or E, a length byte, and the key (G, E) or the record
+// (I, U), whatever lies past the length. Only a line
 // that is 64 bytes long can hold all 62 bytes that a length may promise.
 pub fn step(area: &mut [u8], request: &[u8], out: &mut [u8]) -> Option<Answer>
     ensures { Serves (served_of area.old request.now out.old) result area.new out.new }

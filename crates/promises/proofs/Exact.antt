@@ -16,12 +16,11 @@ use Rattle.area.specs.Reading.{damaged, whole, read_area}
 use Rattle.change.specs.Parts.{Edit}
 use Rattle.change.specs.Plan.{plan_of}
 use Rattle.change.proofs.Made.{erase-stays-put}
-use Rattle.requests.specs.Answers.{number_of}
+use Rattle.requests.specs.Answers.{Answer, number_of}
 use Rattle.requests.specs.Records.{with_key}
 use Rattle.requests.specs.Model.{Change, insert, update, erase, Legal}
 use Rattle.requests.specs.Finding.{Keyed}
 use Rattle.requests.specs.Changing.{bytes_of, length_fine, edit_of, carry_out, change_of}
-use Rattle.requests.specs.Answers.{Answer}
 use Rattle.requests.proofs.Gets.{with-keyed}
 use Rattle.requests.proofs.Proper.{some_first}
 use Rattle.requests.proofs.Ways.{unlawful, Decided, way-length, way-keyed, way-planned}

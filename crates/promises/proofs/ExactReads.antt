@@ -15,11 +15,10 @@ use Rattle.measures.specs.declared.Measures.{Measures}
 use Rattle.area.specs.Content.{Content, base_of}
 use Rattle.area.specs.Reading.{damaged, whole, read_area}
 use Rattle.area.specs.Leads.{index_sound, entries_for, number_for, interval_for, sound_for}
-use Rattle.requests.specs.Answers.{number_of}
+use Rattle.requests.specs.Answers.{Answer, number_of}
 use Rattle.requests.specs.Records.{lying_at}
 use Rattle.requests.specs.Reading.{Given, check_of, get_of, get_at_of, Gives}
 use Rattle.requests.specs.Finding.{Keyed, Lies, Finds}
-use Rattle.requests.specs.Answers.{Answer}
 use Rattle.requests.specs.declared.Done.TheVariants.{Found}
 use Rattle.requests.specs.declared.Refusal.TheVariants.{Damaged, WrongLength, Absent, Short, NoRecord}
 use Rattle.requests.proofs.Gets.{judged-least, get-index-damaged, get-length-wrong, get-there-damaged, get-there-finds, get-at-finds}
@@ -46,11 +45,11 @@ module _ (m : Measures) (area : List ℕ) where
   answered g a out e = ap (λ (h : Given). number_of h.answer) e
 
   -- The last two rows of a get, whatever words say that what is wanted is not there, or is longer than the output.
-  last-two : (Wanted : List ℕ → Type 0) (out : List ℕ) (None Long : Type 0) → None ↔ ((r : List ℕ) → Wanted r → ⊥)
+  last-two : (Wanted : List ℕ → Type 0) (out : List ℕ) (Gone Long : Type 0) → Gone ↔ ((r : List ℕ) → Wanted r → ⊥)
       → Long ↔ ((r : List ℕ) × Wanted r × (length out < length r)) → (none : Answer) (g : Given) → Finds Wanted none out g
-      → ((r : List ℕ) × Wanted r) ⊎ ((r : List ℕ) → Wanted r → ⊥) → First (row (number_of none) None (row 8 Long done)) (number_of g.answer)
-  last-two Wanted out None Long none_is long-is none g f (inr x) = inl (none_is.1 x, answered g none out (f.absent x))
-  last-two Wanted out None Long none_is long-is none g f (inl x) = inr (λ (h : None). none_is.0 h x.0 x.1, go (leb (length x.0) (length out)) refl)
+      → ((r : List ℕ) × Wanted r) ⊎ ((r : List ℕ) → Wanted r → ⊥) → First (row (number_of none) Gone (row 8 Long done)) (number_of g.answer)
+  last-two Wanted out Gone Long gone-is long-is none g f (inr x) = inl (gone-is.1 x, answered g none out (f.absent x))
+  last-two Wanted out Gone Long gone-is long-is none g f (inl x) = inr (λ (h : Gone). gone-is.0 h x.0 x.1, go (leb (length x.0) (length out)) refl)
     where
       go : (t : Bool) → leb (length x.0) (length out) ≡ t → First (row 8 Long done) (number_of g.answer)
       go true e =

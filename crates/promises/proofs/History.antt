@@ -8,7 +8,7 @@ use native.Mathlib.Omega.{arith}
 use Rattle.fields.specs.Bytes.{Octets}
 use Rattle.fields.proofs.Choices.{both-split}
 use Rattle.measures.specs.declared.Measures.{Measures}
-use Rattle.measures.specs.Judgement.{passed}
+use Rattle.measures.proofs.Fine.{passed_apart}
 use Rattle.index.specs.Meaning.{named, count, below, once, named_once}
 use Rattle.index.proofs.Counting.{once-each, count-out}
 use Rattle.area.specs.Content.{Content, records_of, meaning_of, base_of}
@@ -17,13 +17,12 @@ use Rattle.area.proofs.Ascending.{records-ascend, numbers-once}
 use Rattle.change.specs.Parts.{Edit}
 use Rattle.change.specs.Content.{content_after}
 use Rattle.change.proofs.Made.{made-whole, made-records, made-lent}
-use Rattle.requests.specs.Answers.{number_of}
+use Rattle.requests.specs.Answers.{Answer, number_of}
 use Rattle.requests.specs.Model.{Change, insert, update, erase, make_change, make_all, Legal, total, gained_all, lost_all}
 use Rattle.requests.specs.Reading.{Given, get_of, get_at_of, Gives}
 use Rattle.requests.specs.Finding.{Keyed, Lies, Finds}
 use Rattle.requests.specs.Changing.{Outcome, bytes_of, edit_of, change_of, Makes}
 use Rattle.requests.specs.Accepted.{Accepted}
-use Rattle.requests.specs.Answers.{Answer}
 use Rattle.requests.specs.declared.Refusal.TheVariants.{Absent, NoRecord}
 use Rattle.requests.proofs.Making.{total-all}
 use Rattle.requests.proofs.Gets.{get-finds as area-get-finds, get-at-finds as area-get-at-finds}
@@ -65,8 +64,7 @@ module _ (m : Measures) where
     change-left before c s ch o a =
         let f = accepted-fits-area m before ch o s.octets a in
         let e : Edit = edit_of m a.c ch in
-        let j : passed m a.n ≡ passed m n = sym a.judges ∙ s.judges in
-        let en : n ≡ a.n = cc in
+        let en : n ≡ a.n = sym (passed_apart m m a.n n (sym a.judges ∙ s.judges)).1 in
         let w : read_area m a.n before ≡ whole c = rw (← en) s.reads in
         let v : whole c ≡ whole a.c = sym w ∙ a.reads in
         let ec : c ≡ a.c = cc in

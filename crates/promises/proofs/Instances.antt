@@ -7,8 +7,6 @@ use mathlib.Core.List.{List, [], ◌∷◌}
 use mathlib.Core.Logic.{◌↔◌}
 use lib.ListN.{length}
 use native.Mathlib.Omega.{arith}
-use Rattle.interval.specs.Search.{holds}
-use Rattle.index.specs.Bounds.{separator}
 use Rattle.area.specs.Example.{bytes}
 use Rattle.requests.specs.Records.{with_key}
 use Rattle.fields.proofs.Octets.{all-octets}
@@ -17,10 +15,9 @@ use Rattle.measures.specs.declared.Measures.{Measures}
 use Rattle.area.specs.Content.{Content, records_of}
 use Rattle.area.specs.Example.{depot, held}
 use Rattle.requests.specs.Model.{Change, insert, update, Legal}
-use Rattle.requests.specs.Answers.{number_of}
+use Rattle.requests.specs.Answers.{Answer, number_of}
 use Rattle.requests.specs.Changing.{change_of}
 use Rattle.requests.specs.Allowed.{ChangeAllowed}
-use Rattle.requests.specs.Answers.{Answer}
 use Rattle.requests.specs.declared.Refusal.TheVariants.{NoInterval, NoRoom}
 use Rattle.promises.specs.Trace.{Sound}
 use Rattle.promises.specs.Tables.{WantOfInterval, WantOfRoom}

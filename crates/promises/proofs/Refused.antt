@@ -1,5 +1,5 @@
 -- Refused requests do no harm: demand 1. One proof for the three changes, one for the two gets.
-use Rattle.std.specs.Prelude.{Ok, Err, None, Option}
+use Rattle.std.specs.Prelude.{Ok, Err, Some, None, Option}
 use Prim.Native.Nat.{ℕ, ◌+◌}
 use mathlib.Core.Path.{◌≡◌, refl, ◌∙◌, ap}
 use mathlib.Core.Bool.{Bool, true, false}
@@ -9,7 +9,7 @@ use lib.ListN.{length}
 use lib.Dec.{eqb, leb}
 use Rattle.fields.specs.Choice.{pick}
 use Rattle.fields.specs.Bytes.{splice}
-use Rattle.measures.specs.Judgement.{judged_of, passed}
+use Rattle.measures.specs.Judgement.{judged_of}
 use Rattle.measures.specs.declared.Measures.{Measures}
 use Rattle.measures.specs.declared.Judged.{Judged}
 use Rattle.interval.specs.Reading.{records_in}
@@ -18,13 +18,12 @@ use Rattle.index.specs.Search.{entry_for}
 use Rattle.area.specs.Content.{records_of, base_of}
 use Rattle.area.specs.Leads.{index_sound, entries_for, interval_for, sound_for}
 use Rattle.change.specs.Plan.{plan_of}
-use Rattle.requests.specs.Answers.{number_of}
+use Rattle.requests.specs.Answers.{Answer, number_of}
 use Rattle.requests.specs.Records.{with_key, lying_at}
 use Rattle.requests.specs.Model.{Change, insert, update, erase, Legal}
 use Rattle.requests.specs.Opening.{Opening, shut, holding, opening_of}
 use Rattle.requests.specs.Reading.{Given, refused, hand_out, get_there, get_in, get_judged, get_of, get_at_opened, get_at_of, Gives}
 use Rattle.requests.specs.Changing.{Outcome, kept, key_in, length_fine, edit_of, carry_out, if_keyed, change_opened, change_of, Makes}
-use Rattle.requests.specs.Answers.{Answer}
 use Rattle.requests.specs.declared.Done.TheVariants.{Found}
 use Rattle.requests.specs.declared.Refusal.TheVariants.{Damaged, WrongLength, Absent, Short, NoRecord}
 use Rattle.requests.proofs.Order.{refused-spares as carry-spares}
@@ -42,7 +41,7 @@ SparesOutput out g = Refusal g.answer → g.output ≡ out
 
 -- Whatever the opening: where it is shut nothing has been done yet; where it holds a content, the length, the key and the plan are asked before any store.
 change-opened : (d : Opening) (area : List ℕ) (ch : Change) → Spares area (change_opened d area ch)
-change-opened (shut a) area ch n = refl
+change-opened (shut r) area ch n = refl
 change-opened (holding m c) area ch n = by_length (length_fine m ch) n
   where
     made : Outcome
@@ -74,7 +73,7 @@ hand-spares : (none : Answer) (ws : List (List ℕ)) (out : List ℕ) → Spares
 hand-spares none [] out n = refl
 hand-spares none (r ∷ ws) out n = go (leb (length r) (length out)) n
   where
-    go : (t : Bool) → SparesOutput out (pick t (record { answer = (Ok (Found (length r))); output = splice out 0 r }) (refused (Err (Short (length r))) out))
+    go : (t : Bool) → SparesOutput out (pick t (record { answer = Ok (Found (length r)); output = splice out 0 r }) (refused (Err (Short (length r))) out))
     go true n = absurd (n refl)
     go false n = refl
 
@@ -99,10 +98,10 @@ in-spares m n area wanted out = go (index_sound m n area) (eqb (length wanted) m
 
 get-judged : (d : Option Judged) (area wanted out : List ℕ) → SparesOutput out (get_judged d area wanted out)
 get-judged None area wanted out n = refl
-get-judged (passed m k) area wanted out n = in-spares m k area wanted out n
+get-judged (Some j) area wanted out n = in-spares j.measures j.count area wanted out n
 
 get-at-opened : (d : Opening) (address : ℕ) (out : List ℕ) → SparesOutput out (get_at_opened d address out)
-get-at-opened (shut a) address out n = refl
+get-at-opened (shut r) address out n = refl
 get-at-opened (holding m c) address out n = hand-spares (Err NoRecord) (lying_at m (base_of c) address c.filled) out n
 
 -- any result that a get's contract allows

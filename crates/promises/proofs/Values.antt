@@ -13,13 +13,13 @@ use Rattle.measures.specs.Judgement.{judged_of, count_of, passed}
 use Rattle.measures.specs.declared.Measures.{Measures}
 use Rattle.measures.proofs.Fine.{judged-either}
 use Rattle.area.specs.Leads.{index_sound, entries_for, interval_for, sound_for}
-use Rattle.requests.specs.Answers.{number_of, values_of}
+use Rattle.requests.specs.Answers.{Answer, number_of, values_of}
 use Rattle.requests.specs.Model.{Change}
 use Rattle.requests.specs.Opening.{Opening, shut, opening_of}
 use Rattle.requests.specs.Reading.{Given, refused, check_opened, check_of, get_of, get_at_opened, get_at_of}
 use Rattle.requests.specs.Finding.{Keyed, Finds}
 use Rattle.requests.specs.Changing.{change_opened, change_of}
-use Rattle.requests.specs.Answers.{Answer}
+use Rattle.requests.specs.declared.Refusal.{Refusal}
 use Rattle.requests.specs.declared.Done.TheVariants.{Changed, Found, Intact}
 use Rattle.requests.specs.declared.Refusal.TheVariants.{Outside, Damaged, WrongLength, Present, Absent, NoInterval, NoRoom, Short, NoRecord}
 use Rattle.requests.proofs.Gets.{get-index-damaged, get-length-wrong, get-there-damaged, get-there-finds, get-at-finds}
@@ -73,27 +73,27 @@ module _ (m : Measures) (area : List ℕ) where
   own_is (changes ch) a after out k = (change-makes m area after ch a k).answers
 
   -- what is told where a request comes no further than the opening; a get by key has its own way
-  check-shut : (a : Answer) → opening_of m area ≡ shut a → check_of m area ≡ a
+  check-shut : (r : Refusal) → opening_of m area ≡ shut r → check_of m area ≡ Err r
   unfolding check_of
-  check-shut a e = ap check_opened e
+  check-shut r e = ap check_opened e
 
-  get-at-shut : (address : ℕ) (lent : List ℕ) (a : Answer) → opening_of m area ≡ shut a → (get_at_of m area address lent).answer ≡ a
+  get-at-shut : (address : ℕ) (lent : List ℕ) (r : Refusal) → opening_of m area ≡ shut r → (get_at_of m area address lent).answer ≡ Err r
   unfolding get_at_of
-  get-at-shut address lent a e = ap (λ (d : Opening). (get_at_opened d address lent).answer) e
+  get-at-shut address lent r e = ap (λ (d : Opening). (get_at_opened d address lent).answer) e
 
-  change-shut : (ch : Change) (a : Answer) → opening_of m area ≡ shut a → (change_of m area ch).answer ≡ a
+  change-shut : (ch : Change) (r : Refusal) → opening_of m area ≡ shut r → (change_of m area ch).answer ≡ Err r
   unfolding change_of
-  change-shut ch a e = ap (λ (d : Opening). (change_opened d area ch).answer) e
+  change-shut ch r e = ap (λ (d : Opening). (change_opened d area ch).answer) e
 
-  get-outside : (wanted lent : List ℕ) → judged_of m (length area) ≡ None → (get_of m area wanted lent).answer ≡ (Err Outside)
+  get-outside : (wanted lent : List ℕ) → judged_of m (length area) ≡ None → (get_of m area wanted lent).answer ≡ Err Outside
   unfolding get_of
   get-outside wanted lent o = rw o
 
-  own-outside : (q : Request) → judged_of m (length area) ≡ None → own q ≡ (Err Outside)
+  own-outside : (q : Request) → judged_of m (length area) ≡ None → own q ≡ Err Outside
   own-outside check o = check-shut Outside (rw o)
   own-outside (get wanted lent) o = get-outside wanted lent o
-  own-outside (get_at address lent) o = get-at-shut address lent (Err Outside) (rw o)
-  own-outside (changes ch) o = change-shut ch (Err Outside) (rw o)
+  own-outside (get_at address lent) o = get-at-shut address lent Outside (rw o)
+  own-outside (changes ch) o = change-shut ch Outside (rw o)
 
   -- ---- a get by key
 
@@ -139,8 +139,8 @@ module _ (m : Measures) (area : List ℕ) where
   own-place : (q : Request) → FineHere → number_of (own q) ≡ 2 → (p : ℕ) → DamagedFor m area q p → values_of (own q) ≡ p ∷ []
   own-place check j z p d = ap values_of (check-shut (Damaged p) (rw (j, d)))
   own-place (get wanted lent) j z p d = got-place wanted lent j z p d
-  own-place (get_at address lent) j z p d = ap values_of (get-at-shut address lent (Err (Damaged p)) (rw (j, d)))
-  own-place (changes ch) j z p d = ap values_of (change-shut ch (Err (Damaged p)) (rw (j, d)))
+  own-place (get_at address lent) j z p d = ap values_of (get-at-shut address lent (Damaged p) (rw (j, d)))
+  own-place (changes ch) j z p d = ap values_of (change-shut ch (Damaged p) (rw (j, d)))
 
   own-needed : (q : Request) → FineHere → number_of (own q) ≡ 8 → (r : List ℕ) → Asked m area q r → values_of (own q) ≡ length r ∷ []
   own-needed check j z r k = absurd k

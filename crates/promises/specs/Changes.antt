@@ -88,7 +88,7 @@ Framed S before after a = (k : ℕ) → (Memᴰ k (told_written a) → ⊥) → 
 -- after (d); old is the number of the key's interval.
 pub record WrittenTrue (m : Measures) (before after : List ℕ) (c d : Content) (a : Answer) (old : ℕ) : Type 0 where
   pub written : Written
-  pub told : a ≡ (Ok (Changed written))
+  pub told : a ≡ Ok (Changed written)
   pub many : written.count ≡ length (numbers_of written)
   pub most : written.count ≤ 4
   pub padded : (i : ℕ) → written.count ≤ i → get_or (written.first ∷ written.second ∷ written.third ∷ written.fourth ∷ []) i 0 ≡ 0

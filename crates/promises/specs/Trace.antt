@@ -7,10 +7,9 @@ use Rattle.measures.specs.declared.Measures.{Measures}
 use Rattle.interval.specs.Records.{keys_of, ascending}
 use Rattle.area.specs.Content.{Content, records_of}
 use Rattle.area.specs.Reading.{whole, read_area}
-use Rattle.requests.specs.Answers.{number_of}
+use Rattle.requests.specs.Answers.{Answer, number_of}
 use Rattle.requests.specs.Model.{Change, make_all, AllLegal}
 use Rattle.requests.specs.Allowed.{Request, check, get, get_at, changes, Allowed}
-use Rattle.requests.specs.Answers.{Answer}
 
 -- a request with what came back: the answer, the area and the output at exit (a check and a change are lent no output)
 pub record Step : Type 0 where

@@ -20,12 +20,11 @@ use Rattle.change.specs.Parts.{entry_at}
 use Rattle.change.specs.Places.{nexts}
 use Rattle.change.specs.Written.{carrying}
 use Rattle.requests.specs.Model.{Change, insert, update, erase, make_change}
-use Rattle.requests.specs.Answers.{number_of, values_of}
+use Rattle.requests.specs.Answers.{Answer, number_of, values_of}
 use Rattle.requests.specs.Opening.{Opening, shut, holding, opening_of}
 use Rattle.requests.specs.Records.{with_key}
 use Rattle.requests.specs.Reading.{Given, refused, hand_out, check_of, get_of, get_at_of}
 use Rattle.requests.specs.Changing.{Outcome, kept, bytes_of, key_in, change_of}
-use Rattle.requests.specs.Answers.{Answer}
 use Rattle.requests.specs.declared.Done.TheVariants.{Changed, Found, Intact}
 use Rattle.requests.specs.declared.Refusal.TheVariants.{Outside, Damaged, WrongLength, Present, Absent, NoInterval, NoRoom, Short, NoRecord}
 use Rattle.requests.specs.Allowed.{Request, check, get, get_at, changes}
@@ -169,7 +168,7 @@ cramped_at_brim =
 
 -- invents how many records and free intervals there are
 abbrev pub invents_counts : Register
-invents_counts area check = record { request = check; answer = (Ok (Intact 7 7)); area = area; output = [] }
+invents_counts area check = record { request = check; answer = Ok (Intact 7 7); area = area; output = [] }
 invents_counts area (get wanted out) = rightly depot area (get wanted out)
 invents_counts area (get_at address out) = rightly depot area (get_at address out)
 invents_counts area (changes ch) = rightly depot area (changes ch)
@@ -178,17 +177,17 @@ invents_counts area (changes ch) = rightly depot area (changes ch)
 abbrev pub invents_written : Register
 invents_written =
     changing_by
-    (λ (area : List ℕ) (ch : Change) (o : Outcome). if_made o (record { answer = (Ok (Changed (record { count = 7; first = 0; second = 1; third = 2; fourth = 3 }))); area = o.area })) depot
+    (λ (area : List ℕ) (ch : Change) (o : Outcome). if_made o (record { answer = Ok (Changed (record { count = 7; first = 0; second = 1; third = 2; fourth = 3 })); area = o.area })) depot
 
 -- tells as many intervals as a change wrote, but each by the number of the one behind it
 abbrev pub misnames_written : Register
 misnames_written =
-    changing_by (λ (area : List ℕ) (ch : Change) (o : Outcome). if_made o (record { answer = (Ok (Changed (carrying (nexts (told_written o.answer))))); area = o.area })) depot
+    changing_by (λ (area : List ℕ) (ch : Change) (o : Outcome). if_made o (record { answer = Ok (Changed (carrying (nexts (told_written o.answer)))); area = o.area })) depot
 
 -- leaves out the index record where a change wrote it
 abbrev pub forgets_index : Register
 forgets_index =
-    changing_by (λ (area : List ℕ) (ch : Change) (o : Outcome). if_divides o (record { answer = (Ok (Changed (carrying (drop 1 (told_written o.answer))))); area = o.area })) depot
+    changing_by (λ (area : List ℕ) (ch : Change) (o : Outcome). if_divides o (record { answer = Ok (Changed (carrying (drop 1 (told_written o.answer)))); area = o.area })) depot
 
 -- hands out the same certificate to whoever asks for one that is there
 abbrev pub same_record : Register
@@ -196,7 +195,7 @@ same_record =
     getting_by
     (λ (area wanted out : List ℕ) (right : Given).
     pick (eqb (number_of right.answer) 0)
-    (record { answer = (Ok (Found (length first))); output = first ++ drop (length first) out }) right)
+    (record { answer = Ok (Found (length first)); output = first ++ drop (length first) out }) right)
 
 -- ---- gets that judge more than they read, or less: document 02, L4
 
@@ -315,7 +314,7 @@ last_lost (holding m c) ch area =
 abbrev pub loses_last : Register
 loses_last =
     changing_by
-    (λ (area : List ℕ) (ch : Change) (o : Outcome). if_divides o (record { answer = (Ok (Changed (carrying (1 ∷ [])))); area = last_lost (opening_of depot area) ch area }))
+    (λ (area : List ℕ) (ch : Change) (o : Outcome). if_divides o (record { answer = Ok (Changed (carrying (1 ∷ []))); area = last_lost (opening_of depot area) ch area }))
     depot
 
 -- ---- writers

@@ -14,11 +14,10 @@ use Rattle.fields.specs.Bytes.{Octets}
 use Rattle.measures.specs.Judgement.{measures, count_of}
 use Rattle.measures.specs.declared.Measures.{Measures}
 use Rattle.area.specs.Layout.{Lent}
-use Rattle.requests.specs.Answers.{number_of}
+use Rattle.requests.specs.Answers.{Answer, number_of}
 use Rattle.requests.specs.Finding.{Keyed, Finds}
 use Rattle.requests.specs.Reading.{Given, get_of}
 use Rattle.requests.specs.Words.{large_of, word_of, Apart}
-use Rattle.requests.specs.Answers.{Answer}
 use Rattle.requests.specs.declared.Refusal.TheVariants.{Absent}
 use Rattle.promises.specs.Local.{FineHome}
 use Rattle.promises.proofs.Local.{get-there-finds}

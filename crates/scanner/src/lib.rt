@@ -18,6 +18,7 @@ pub(crate) fn joined(number: usize, small: usize, large: usize) -> u64
 }
 
 // An answer as one number.
+#[tactic(auto, unfolding(requests::specs::Words::word_of))]
 pub(crate) fn word(answer: Answer) -> u64
     requires { Small answer }
     ensures { result ≡ word_of answer }
