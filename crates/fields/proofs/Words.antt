@@ -13,16 +13,16 @@ use borrow.Author.Tests.{lt-ltb, le-ltb, ltb-true, ltb-false}
 use Rattle.fields.specs.Choice.{pick}
 use Rattle.fields.specs.Bytes.{Octets, part, number}
 use Rattle.fields.specs.Order.{order_of, is_less, less}
-use Rattle.fields.specs.declared.Order.{Order}
-use Rattle.fields.specs.declared.Order.TheVariants.{Less, Greater}
+use Rattle.std.specs.declared.cmp.Ordering.{Ordering}
+use Rattle.std.specs.declared.cmp.Ordering.TheVariants.{Less, Greater}
 use Rattle.fields.proofs.Octets.{octets-part}
 
 -- two numbers decide, or what comes after them
-abbrev pub by_numbers : ℕ → ℕ → Order → Order
+abbrev pub by_numbers : ℕ → ℕ → Ordering → Ordering
 by_numbers x y o = pick (ltb x y) Less (pick (ltb y x) Greater o)
 
 -- a number and one byte more decide as the number first and the byte then
-join : (X Y x y : ℕ) (o : Order) → x < 256 → y < 256 → by_numbers X Y (by_numbers x y o) ≡ by_numbers (X * 256 + x) (Y * 256 + y) o
+join : (X Y x y : ℕ) (o : Ordering) → x < 256 → y < 256 → by_numbers X Y (by_numbers x y o) ≡ by_numbers (X * 256 + x) (Y * 256 + y) o
 join X Y x y o h k = go (ltb X Y) (ltb Y X) refl refl
   where
     go : (t u : Bool) → ltb X Y ≡ t → ltb Y X ≡ u → pick t Less (pick u Greater (by_numbers x y o)) ≡ by_numbers (X * 256 + x) (Y * 256 + y) o
@@ -34,7 +34,7 @@ join X Y x y o h k = go (ltb X Y) (ltb Y X) refl refl
         let e : X ≡ Y = omega (arith, ltb-false X Y p, ltb-false Y X q) in
         rw e (low Y x y o)
       where
-        low : (Z x y : ℕ) (o : Order) → by_numbers x y o ≡ by_numbers (Z * 256 + x) (Z * 256 + y) o
+        low : (Z x y : ℕ) (o : Ordering) → by_numbers x y o ≡ by_numbers (Z * 256 + x) (Z * 256 + y) o
         low Z x y o = both (ltb x y) (ltb y x) refl refl
           where
             both : (t u : Bool) → ltb x y ≡ t → ltb y x ≡ u → pick t Less (pick u Greater o) ≡ by_numbers (Z * 256 + x) (Z * 256 + y) o

@@ -3,8 +3,8 @@ use Rattle.std.specs.Prelude.{ℕ, ◌+◌, ◌≤◌, ◌<◌, Bool, true, fals
 use Rattle.fields.specs.Choice.{pick, either}
 use Rattle.fields.specs.Order.{order_of, less}
 use Rattle.fields.specs.Lists.{concat, every}
-use Rattle.fields.specs.declared.Order.{Order}
-use Rattle.fields.specs.declared.Order.TheVariants.{Less, Same, Greater}
+use Rattle.std.specs.declared.cmp.Ordering.{Ordering}
+use Rattle.std.specs.declared.cmp.Ordering.TheVariants.{Less, Equal, Greater}
 use Rattle.measures.specs.declared.Measures.{Measures}
 use Rattle.interval.specs.Records.{key_of}
 use Rattle.interval.specs.declared.Found.{Found}
@@ -13,9 +13,9 @@ use Rattle.interval.specs.declared.Started.{Started}
 use Rattle.interval.specs.declared.Started.TheVariants.{Here, Nothing}
 
 -- two keys are the same
-abbrev pub is_same : Order → Bool
+abbrev pub is_same : Ordering → Bool
 is_same Less = false
-is_same Same = true
+is_same Equal = true
 is_same Greater = false
 
 -- how many records have a key below the given one

@@ -9,7 +9,7 @@ ghost use Rattle.interval.specs.Search.{place_of, Within, starting_at, started_o
 ghost use Rattle.interval.specs.declared.Found.TheVariants.{At};
 ghost use Rattle.interval_find.specs.AidRuns.{RunIn, Holding};
 
-use fields::Order;
+use std::cmp::Ordering;
 use interval::{Found, Started};
 use measures::Measures;
 use rdf::Front;
@@ -27,8 +27,8 @@ pub(crate) fn rdfs_of(ci: &[u8]) -> Rdfs
     ensures { (result.at ≡ rdfs_at ci.now) × (result.many ≡ rdfs_many ci.now) }
 {
     let n = ci.len();
-    let d = fields::read_two(ci, n - 4);
-    let u = rdf::below_flag(fields::read_two(ci, n - 2));
+    let d = fields::read::<2>(ci, n - 4);
+    let u = rdf::below_flag(fields::read::<2>(ci, n - 2));
     let at = d + u;
     Rdfs {
         at,
@@ -58,7 +58,7 @@ pub(crate) fn found(run: Run, i: usize) -> Found
 }
 
 // How the key of the record that begins at a place stands to a key.
-pub(crate) fn order_at(ci: &[u8], m: Measures, at: usize, key: &[u8]) -> Order
+pub(crate) fn order_at(ci: &[u8], m: Measures, at: usize, key: &[u8]) -> Ordering
     requires { (at + m.offset + m.key ≤ length ci.now) × (length key.now ≡ m.key) }
     ensures { result ≡ order_of (part ci.now (at + m.offset) m.key) key.now }
 {
@@ -78,9 +78,9 @@ pub(crate) fn find_in(ci: &[u8], m: Measures, key: &[u8], run: Run) -> Found
     while low < high {
         let middle = low + (high - low) / 2;
         match order_at(ci, m, run.start + middle * run.len, key) {
-            Order::Less => low = middle + 1,
-            Order::Same => return found(run, middle),
-            Order::Greater => high = middle,
+            Ordering::Less => low = middle + 1,
+            Ordering::Equal => return found(run, middle),
+            Ordering::Greater => high = middle,
         }
     }
     Found::Gap {
@@ -111,9 +111,9 @@ pub fn find(ci: &[u8], m: Measures, key: &[u8]) -> Found
             last: count - 1,
         };
         match order_at(ci, m, start + run.last * len, key) {
-            Order::Less => {}
-            Order::Same => return found(run, run.last),
-            Order::Greater => return find_in(ci, m, key, run),
+            Ordering::Less => {}
+            Ordering::Equal => return found(run, run.last),
+            Ordering::Greater => return find_in(ci, m, key, run),
         }
         ordinal += count;
         start += count * len;

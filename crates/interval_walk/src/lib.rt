@@ -37,8 +37,8 @@ pub(crate) fn group_left(ci: &[u8], start: usize, q: usize) -> Spot
     ensures { result ≡ left_of ci.now start q }
 {
     let n = ci.len();
-    let unused = rdf::below_flag(fields::read_two(ci, n - 2));
-    let p = fields::read_two(ci, n - 4) + unused;
+    let unused = rdf::below_flag(fields::read::<2>(ci, n - 2));
+    let p = fields::read::<2>(ci, n - 4) + unused;
     if q < p + 3 {
         return nothing();
     }
@@ -77,14 +77,14 @@ pub(crate) fn group_right(ci: &[u8], end: usize, q: usize) -> Spot
     if e < q || e - q < 3 {
         return nothing();
     }
-    let first = fields::read_two(ci, q + 1);
+    let first = fields::read::<2>(ci, q + 1);
     match rdf::take_apart(ci[q]) {
         Control::Single => group_end(end, first, 1, q + 3),
         Control::Count => {
             if e - q < 6 {
                 return nothing();
             }
-            group_end(end, fields::read_two(ci, q + 4), first, q + 6)
+            group_end(end, fields::read::<2>(ci, q + 4), first, q + 6)
         }
         Control::Paired => nothing(),
         Control::Bad => nothing(),
@@ -109,8 +109,8 @@ pub fn last(ci: &[u8]) -> Spot
     if n < 4 {
         return nothing();
     }
-    let unused = rdf::below_flag(fields::read_two(ci, n - 2));
-    let bytes = fields::read_two(ci, n - 4);
+    let unused = rdf::below_flag(fields::read::<2>(ci, n - 2));
+    let bytes = fields::read::<2>(ci, n - 4);
     group_right(ci, bytes, bytes + unused)
 }
 
@@ -156,8 +156,8 @@ pub fn spot_at(ci: &[u8], m: Measures, i: usize, forward: bool) -> Spot
     ensures { SpotOf m ci.now forward result i }
 {
     let n = ci.len();
-    let unused = rdf::below_flag(fields::read_two(ci, n - 2));
-    let p = fields::read_two(ci, n - 4) + unused;
+    let unused = rdf::below_flag(fields::read::<2>(ci, n - 2));
+    let p = fields::read::<2>(ci, n - 4) + unused;
     let mut left = (n - 4 - p) / 3;
     let mut ordinal: usize = 0;
     let mut start: usize = 0;

@@ -13,7 +13,7 @@ pub(crate) fn put_rdf(ci: &mut [u8], at: usize, paired: u8, counts: u8, num: usi
     requires { (at + 3 ≤ length ci.old) × (paired < 2) × (counts < 2) × (num < 65536) }
     ensures { ci.new ≡ splice ci.old at (rdf_bytes (paired * 64 + counts * 8) num) }
 {
-    fields::write_two(ci, at + 1, num);
+    fields::write(ci, at + 1, 2, num);
     ci[at] = rdf::put_together(paired, counts);
 }
 
@@ -54,8 +54,8 @@ pub(crate) fn put_cidf(ci: &mut [u8], at: usize, displacement: usize, unused: us
     requires { (at + 4 ≤ length ci.old) × (displacement < 65536) × (unused < 32768) }
     ensures { ci.new ≡ splice ci.old at (cidf displacement unused) }
 {
-    fields::write_two(ci, at, displacement);
-    fields::write_two(ci, at + 2, rdf::with_flag(0, unused));
+    fields::write(ci, at, 2, displacement);
+    fields::write(ci, at + 2, 2, rdf::with_flag(0, unused));
 }
 
 // Writes what follows the records of an interval, whose bytes lie at its front: zeros in the unused space, the RDFs of their lengths grouped

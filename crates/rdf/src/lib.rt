@@ -86,7 +86,7 @@ pub fn group_before(b: &[u8], q: usize, n: usize, least: usize, most: usize) -> 
     ensures small { Small n result }
 {
     let at = q - 3;
-    let len = fields::read_two(b, at + 1);
+    let len = fields::read::<2>(b, at + 1);
     if len < least {
         return Front::Damaged;
     }
@@ -118,7 +118,7 @@ pub(crate) fn pair_before(b: &[u8], q: usize, n: usize, len: usize) -> Front
     let Control::Count = take_apart(b[at]) else {
         return Front::Damaged;
     };
-    let count = fields::read_two(b, at + 1);
+    let count = fields::read::<2>(b, at + 1);
     if count < 2 {
         return Front::Damaged;
     }

@@ -18,8 +18,8 @@ use Rattle.index_read.proofs.walk_inner.Goals as goal
 abbrev At-loop-state : Type 0
 At-loop-state = Lts.At-loop Tie.the-claims Reads.Pre Reads.Post goal.the-invariant-loop-left goal.the-decreases-loop-left Tie.handed_clauses
 
-abbrev After-wide-state : Type 0
-After-wide-state = Lts.After-wide Tie.the-claims Reads.Pre Reads.Post goal.the-invariant-loop-left goal.the-decreases-loop-left Tie.handed_clauses
+abbrev After-from-state : Type 0
+After-from-state = Lts.After-from Tie.the-claims Reads.Pre Reads.Post goal.the-invariant-loop-left goal.the-decreases-loop-left Tie.handed_clauses
 
 abbrev Joined3-state : Type 0
 Joined3-state = Lts.Joined3 Tie.the-claims Reads.Pre Reads.Post goal.the-invariant-loop-left goal.the-decreases-loop-left Tie.handed_clauses
@@ -50,31 +50,31 @@ ends l =
     within a.ib.now a.by a.key.now l.requires.stands.old o.seen o.buf l.requires.stands.high o.p (eqb o.left a.from.left) o.left o.reach (stand l)
 
 -- past the tests for a section's highest and for its length
-more : (c : After-wide-state) → 0 < c.loop-left.left
+more : (c : After-from-state) → 0 < c.loop-left.left
 more c = c.loop-left-test.true
 
-inner : (c : After-wide-state) → closes_at c.args.by.width c.loop-left.p ≡ false
+inner : (c : After-from-state) → closes_at c.args.by.width c.loop-left.p ≡ false
 inner c = ne_eqb _ _ c.if-c-p.false
 
-long : (c : After-wide-state)
-    → c.wide.result ≡ length_at c.args.by.width c.args.ib.now c.loop-left.p.right
+long : (c : After-from-state)
+    → c.from.result ≡ length_at c.args.by.width c.args.ib.now c.loop-left.p.right
 long c =
     let o = c.loop-left in
     let a = c.args in
     length-is a.ib.now a.by a.key.now c.requires.stands.old o.seen o.buf c.requires.stands.high o.p (eqb o.left a.from.left) o.left o.reach (stand c.before.before.before.before.before) (walkable c.before.before.before.before.before)
-    c.wide.result c.wide.ensures.0
+    c.from.result c.from.ensures
 
 -- the reach past the next entry
 reaches : (c : Joined3-state)
     → NextReach c.args.ib.now c.loop-left.p
     c.args.by c.args.key.now
-    c.loop-left.reach c.if-wide-reach.reach
+    c.loop-left.reach c.if-from-reach.reach
 reaches c =
     let o = c.loop-left in
     let a = c.args in
     ⊎_elim
-    (λ h. by-look a.ib.now o.p a.by a.key.now o.reach c.if-wide-reach.reach c.wide-in-loop-left.result c.wide-in-loop-left.ensures.0 h.look-reach.result h.if-wide-reach.true h.look-reach.ensures h.if-reach-eq0.false h.reach-is)
-    (λ h. by_front a.ib.now o.p a.by a.key.now o.reach c.if-wide-reach.reach c.wide-in-loop-left.result c.wide-in-loop-left.ensures.0 h.if-wide-reach.false h.reach-is) c.if-wide-reach.branch-raw
+    (λ h. by-look a.ib.now o.p a.by a.key.now o.reach c.if-from-reach.reach c.from-in-loop-left.result c.from-in-loop-left.ensures h.look-reach.result h.if-from-reach.true h.look-reach.ensures h.if-reach-eq0.false h.reach-is)
+    (λ h. by_front a.ib.now o.p a.by a.key.now o.reach c.if-from-reach.reach c.from-in-loop-left.result c.from-in-loop-left.ensures h.if-from-reach.false h.reach-is) c.if-from-reach.branch-raw
 
 pub loop-left-init : goal.loop-left-init
 loop-left-init c =
@@ -104,7 +104,7 @@ pub bounds-ib-c : goal.bounds-ib-c
 bounds-ib-c c = omega (arith, begins c.before.before.before.before.before, ends c.before.before.before.before.before)
 
 pub overflow_add-by : goal.overflow_add-by
-overflow_add-by c = omega (arith, c.wide.ensures.1, (walkable c.before.before.before.before.before.before.before).edge)
+overflow_add-by c = omega (arith, c.from.ensures.1, (walkable c.before.before.before.before.before.before.before).edge)
 
 pub shape_of-buf-then-c-by : goal.shape_of-buf-then-c-by
 shape_of-buf-then-c-by c = whole c.before.before.before.before.before.before.before.before
@@ -114,7 +114,7 @@ returns-then-c-by c =
     let o = c.loop-left in
     let a = c.args in
     ends-left a.ib.now a.by a.key.now a.seen.now a.buf.now a.from o.seen o.buf o.p o.left o.reach o.invariant (more c.before.before.before) (walkable c.before.before.before.before.before.before.before.before) o.seen o.buf
-    c.wide.result (long c.before.before.before) c.if-c-by.true
+    c.from.result (long c.before.before.before) c.if-c-by.true
 
 pub bounds-ib-c-in-loop-left : goal.bounds-ib-c-in-loop-left
 bounds-ib-c-in-loop-left c = omega (arith, begins c.before.before.before.before.before.before.before.before.before, ends c.before.before.before.before.before.before.before.before.before)
@@ -124,7 +124,7 @@ look-reach-requires c =
     let o = c.loop-left in
     let a = c.args in record {
       le_width = sighted a.ib.now a.by a.key.now c.requires.stands.old o.seen o.buf c.requires.stands.high o.p (eqb o.left a.from.left) o.left o.reach (stand c.before.before.before.before.before.before.before.before.before.before.before) (walkable c.before.before.before.before.before.before.before.before.before.before.before)
-          (omega (arith, c.if-wide-reach.true));
+          (omega (arith, c.if-from-reach.true));
       which = inner c.before.before.before.before.before.before;
     }
 
@@ -146,7 +146,7 @@ returns-then-reach-eq0 c =
     let o = c.loop-left in
     let a = c.args in
     ends_found a.ib.now a.by a.key.now a.seen.now a.buf.now a.from o.seen o.buf o.p o.left o.reach o.invariant (more c.before.before.before.before.before.before.before.before.before) (walkable c.before.before.before.before.before.before.before.before.before.before.before.before.before.before)
-    c.if-left-eq1.false c.wide-in-loop-left.result c.look-reach.result c.wide-in-loop-left.ensures.0 c.if-wide-reach.true c.look-reach.ensures c.if-reach-eq0.true
+    c.if-left-eq1.false c.from-in-loop-left.result c.look-reach.result c.from-in-loop-left.ensures c.if-from-reach.true c.look-reach.ensures c.if-reach-eq0.true
 
 pub overflow_sub-r : goal.overflow_sub-r
 overflow_sub-r c = omega (arith, begins c.before.before.before.before.before.before.before.before.before.before.before)
@@ -226,7 +226,7 @@ loop-left-preserved c =
     let x = c.next_inner in
     goes_on a.ib.now a.by a.key.now a.seen.now a.buf.now a.from o.seen o.buf o.p o.left o.reach o.invariant (more c.before.before.before.before.before.before.before.before.before.before.before.before.before.before.before.before.before.before.before) (walkable c.before.before.before.before.before.before.before.before.before.before.before.before.before.before.before.before.before.before.before.before.before.before.before.before)
     x.result c.in-Of.s x.ensures.is c.in-Of.is x.new.buf x.ensures.renewed x.auto.buf c.past-p.result c.past-p.ensures (inner c.before.before.before.before.before.before.before.before.before.before.before.before.before.before.before.before.before.before.before)
-    c.if-wide-reach.reach (reaches c.before.before.before.before.before.before.before.before.before.before.before.before.before.before) c.read_pointer-number.result c.read_pointer-number.ensures.0 c.if-by-number.false c.if-seen-number-ne0.false
+    c.if-from-reach.reach (reaches c.before.before.before.before.before.before.before.before.before.before.before.before.before.before) c.read_pointer-number.result c.read_pointer-number.ensures.0 c.if-by-number.false c.if-seen-number-ne0.false
 
 pub shape_of-buf : goal.shape_of-buf
 shape_of-buf c = whole c.before.before

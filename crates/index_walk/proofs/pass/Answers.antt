@@ -31,10 +31,10 @@ lies d = (d.if-w-gt4.false, ltb-false _ _ d.if-ib-lt24.false-raw, ltb-false _ _ 
 
 -- L, and the bytes of the field, that were read
 abbrev long_of : Joined5-state → ℕ
-long_of j = j.wide-l.result
+long_of j = j.from-l.result
 
 long-told : (j : Joined5-state) → long_of j ≡ length_at j.args.w j.args.ib.now j.args.e.right
-long-told j = j.wide-l.ensures.0
+long-told j = j.from-l.ensures
 
 field_told : (j : Joined5-state)
     → j.if-control-e.field ≡ pick (eqb (j.args.e.right - (j.args.w + 2)) j.args.e.end) 2 0
@@ -62,7 +62,7 @@ pub bounds-ib-r : goal.bounds-ib-r
 bounds-ib-r c = omega (arith, lies c.before.before)
 
 pub overflow_add-l : goal.overflow_add-l
-overflow_add-l c = omega (arith, field-few c.before.before, c.wide-l.ensures.1)
+overflow_add-l c = omega (arith, field-few c.before.before, c.from-l.ensures.1)
 
 pub returns-then-control-l : goal.returns-then-control-l
 returns-then-control-l c =
@@ -83,12 +83,12 @@ past-q-requires c =
     let e = c.entry_at-s.ensures in
     pass-room a.w a.ib.now a.e t.0 t.1 t.2 t.3 (long_of c.before.before.before.before) c.if-control-e.field (long-told c.before.before.before.before) (field_told c.before.before.before.before) c.if-control-l.false c.entry_at-s.result e.is e.small.0 e.small.1
 
-pub read_two-requires : goal.read_two-requires
-read_two-requires c = omega (arith, (lies c.before.before.before.before.before.before.before.before.before).1)
+pub read-requires : goal.read-requires
+read-requires c = omega (arith, (lies c.before.before.before.before.before.before.before.before.before).1)
 
 pub returns : goal.returns
 returns c =
     let a = c.args in
     let t = lies c.before.before.before.before.before.before.before.before.before.before in
     pass-is a.w a.ib.now a.e t.0 t.1 t.2 t.3 (long_of c.before.before.before.before.before.before) c.if-control-e.field (long-told c.before.before.before.before.before.before) (field_told c.before.before.before.before.before.before) c.if-control-l.false c.entry_at-s.result c.entry_at-s.ensures.is
-    c.past-q.result c.past-q.ensures c.read_two.result c.read_two.ensures.0
+    c.past-q.result c.past-q.ensures c.read.result c.read.ensures.0

@@ -103,11 +103,11 @@ order_at-requires c =
 pub found-requires : goal.found-requires
 found-requires c = last-small c.before.before.before.before
 
-pub returns-in-Same : goal.returns-in-Same
-returns-in-Same c =
+pub returns-in-Equal : goal.returns-in-Equal
+returns-in-Equal c =
     let told = find-ends c.args.m c.args.ci.now c.args.key.now c.requires.0 _
     (c.found.ensures ∙ run-same c.args.m c.args.ci.now c.args.key.now c.requires.0 (run_of c.before.before.before.before.before) (lies c.before.before.before.before.before) (count_of c.before.before.before.before.before - 1) (omega arith) _ (sym c.order_at.ensures)
-    c.in-Same.is) in record { is = told.0; within = told.1 }
+    c.in-Equal.is) in record { is = told.0; within = told.1 }
 
 pub find_in-requires : goal.find_in-requires
 find_in-requires c = (

@@ -4,4 +4,4 @@ use Rattle.interval_find.proofs.rdfs_of.Goals as goal
 
 pub returns : goal.returns
 returns c =
-    rdfs-told c.args.ci.now _ _ _ c.read_two-d.ensures.0 c.read_two.ensures.0 c.below_flag-u.ensures
+    rdfs-told c.args.ci.now _ _ _ c.read-d.ensures.0 c.read.ensures.0 c.below_flag-u.ensures

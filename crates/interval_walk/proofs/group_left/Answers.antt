@@ -12,20 +12,20 @@ use Rattle.interval_walk.specs.AidSpots.{beginning}
 use Rattle.interval_walk.proofs.Reading.{at_told, left-none, left_is}
 use Rattle.interval_walk.proofs.group_left.Goals as goal
 
-abbrev After-read_two2-state : Type 0
-After-read_two2-state = Lts.After-read_two2 Tie.the-claims Reads.Pre Reads.Post Tie.handed_clauses
+abbrev After-read2-state : Type 0
+After-read2-state = Lts.After-read2 Tie.the-claims Reads.Pre Reads.Post Tie.handed_clauses
 
 abbrev After-known_told-state : Type 0
 After-known_told-state = Lts.Past-After-known_told Tie.the-claims Reads.Pre Reads.Post Tie.handed_clauses
 
 -- where the RDFs begin
-abbrev place_of : After-read_two2-state → ℕ
-place_of k = k.read_two-2.result + k.below_flag-unused.result
+abbrev place_of : After-read2-state → ℕ
+place_of k = k.read-2.result + k.below_flag-unused.result
 
-place-told : (k : After-read_two2-state) → place_of k ≡ rdfs_at k.args.ci.now
+place-told : (k : After-read2-state) → place_of k ≡ rdfs_at k.args.ci.now
 place-told k =
-    at_told k.args.ci.now k.read_two-2.result k.read_two.result k.below_flag-unused.result k.read_two-2.ensures.0
-    k.read_two.ensures.0
+    at_told k.args.ci.now k.read-2.result k.read.result k.below_flag-unused.result k.read-2.ensures.0
+    k.read.ensures.0
     k.below_flag-unused.ensures
 
 small : (k : After-known_told-state)

@@ -35,16 +35,16 @@ pub returns-in-Single : goal.returns-in-Single
 returns-in-Single c =
     let a = c.args in
     c.group_end.ensures
-    ∙ right-one a.ci.now a.end a.q (lies c.before.before.before.before.before.before).0 (lies c.before.before.before.before.before.before).1 (sym c.take_apart.ensures ∙ c.in-Single.is) c.read_two-first.result c.read_two-first.ensures.0
+    ∙ right-one a.ci.now a.end a.q (lies c.before.before.before.before.before.before).0 (lies c.before.before.before.before.before.before).1 (sym c.take_apart.ensures ∙ c.in-Single.is) c.read-first.result c.read-first.ensures.0
 
 pub returns-else-e-q-lt6 : goal.returns-else-e-q-lt6
 returns-else-e-q-lt6 c =
     let a = c.args in
     c.group_end-in-Count.ensures
-    ∙ right-run a.ci.now a.end a.q (lies c.before.before.before.before.before.before.before.before).0 (lies c.before.before.before.before.before.before.before.before).1 (sym c.take_apart.ensures ∙ c.in-Count.is) c.if-e-q-lt6.false c.read_two.result
-    c.read_two-first.result
-    c.read_two.ensures.0
-    c.read_two-first.ensures.0
+    ∙ right-run a.ci.now a.end a.q (lies c.before.before.before.before.before.before.before.before).0 (lies c.before.before.before.before.before.before.before.before).1 (sym c.take_apart.ensures ∙ c.in-Count.is) c.if-e-q-lt6.false c.read.result
+    c.read-first.result
+    c.read.ensures.0
+    c.read-first.ensures.0
 
 pub returns-in-Paired : goal.returns-in-Paired
 returns-in-Paired c =

@@ -9,6 +9,6 @@ returns-then-n-lt4 c = c.nothing.ensures ∙ last-short c.args.ci.now c.if-n-lt4
 pub returns : goal.returns
 returns c =
     c.group_right.ensures
-    ∙ last-is c.args.ci.now c.if-n-lt4.false c.read_two-bytes.result c.read_two.result c.below_flag-unused.result c.read_two-bytes.ensures.0
-    c.read_two.ensures.0
+    ∙ last-is c.args.ci.now c.if-n-lt4.false c.read-bytes.result c.read.result c.below_flag-unused.result c.read-bytes.ensures.0
+    c.read.ensures.0
     c.below_flag-unused.ensures

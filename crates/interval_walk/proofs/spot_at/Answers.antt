@@ -16,8 +16,8 @@ use Rattle.interval_find.proofs.Runs.{rdfs-told, no-damage, passed_none, passed-
 use Rattle.interval_walk.proofs.Seeking.{pick-then, pick-else, edge-inside, run-stands}
 use Rattle.interval_walk.proofs.spot_at.Goals as goal
 
-abbrev After-read_two2-state : Type 0
-After-read_two2-state = Lts.After-read_two2 Tie.the-claims Reads.Pre Reads.Post goal.the-invariant-loop-left goal.the-decreases-loop-left Tie.handed_clauses
+abbrev After-read2-state : Type 0
+After-read2-state = Lts.After-read2 Tie.the-claims Reads.Pre Reads.Post goal.the-invariant-loop-left goal.the-decreases-loop-left Tie.handed_clauses
 
 abbrev After-known_told-state : Type 0
 After-known_told-state = Lts.Past-After-known_told Tie.the-claims Reads.Pre Reads.Post goal.the-invariant-loop-left goal.the-decreases-loop-left Tie.handed_clauses
@@ -32,18 +32,18 @@ abbrev Joined3-state : Type 0
 Joined3-state = Lts.Joined3 Tie.the-claims Reads.Pre Reads.Post goal.the-invariant-loop-left goal.the-decreases-loop-left Tie.handed_clauses
 
 -- where the RDFs begin
-abbrev place_of : After-read_two2-state → ℕ
-place_of k = k.read_two-2.result + k.below_flag-unused.result
+abbrev place_of : After-read2-state → ℕ
+place_of k = k.read-2.result + k.below_flag-unused.result
 
-place-told : (k : After-read_two2-state)
+place-told : (k : After-read2-state)
     → (place_of k ≡ rdfs_at k.args.ci.now) × ((length k.args.ci.now - 4 - place_of k) / 3 ≡ rdfs_many k.args.ci.now)
 place-told k =
-    rdfs-told k.args.ci.now k.read_two-2.result k.read_two.result k.below_flag-unused.result k.read_two-2.ensures.0
-    k.read_two.ensures.0
+    rdfs-told k.args.ci.now k.read-2.result k.read.result k.below_flag-unused.result k.read-2.ensures.0
+    k.read.ensures.0
     k.below_flag-unused.ensures
 
 -- they end four bytes before the interval does
-ends-told : (k : After-read_two2-state) → place_of k + 4 ≤ length k.args.ci.now
+ends-told : (k : After-read2-state) → place_of k + 4 ≤ length k.args.ci.now
 ends-told k = omega (arith, (place-told k).0, readable-rdfs k.args.m k.args.ci.now k.requires.0)
 
 -- the run that was read
@@ -87,14 +87,14 @@ module _ (k : After-known_told-state) where
 pub overflow_sub-n : goal.overflow_sub-n
 overflow_sub-n c = omega (arith, c.requires.0.sized)
 
-pub read_two-requires : goal.read_two-requires
-read_two-requires c = omega (arith, c.requires.0.sized)
+pub read-requires : goal.read-requires
+read-requires c = omega (arith, c.requires.0.sized)
 
 pub overflow_sub-n-2 : goal.overflow_sub-n-2
 overflow_sub-n-2 c = omega (arith, c.requires.0.sized)
 
-pub read_two-requires-2 : goal.read_two-requires-2
-read_two-requires-2 c = omega (arith, c.requires.0.sized)
+pub read-requires-2 : goal.read-requires-2
+read-requires-2 c = omega (arith, c.requires.0.sized)
 
 pub overflow_add-p : goal.overflow_add-p
 overflow_add-p c = omega (arith, ends-told c.before, c.requires.0.small)

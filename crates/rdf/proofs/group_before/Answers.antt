@@ -15,14 +15,14 @@ returns-then-len-least c =
     let a = c.args in
     let x : ℕ = get_or a.b.now (a.q - 3) 0 in
     let cons = rdfs-before a.b.now a.q a.n (omega arith) (omega arith) in
-    record { is = rw (cons, ← c.read_two-len.ensures.0, lt-leb _ _ c.if-len-least.true); small = tt }
+    record { is = rw (cons, ← c.read-len.ensures.0, lt-leb _ _ c.if-len-least.true); small = tt }
 
 pub returns-then-most-len : goal.returns-then-most-len
 returns-then-most-len c =
     let a = c.args in
     let x : ℕ = get_or a.b.now (a.q - 3) 0 in
     let cons = rdfs-before a.b.now a.q a.n (omega arith) (omega arith) in
-    record { is = rw (cons, ← c.read_two-len.ensures.0, le-leb _ _ c.if-len-least.false, lt-leb _ _ c.if-most-len.true); small = tt }
+    record { is = rw (cons, ← c.read-len.ensures.0, le-leb _ _ c.if-len-least.false, lt-leb _ _ c.if-most-len.true); small = tt }
 
 pub returns-in-Single : goal.returns-in-Single
 returns-in-Single c =
@@ -31,7 +31,7 @@ returns-in-Single c =
     let cons = rdfs-before a.b.now a.q a.n (omega arith) (omega arith) in record {
       is = rw (
         cons,
-        ← c.read_two-len.ensures.0,
+        ← c.read-len.ensures.0,
         le-leb _ _ c.if-len-least.false,
         le-leb _ _
             c.if-most-len.false,
@@ -48,7 +48,7 @@ returns-in-Paired c =
     let e : a.n - 1 + 1 ≡ a.n = omega arith in record {
       is = rw (
         cons,
-        ← c.read_two-len.ensures.0,
+        ← c.read-len.ensures.0,
         le-leb _ _ c.if-len-least.false,
         le-leb _ _ c.if-most-len.false,
         told x c.take_apart.ensures c.in-Paired.is,
@@ -63,7 +63,7 @@ returns-in-Count c =
     let cons = rdfs-before a.b.now a.q a.n (omega arith) (omega arith) in record {
       is = rw (
         cons,
-        ← c.read_two-len.ensures.0,
+        ← c.read-len.ensures.0,
         le-leb _ _ c.if-len-least.false,
         le-leb _ _
             c.if-most-len.false,
@@ -80,7 +80,7 @@ returns-in-Bad c =
     let f = told x c.take_apart.ensures c.in-Bad.is in record {
       is = rw (
         cons,
-        ← c.read_two-len.ensures.0,
+        ← c.read-len.ensures.0,
         le-leb _ _ c.if-len-least.false,
         le-leb _ _
             c.if-most-len.false,

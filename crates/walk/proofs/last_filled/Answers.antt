@@ -73,8 +73,8 @@ overflow_mul-z c = omega (arith, ends c.before, c.before.before.before.before.be
 pub overflow_sub-z : goal.overflow_sub-z
 overflow_sub-z c = omega (arith, ends c.before, c.requires.0)
 
-pub read_two-requires : goal.read_two-requires
-read_two-requires c = omega (arith, ends c.before, c.requires.0)
+pub read-requires : goal.read-requires
+read-requires c = omega (arith, ends c.before, c.requires.0)
 
 pub overflow_add-found : goal.overflow_add-found
 overflow_add-found c = omega (arith, c.if-n-number.false, c.before.before.before.before.before.before.before.before.before.before.before)
@@ -83,14 +83,14 @@ pub loop-i-preserved : goal.loop-i-preserved
 loop-i-preserved c =
     let a = c.args in
     let turn = filled-here a.area.now a.size a.n c.loop-i.i a.entries c.loop-i.e c.loop-i.found (more c.before.before.before.before.before) c.in-Entry.number c.in-Entry.next c.in-Entry.last (met_of c.before.before.before.before.before ∙ c.in-Entry.is) c.if-n-number.false
-    c.read_two.result c.read_two.ensures.0 c.if-read_two-ne0.found in
+    c.read.result c.read.ensures.0 c.if-read-ne0.found in
     let stay = filled-empty a.area.now a.size a.n c.loop-i.i a.entries c.loop-i.e c.loop-i.found (more c.before.before.before.before.before) c.in-Entry.number c.in-Entry.next c.in-Entry.last (met_of c.before.before.before.before.before ∙ c.in-Entry.is) c.if-n-number.false
-    c.read_two.result c.read_two.ensures.0 c.if-read_two-ne0.found in
+    c.read.result c.read.ensures.0 c.if-read-ne0.found in
     let few = filled-few a.area.now a.size a.n c.loop-i.i a.entries c.loop-i.e c.loop-i.found (more c.before.before.before.before.before) c.in-Entry.number c.in-Entry.next c.in-Entry.last (met_of c.before.before.before.before.before ∙ c.in-Entry.is) c.if-n-number.false
-    c.read_two.result c.read_two.ensures.0 c.if-read_two-ne0.found in (
+    c.read.result c.read.ensures.0 c.if-read-ne0.found in (
       c.loop-i.invariant.0,
-      c.loop-i.invariant.1 ∙ ⊎_elim (λ x. turn x.if-read_two-ne0.true x.found-is) (λ x. stay x.if-read_two-ne0.false x.found-is) c.if-read_two-ne0.branch-raw,
-      ⊎_elim (λ x. few x.found-is) (λ x. omega (arith, ap (λ g. g.place) x.found-is, c.loop-i.invariant.2)) c.if-read_two-ne0.branch-raw,
+      c.loop-i.invariant.1 ∙ ⊎_elim (λ x. turn x.if-read-ne0.true x.found-is) (λ x. stay x.if-read-ne0.false x.found-is) c.if-read-ne0.branch-raw,
+      ⊎_elim (λ x. few x.found-is) (λ x. omega (arith, ap (λ g. g.place) x.found-is, c.loop-i.invariant.2)) c.if-read-ne0.branch-raw,
     )
 
 pub returns : goal.returns
