@@ -17,7 +17,7 @@ overflow_sub-e c =
 pub read-requires : goal.read-requires
 read-requires c =
     let a = c.args in
-    (cidf-inside a.m a.area.now a.number c.requires.there c.requires.readable).1
+    (omega arith, (cidf-inside a.m a.area.now a.number c.requires.there c.requires.readable).1)
 
 pub overflow_add-result : goal.overflow_add-result
 overflow_add-result c =

@@ -13,8 +13,7 @@ overflow_sub-pen c = c.requires.before c.if-pen-eq0.false
 
 pub write-requires-2 : goal.write-requires-2
 write-requires-2 c =
-    let p = c.requires in
-    (omega (arith, p.field c.if-pen-eq0.false, c.write.auto.b), omega (arith, p.near c.if-pen-eq0.false))
+    (omega arith, omega (arith, c.requires.field c.if-pen-eq0.false, c.write.auto.b))
 
 pub returns : goal.returns
 returns c =

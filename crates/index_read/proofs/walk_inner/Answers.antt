@@ -104,7 +104,7 @@ pub bounds-ib-c : goal.bounds-ib-c
 bounds-ib-c c = omega (arith, begins c.before.before.before.before.before, ends c.before.before.before.before.before)
 
 pub overflow_add-by : goal.overflow_add-by
-overflow_add-by c = omega (arith, c.from.ensures.1, (walkable c.before.before.before.before.before.before.before).edge)
+overflow_add-by c = omega (arith, (walkable c.before.before.before.before.before.before.before).edge)
 
 pub shape_of-buf-then-c-by : goal.shape_of-buf-then-c-by
 shape_of-buf-then-c-by c = whole c.before.before.before.before.before.before.before.before

@@ -62,7 +62,7 @@ pub bounds-ib-r : goal.bounds-ib-r
 bounds-ib-r c = omega (arith, lies c.before.before)
 
 pub overflow_add-l : goal.overflow_add-l
-overflow_add-l c = omega (arith, field-few c.before.before, c.from-l.ensures.1)
+overflow_add-l c = omega (arith, field-few c.before.before)
 
 pub returns-then-control-l : goal.returns-then-control-l
 returns-then-control-l c =
