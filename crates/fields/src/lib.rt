@@ -33,8 +33,8 @@ pub fn read_pointer(b: &[u8], at: usize, width: usize) -> usize
     ensures { (result ≡ number width b.now at) × (result < 256 ^ width) }
 {
     let mut x = 0;
-    for i in 0..width {
-        x = x * 256 + usize::from(b[at + i]);
+    for byte in &b[at..at + width] {
+        x = x * 256 + usize::from(*byte);
     }
     x
 }
@@ -55,72 +55,29 @@ pub fn write(b: &mut [u8], at: usize, width: usize, x: usize)
 pub fn common_front(a: &[u8], b: &[u8]) -> usize
     ensures { (result ≡ common a.now b.now) × (result ≤ length a.now) × (result ≤ length b.now) }
 {
-    let n = shorter(a.len(), b.len());
-    let mut i = 0;
-    while i < n {
+    let n = a.len().min(b.len());
+    for i in 0..n {
         if a[i] != b[i] {
             return i;
         }
-        i += 1;
     }
     n
 }
 
-pub(crate) fn shorter(a: usize, b: usize) -> usize
-    ensures { (result ≤ a) × (result ≤ b) × ((result ≡ a) ⊎ (result ≡ b)) }
-{
-    if a < b { a } else { b }
-}
-
-// How the part a stands to the part b, byte by byte: the first byte in which they differ decides. For parts of a few bytes.
-pub fn compare_bytes(a: &[u8], b: &[u8]) -> Ordering
-    ensures { result ≡ order_of a.now b.now }
-{
-    let i = common_front(a, b);
-    if a.len() <= i {
-        if b.len() <= i {
-            return Ordering::Equal;
-        }
-        return Ordering::Less;
-    }
-    if b.len() <= i {
-        return Ordering::Greater;
-    }
-    if a[i] < b[i] {
-        return Ordering::Less;
-    }
-    Ordering::Greater
-}
-
-// The same by words: eight bytes at a time are one number each, the highest byte first, and the first numbers that differ decide;
-// what is left of either part is compared byte by byte.
-pub(crate) fn compare_words(a: &[u8], b: &[u8]) -> Ordering
-    ensures { result ≡ order_of a.now b.now }
-{
-    let n = shorter(a.len(), b.len());
-    let mut i = 0;
-    while 8 <= n - i {
-        let x = read_eight(a, i);
-        let y = read_eight(b, i);
-        if x < y {
-            return Ordering::Less;
-        }
-        if y < x {
-            return Ordering::Greater;
-        }
-        i += 8;
-    }
-    compare_bytes(&a[i..], &b[i..])
-}
-
-// How the part a stands to the part b: by words where it has one.
+// How the part a stands to the part b: the first byte in which they differ decides. While both have eight bytes these are one number each, the
+// highest byte first, and the first numbers that differ decide; so keys of some words are told apart in fewer steps than the library takes.
 pub fn compare(a: &[u8], b: &[u8]) -> Ordering
     ensures { result ≡ order_of a.now b.now }
 {
-    if a.len() < 8 {
-        return compare_bytes(a, b);
+    let words = a.len().min(b.len()) / 8;
+    for word in 0..words {
+        let x = read_eight(a, 8 * word);
+        let y = read_eight(b, 8 * word);
+        if x != y {
+            return x.cmp(&y);
+        }
     }
-    compare_words(a, b)
+    a[8 * words..].cmp(&b[8 * words..])
 }
 
 // Stores a run of bytes from a place on.
@@ -128,11 +85,7 @@ pub fn copy(b: &mut [u8], at: usize, new: &[u8])
     requires { at + length new.now ≤ length b.old }
     ensures { b.new ≡ splice b.old at new.now }
 {
-    let mut i = new.len();
-    while 0 < i {
-        i -= 1;
-        b[at + i] = new[i];
-    }
+    b[at..at + new.len()].copy_from_slice(new);
 }
 
 // Stores eight bytes that stand at a place of another part, from a place on: at once, where a loop would cost more than a few bytes do.
@@ -140,14 +93,7 @@ pub fn copy_eight(b: &mut [u8], at: usize, new: &[u8], place: usize)
     requires { (at + 8 ≤ length b.old) × (place + 8 ≤ length new.now) }
     ensures { b.new ≡ splice b.old at (part new.now place 8) }
 {
-    b[at] = new[place];
-    b[at + 1] = new[place + 1];
-    b[at + 2] = new[place + 2];
-    b[at + 3] = new[place + 3];
-    b[at + 4] = new[place + 4];
-    b[at + 5] = new[place + 5];
-    b[at + 6] = new[place + 6];
-    b[at + 7] = new[place + 7];
+    b[at..at + 8].copy_from_slice(&new[place..place + 8]);
 }
 
 // Stores one byte from one place to another.
@@ -155,11 +101,7 @@ pub fn fill(b: &mut [u8], from: usize, to: usize, byte: u8)
     requires { (from ≤ to) × (to ≤ length b.old) }
     ensures { b.new ≡ splice b.old from (replicate (to - from) byte) }
 {
-    let mut i = to;
-    while from < i {
-        i -= 1;
-        b[i] = byte;
-    }
+    b[from..to].fill(byte);
 }
 
 // The most bytes that are moved at once.
@@ -173,7 +115,7 @@ pub(crate) fn move_left(b: &mut [u8], to: usize, from: usize, len: usize)
     let mut block = [0u8; BLOCK];
     let mut i = 0;
     while i < len {
-        let k = shorter(len - i, BLOCK);
+        let k = (len - i).min(BLOCK);
         let s = from + i;
         let e = s + k;
         copy(&mut block, 0, &b[s..e]);
@@ -190,7 +132,7 @@ pub(crate) fn move_right(b: &mut [u8], to: usize, from: usize, len: usize)
     let mut block = [0u8; BLOCK];
     let mut i = len;
     while 0 < i {
-        let k = shorter(i, BLOCK);
+        let k = i.min(BLOCK);
         i -= k;
         let s = from + i;
         let e = s + k;

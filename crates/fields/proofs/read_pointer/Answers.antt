@@ -5,22 +5,39 @@ use mathlib.Core.Path.{◌≡◌}
 use native.Mathlib.Omega.{arith}
 use Rattle.fields.specs.Bytes.{number}
 use Rattle.fields.proofs.Numbers.{number_more, number_small, number-below, number-none}
+use Rattle.fields.proofs.Splices.{length-part-is, get-part-is}
 use Rattle.fields.proofs.read_pointer.Goals as goal
 
-pub loop-i-init : goal.loop-i-init
-loop-i-init c = number-none _ _
+pub loop-byte-init : goal.loop-byte-init
+loop-byte-init c = number-none _ _
 
 pub overflow_mul-x : goal.overflow_mul-x
-overflow_mul-x c = omega (arith, c.requires.0, c.loop-i-test.true, number_small c.loop-i.i c.args.b.now c.args.at (λ k. omega (arith, c.type_inv.b k)) (omega arith), c.loop-i.invariant)
+overflow_mul-x c =
+    let a = c.args in
+    let o = c.loop-byte in
+    let n = length-part-is a.b.now a.at a.width c.requires.1 in
+    omega (arith, c.requires.0, n, c.loop-byte-test.true, number_small o.byte-index a.b.now a.at (λ k. omega (arith, c.type_inv.b k)) (omega (arith, n)), o.invariant)
 
 pub overflow_add-x : goal.overflow_add-x
-overflow_add-x c = omega (arith, number_small c.loop-i.i c.args.b.now c.args.at (λ k. omega (arith, c.type_inv.b k)) (omega arith), c.loop-i.invariant, c.from.ensures, c.type_inv.b (c.args.at + c.loop-i.i))
+overflow_add-x c =
+    let a = c.args in
+    let o = c.loop-byte in
+    let n = length-part-is a.b.now a.at a.width c.requires.1 in
+    let i = get-part-is a.b.now a.at a.width o.byte-index (omega (arith, n)) in
+    omega (arith, number_small o.byte-index a.b.now a.at (λ k. omega (arith, c.type_inv.b k)) (omega (arith, n)), o.invariant, i, c.from.ensures, c.type_inv.b (a.at + o.byte-index))
 
-pub loop-i-preserved : goal.loop-i-preserved
-loop-i-preserved c = omega (arith, number_more c.loop-i.i c.args.b.now c.args.at, c.loop-i.invariant, c.from.ensures)
+pub loop-byte-preserved : goal.loop-byte-preserved
+loop-byte-preserved c =
+    let a = c.args in
+    let o = c.loop-byte in
+    let n = length-part-is a.b.now a.at a.width c.requires.1 in
+    let i = get-part-is a.b.now a.at a.width o.byte-index (omega (arith, n)) in
+    omega (arith, number_more o.byte-index a.b.now a.at, o.invariant, i, c.from.ensures)
 
 pub returns : goal.returns
 returns c =
-    let e : c.loop-i.i ≡ c.args.width = omega arith in
-    let v : c.loop-i.x ≡ number c.args.width c.args.b.now c.args.at = rw e at c.loop-i.invariant in
-    (v, omega (arith, v, number-below c.args.width c.args.b.now c.args.at (λ k. omega (arith, c.type_inv.b k))))
+    let a = c.args in
+    let o = c.loop-byte in
+    let e : o.byte-index ≡ a.width = omega (arith, length-part-is a.b.now a.at a.width c.requires.1) in
+    let v : o.x ≡ number a.width a.b.now a.at = rw e at o.invariant in
+    (v, omega (arith, v, number-below a.width a.b.now a.at (λ k. omega (arith, c.type_inv.b k))))

@@ -25,8 +25,8 @@ After-known_told-state = Lts.Past-After-known_told Tie.the-claims Reads.Pre Read
 abbrev Else2-state : Type 0
 Else2-state = Lts.Else2 Tie.the-claims Reads.Pre Reads.Post Tie.handed_clauses
 
-abbrev After-compare_bytes-state : Type 0
-After-compare_bytes-state = Lts.After-compare_bytes Tie.the-claims Reads.Pre Reads.Post Tie.handed_clauses
+abbrev After-compare-state : Type 0
+After-compare-state = Lts.After-compare Tie.the-claims Reads.Pre Reads.Post Tie.handed_clauses
 
 told : (c : After-known_told-state)
     → Told c.args.m c.args.ci.now c.in-Sound.count c.in-Sound.last
@@ -42,14 +42,14 @@ first-inside c =
     (some-there a.m a.ci.now (omega arith) (omega arith) c.in-Sound.count c.in-Sound.last (told c.before.before) c.if-count-eq0.false).first-in
 
 -- what the comparison says: how the bound stands to the first key
-answered : (c : After-compare_bytes-state)
+answered : (c : After-compare-state)
     → less (bound c.args.m.key c.args.low.now)
     (part c.args.ci.now c.args.m.offset c.args.m.key)
-    ≡ is_less c.compare_bytes.result
+    ≡ is_less c.compare.result
 answered c =
     let a = c.args in
-    compared a.m.key a.ci.now a.low.now a.m.offset c.compare_bytes.result (omega arith) (first-inside c.before.before)
-    (λ i. omega (arith, c.shared_slice_known-1.given i)) c.compare_bytes.ensures
+    compared a.m.key a.ci.now a.low.now a.m.offset c.compare.result (omega arith) (first-inside c.before.before)
+    (λ i. omega (arith, c.shared_slice_known-1.given i)) c.compare.ensures
 
 pub returns-in_default : goal.returns-in_default
 returns-in_default c =
@@ -74,17 +74,17 @@ returns-then-count-eq0 c =
       inside = (t.stands, t.many, t.final);
     }
 
-pub slice_bounds-compare_bytes-end : goal.slice_bounds-compare_bytes-end
-slice_bounds-compare_bytes-end c =
+pub slice_bounds-compare-end : goal.slice_bounds-compare-end
+slice_bounds-compare-end c =
     let z = first-inside c.before in
     search rules
 
-pub returns-in_default-compare_bytes : goal.returns-in_default-compare_bytes
-returns-in_default-compare_bytes c =
+pub returns-in_default-compare : goal.returns-in_default-compare
+returns-in_default-compare c =
     let a = c.args in record {
       is = way-below a.m a.ci.now (omega arith) (omega arith) c.in-Sound.count c.in-Sound.last (told c.before.before.before.before.before.before)
           c.if-count-eq0.false a.first (bound a.m.key a.low.now) c.if-first.false
-          (answered c.before.before ∙ not-less c.compare_bytes.result c.in_default-compare_bytes.not-Less);
+          (answered c.before.before ∙ not-less c.compare.result c.in_default-compare.not-Less);
       inside = tt;
     }
 
