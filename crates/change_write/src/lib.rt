@@ -118,7 +118,7 @@ pub(crate) fn records_below(area: &[u8], m: Measures, number: usize) -> usize
     ensures { length (records_in (data_in m area.now number)) + 1 ≤ result }
 {
     let e = (number + 2) * m.size;
-    fields::read_two(area, e - 4) / m.least + 1
+    fields::read::<2>(area, e - 4) / m.least + 1
 }
 
 // Stores the later parts in the intervals that they take.

@@ -3,7 +3,7 @@
 
 ghost use Rattle.std.specs.Prelude.{◌+◌, ◌*◌, ◌≤◌, ◌<◌, ◌≡◌, length};
 ghost use Rattle.room.specs.AidSteps.{room_of};
-ghost use Rattle.division.specs.Division.{distance, best_cut, division_of};
+ghost use Rattle.division.specs.Division.{best_cut, division_of};
 ghost use Rattle.division.specs.AidChoose.{weighed};
 
 use room::Room;
@@ -22,16 +22,6 @@ pub enum Division {
 pub(crate) struct Chosen {
     pub(crate) cut: usize,
     pub(crate) difference: usize,
-}
-
-// What two numbers differ in.
-pub(crate) fn apart(a: usize, b: usize) -> usize
-    ensures { result ≡ distance a b }
-{
-    if a < b {
-        return b - a;
-    }
-    a - b
 }
 
 // Rule 2, for one cut more: the better of the best so far and this one. The records left of it take `left`; those right of it have
@@ -54,18 +44,18 @@ pub(crate) fn weigh(
     if s < need {
         return best;
     }
-    let difference = apart(left.bytes, bytes);
+    let difference = left.bytes.abs_diff(bytes);
     if best.cut == 0 {
         return Chosen {
-            cut: cut,
-            difference: difference,
+            cut,
+            difference,
         };
     }
     // On a tie the earlier cut stays: it has the smaller left part.
     if difference < best.difference {
         return Chosen {
-            cut: cut,
-            difference: difference,
+            cut,
+            difference,
         };
     }
     best
@@ -89,15 +79,13 @@ pub(crate) fn best_cut(lens: &[u16], s: usize, whole: Room) -> usize
         cut: 0,
         difference: whole.bytes,
     };
-    let mut i = 0;
-    while i + 1 < lens.len() {
+    for i in 0..lens.len().saturating_sub(1) {
         let a = room::ahead_at(lens, i);
         let l = lens[i];
         left = room::add(left, l);
         bytes = bytes - l as usize;
         need = need - (l as usize + a);
-        i += 1;
-        best = weigh(best, i, left, bytes, need, s);
+        best = weigh(best, i + 1, left, bytes, need, s);
     }
     best.cut
 }
@@ -118,5 +106,5 @@ pub fn divide(lens: &[u16], s: usize) -> Division
         return Division::Three;
     }
     // Rule 2.
-    Division::Two { cut: cut }
+    Division::Two { cut }
 }

@@ -7,6 +7,7 @@ use lib.Seq.{get_or-append_seam, take_at, drop_at, take-suc, get_or-drop}
 use native.Mathlib.Omega.{arith}
 use native.Mathlib.Nat.{div-add-mod', mod-eq_of_lt, mul-suc, pow-suc, mul_assoc}
 use native.Mathlib.Numerals.{add-one}
+use Rattle.std.proofs.Math.Nat.{pow-le-pow_right}
 use Rattle.fields.specs.Bytes.{Octets, part, number, digits, splice}
 use Rattle.fields.proofs.Splices.{sets-splice, splice-nil, set-splice, length-splice}
 
@@ -105,13 +106,9 @@ pub number-byte : (b : List ℕ) (a : ℕ) → number 1 b a ≡ get_or b a 0
 unfolding number
 number-byte b a = let e : a + 0 ≡ a = omega arith in rw e (omega arith)
 
--- up to three bytes leave room for one more
-pub number_small : (i : ℕ) (b : List ℕ) (a : ℕ) → Octets b → i ≤ 3 → number i b a < 16777216
-number_small zero b a o h = omega (arith, number-below 0 b a o)
-number_small (suc zero) b a o h = omega (arith, number-below 1 b a o)
-number_small (suc (suc zero)) b a o h = omega (arith, number-below 2 b a o)
-number_small (suc (suc (suc zero))) b a o h = omega (arith, number-below 3 b a o)
-number_small (suc (suc (suc (suc i)))) b a o h = absurd (omega arith)
+-- up to seven bytes leave room for one more
+pub number_small : (i : ℕ) (b : List ℕ) (a : ℕ) → Octets b → i ≤ 7 → number i b a < 72057594037927936
+number_small i b a o h = omega (arith, number-below i b a o, pow-le-pow_right {n = 256} (omega arith) {i = i} {j = 7} h)
 
 -- how far a number has been stored, the last byte first
 pub record Stored (w x a : ℕ) (b₀ b : List ℕ) (left i : ℕ) : Type 0 where
@@ -143,13 +140,6 @@ module _ (w x a : ℕ) (b₀ b : List ℕ) (left i : ℕ) (s : Stored w x a b₀
   pub stored-all : i ≡ 0 → b ≡ splice b₀ a (digits w x)
   unfolding digits
   stored-all h = let e : a + 0 ≡ a = omega arith in s.bytes ∙ rw (h, e, s.split, h)
-
--- two bytes read, and two bytes stored
-pub two_is : (b : List ℕ) (i x y : ℕ) → x ≡ get_or b i 0 → y ≡ get_or b (i + 1) 0 → x * 256 + y ≡ number 2 b i
-two_is b i x y e f = rw (e, f) (sym (number-2 b i))
-
-pub two-stored : (b : List ℕ) (a x : ℕ) → a + 2 ≤ length b → x < 65536 → set (set b a (x / 256)) (a + 1) (x % 256) ≡ splice b a (digits 2 x)
-two-stored b a x h l = rw (digits_2 x l, add-one) (sets-splice (x / 256 ∷ x % 256 ∷ []) b a h)
 
 -- so many equal parts: one, and the others
 pub one_less : (w c : ℕ) → 0 < c → w * c ≡ w + w * (c - 1)

@@ -3,7 +3,7 @@ use Prim.Native.Nat.{ℕ, zero, suc, ◌+◌, ◌-◌, ◌≤◌, ◌<◌}
 use mathlib.Core.Path.{◌≡◌, refl, ◌∙◌, sym, ap}
 use mathlib.Core.List.{List, [], ◌∷◌, ◌++◌, append_assoc, append-nil}
 use lib.ListN.{length, take, drop, get_or, length-append, length-drop, take-append-drop, set, replicate, length-replicate}
-use lib.Seq.{sets, sets-eq, length-take-le, take_at, drop_at, drop-append-add, take-append-le, drop-append-le, drop-drop, take-take, take-nil, drop-cons, drop-length}
+use lib.Seq.{get_or-take, get_or-drop, sets, sets-eq, length-take-le, take_at, drop_at, drop-append-add, take-append-le, drop-append-le, drop-drop, take-take, take-nil, drop-cons, drop-length}
 use native.Mathlib.Omega.{arith}
 use native.Mathlib.Nat.{add-zero, sub-zero}
 use Rattle.fields.specs.Bytes.{part, splice}
@@ -72,6 +72,12 @@ length-mid xs a k h = length-take-le k (drop a xs) (simp length-drop (omega arit
 -- a part as a slice shows it
 pub part-is : (xs : List ℕ) (a n : ℕ) → take (a + n - a) (drop a xs) ≡ part xs a n
 part-is xs a n = let z : a + n - a ≡ n = omega arith in rw z
+
+pub length-part-is : (xs : List ℕ) (a n : ℕ) → a + n ≤ length xs → length (take (a + n - a) (drop a xs)) ≡ n
+length-part-is xs a n h = rw (part-is xs a n) (length-mid xs a n h)
+
+pub get-part-is : (xs : List ℕ) (a n i : ℕ) → i < n → get_or (take (a + n - a) (drop a xs)) i 0 ≡ get_or xs (a + i) 0
+get-part-is xs a n i h = rw (part-is xs a n, get_or-take n (drop a xs) i 0 h) (get_or-drop a xs i 0)
 
 -- one value from the right
 module _ (b : List ℕ) (i to v : ℕ) (k : i ≤ to) (f : to ≤ length b) where

@@ -5,7 +5,7 @@ ghost use Rattle.std.specs.Prelude.{◌+◌, ◌≤◌, ◌<◌, ◌≡◌, leng
 ghost use Rattle.fields.specs.Order.{less};
 ghost use Rattle.index_find.specs.AidLocate.{Searchable, Leads};
 
-use fields::Order;
+use std::cmp::Ordering;
 use index_step::BUFFER;
 
 // The entry that a key leads to: its place among the entries, from 0, and the number of its interval.
@@ -20,7 +20,7 @@ pub(crate) fn is_below(buf: &[u8], key: &[u8], len: usize) -> bool
     requires { (len ≤ length buf.now) × (len ≤ length key.now) }
     ensures { result ≡ less (take len buf.now) (take len key.now) }
 {
-    let Order::Less = fields::compare_bytes(&buf[..len], &key[..len]) else {
+    let Ordering::Less = fields::compare(&buf[..len], &key[..len]) else {
         return false;
     };
     true

@@ -73,7 +73,7 @@ pub(crate) fn put_piece(
     fields::copy(b, at, chars);
     b[z] = front as u8;
     b[z + 1] = l as u8;
-    fields::write_pointer(b, z + 2, width, number);
+    fields::write(b, z + 2, width, number);
 }
 
 // A section's highest was stored, with its control information at `at`, and begins two bytes right of all that is stored: its own field stays zero until the next
@@ -84,7 +84,7 @@ pub(crate) fn link(b: &mut [u8], pen: Pen, at: usize) -> Pen
     ensures bytes { b.new ≡ bytes_linked b.old pen at }
 {
     let edge = b.len() - 7 - pen.size;
-    fields::write_two(b, edge, 0);
+    fields::write(b, edge, 2, 0);
     let mut p = pen;
     p.field = edge;
     p.last = at;
@@ -92,7 +92,7 @@ pub(crate) fn link(b: &mut [u8], pen: Pen, at: usize) -> Pen
         p.first = at;
         return p;
     }
-    fields::write_two(b, pen.field, pen.last - at);
+    fields::write(b, pen.field, 2, pen.last - at);
     p
 }
 

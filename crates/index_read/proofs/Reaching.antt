@@ -14,7 +14,7 @@ use Rattle.std.specs.Prelude.{Some, None}
 use Rattle.fields.specs.Choice.{pick, both}
 use Rattle.fields.specs.Bytes.{part}
 use Rattle.fields.specs.Order.{order_of, less, common}
-use Rattle.fields.specs.declared.Order.TheVariants.{Less, Same, Greater}
+use Rattle.std.specs.declared.cmp.Ordering.TheVariants.{Less, Equal, Greater}
 use Rattle.fields.proofs.Choices.{false-true, both-split, both_true, both_false}
 use Rattle.fields.proofs.Orders.{order-prefix, less-inv, less-lt, less-eq}
 use Rattle.fields.proofs.Fronts.{common-take, common-prefix, common-differs, order-ends, order-lower, order-higher}
@@ -86,7 +86,7 @@ module _ (key : List ℕ) (front : ℕ) (chars : List ℕ) (fits : front + lengt
 
   pub reach-ends : length chars ≤ i → 0 ≡ reach_of key front chars
   unfolding reach_of
-  reach-ends h = let o : order_of chars there ≡ Same = order-ends chars there i is h (omega (arith, there-long)) in rw o
+  reach-ends h = let o : order_of chars there ≡ Equal = order-ends chars there i is h (omega (arith, there-long)) in rw o
 
   pub reach-above : i < length chars → get_or key (front + i) 0 < get_or chars i 0 → 0 ≡ reach_of key front chars
   unfolding reach_of

@@ -16,7 +16,7 @@ ghost use Rattle.index_read.specs.AidStand.{Walkable, Stand, Stood, Stopped};
 ghost use Rattle.index_read.specs.AidJudged.{JudgedAs};
 ghost use Rattle.index_step.specs.AidStep.{joined_of, copied_from};
 
-use fields::Order;
+use std::cmp::Ordering;
 use index_step::{BUFFER, PassPlace, Step};
 use measures::LIMIT;
 
@@ -89,7 +89,7 @@ pub(crate) fn piece_at(ib: &[u8], p: PassPlace, by: Limits, closes: bool) -> Opt
 {
     let w = by.width;
     let r = p.right;
-    let l = fields::wide(ib[r - (w + 1)]);
+    let l = usize::from(ib[r - (w + 1)]);
     let field = if closes { 2 } else { 0 };
     if r < by.edge + (w + 2 + l + field) {
         return None;
@@ -116,11 +116,11 @@ pub(crate) fn compares(buf: &[u8], front: usize, len: usize, ib: &[u8], at: usiz
     let m = if l < rest { l } else { rest };
     let e = front + m;
     let z = at + m;
-    let o = fields::compare_bytes(&buf[front..e], &ib[at..z]);
+    let o = fields::compare(&buf[front..e], &ib[at..z]);
     match o {
-        Order::Less => true,
-        Order::Same => l < rest,
-        Order::Greater => false,
+        Ordering::Less => true,
+        Ordering::Equal => l < rest,
+        Ordering::Greater => false,
     }
 }
 
@@ -325,7 +325,7 @@ pub(crate) fn aimed(key: &[u8], ib: &[u8], p: PassPlace, by: Limits, reach: usiz
     if c != p.end {
         return 0;
     }
-    if reach <= fields::wide(ib[c]) {
+    if reach <= usize::from(ib[c]) {
         return reach;
     }
     look(key, ib, p, by, true, reach)
@@ -385,10 +385,10 @@ pub(crate) fn walk_inner(
         if c == p.end {
             return Some(Stop { p, left });
         }
-        if c < by.edge + fields::wide(ib[c + 1]) {
+        if c < by.edge + usize::from(ib[c + 1]) {
             return None;
         }
-        if fields::wide(ib[c]) < reach {
+        if usize::from(ib[c]) < reach {
             reach = look(key, ib, p, by, false, reach);
             if reach == 0 {
                 if left == 1 {
@@ -423,7 +423,7 @@ pub(crate) fn ends(ib: &[u8], p: PassPlace, by: Limits) -> bool
     if p.len != 0 {
         return false;
     }
-    fields::read_two(ib, by.edge) == 0
+    fields::read::<2>(ib, by.edge) == 0
 }
 
 // Walks all entries from the RDF leftwards, section by section, and marks their numbers. The last must close a section, begin at the edge with that section's
@@ -510,13 +510,13 @@ pub(crate) fn framed(ib: &[u8], w: usize) -> bool
     ensures { result ≡ frame w ib.now }
 {
     let size = ib.len();
-    if fields::read_two(ib, 0) != size - 7 {
+    if fields::read::<2>(ib, 0) != size - 7 {
         return false;
     }
-    if fields::wide(ib[2]) != w + 2 {
+    if usize::from(ib[2]) != w + 2 {
         return false;
     }
-    if fields::wide(ib[3]) != (1 << w) - 1 {
+    if usize::from(ib[3]) != (1 << w) - 1 {
         return false;
     }
     if ib[16] != 1 {
@@ -525,13 +525,13 @@ pub(crate) fn framed(ib: &[u8], w: usize) -> bool
     if ib[size - 7] != 0 {
         return false;
     }
-    if fields::read_two(ib, size - 6) != size - 7 {
+    if fields::read::<2>(ib, size - 6) != size - 7 {
         return false;
     }
-    if fields::read_two(ib, size - 4) != size - 7 {
+    if fields::read::<2>(ib, size - 4) != size - 7 {
         return false;
     }
-    fields::read_two(ib, size - 2) == 0
+    fields::read::<2>(ib, size - 2) == 0
 }
 
 // The base RBA.
@@ -539,7 +539,7 @@ pub fn base_of(ib: &[u8]) -> usize
     requires { 8 ≤ length ib.now }
     ensures { (result ≡ number 4 ib.now 4) × (result < 4294967296) }
 {
-    fields::read_four(ib, 4)
+    fields::read::<4>(ib, 4)
 }
 
 // Whether n intervals from the base on stay within the addresses of four bytes.
@@ -557,8 +557,8 @@ pub(crate) fn placed(ib: &[u8], w: usize, n: usize) -> Option<Places>
     requires { (31 ≤ length ib.now) × (1 ≤ w) × (w ≤ 4) }
     ensures { result ≡ places_of w n ib.now }
 {
-    let unused = fields::read_two(ib, 18);
-    let last = fields::read_two(ib, 20);
+    let unused = fields::read::<2>(ib, 18);
+    let last = fields::read::<2>(ib, 20);
     if unused < 24 {
         return None;
     }
@@ -575,7 +575,7 @@ pub(crate) fn placed(ib: &[u8], w: usize, n: usize) -> Option<Places>
     if ib.len() - 7 < last {
         return None;
     }
-    if fields::read_two(ib, 22) == last {
+    if fields::read::<2>(ib, 22) == last {
         if 2 < n - free {
             return None;
         }

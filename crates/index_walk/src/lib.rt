@@ -31,7 +31,7 @@ pub fn start(ib: &[u8]) -> Edge
     }
     Edge {
         right: ib.len() - 7,
-        end: fields::read_two(ib, 22),
+        end: fields::read::<2>(ib, 22),
     }
 }
 
@@ -43,7 +43,7 @@ pub fn pass(ib: &[u8], w: usize, e: Edge) -> Option<Met>
     if 4 < w || ib.len() < 24 || ib.len() < r || r < w + 2 {
         return None;
     }
-    let l = fields::wide(ib[r - (w + 1)]);
+    let l = usize::from(ib[r - (w + 1)]);
     let control = r - (w + 2);
     let field = if control == e.end { 2 } else { 0 };
     if control < l + field {
@@ -64,6 +64,6 @@ pub fn pass(ib: &[u8], w: usize, e: Edge) -> Option<Met>
     Some(Met {
         number: s.number,
         next,
-        last: control == fields::read_two(ib, 20),
+        last: control == fields::read::<2>(ib, 20),
     })
 }

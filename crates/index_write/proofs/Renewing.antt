@@ -273,13 +273,6 @@ module _ (n i : ℕ) (cut : Cuts) (bytes ib : List ℕ) (d : Divisible n i (cuts
           first-is : pen.first ≡ length ib - 7 - ahead (width_for n) (packed_all new.entries)
           first-is = omega (arith, holds.first (closed_some (packed_all new.entries) closed))
 
-          -- both are displacements of two bytes
-          pub places-small : (pen.last < 65536) × (pen.first < 65536)
-          places-small = (
-            omega (arith, holds.last (closed_some (packed_all new.entries) closed), lead-most W (packed_all new.entries) (closed_some (packed_all new.entries) closed), holds.room, d.small),
-            omega (arith, first-is, d.small),
-          )
-
           pub divided-is : (b2 b3 b4 b5 : List ℕ) → Octets ib
               → b2 ≡ splice b1 (24 + w * (count - more)) (replicate (length ib - 7 - pen.size - (24 + w * (count - more))) 0)
               → b3 ≡ splice b2 18 (digits 2 (24 + w * (count - more))) → b4 ≡ splice b3 20 (digits 2 pen.last) → b5 ≡ splice b4 22 (digits 2 pen.first)

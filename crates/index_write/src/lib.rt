@@ -86,7 +86,7 @@ pub fn taken(ib: &[u8], w: usize, k: usize) -> usize
     requires { (1 ≤ w) × (w ≤ 4) × (k < free_count w ib.now) × FreeLie w ib.now }
     ensures { (result ≡ get_or (numbers_at w ib.now 24 (free_count w ib.now)) (free_count w ib.now - (k + 1)) 0) × (result < 256 ^ w) }
 {
-    let u = fields::read_two(ib, 18);
+    let u = fields::read::<2>(ib, 18);
     fields::read_pointer(ib, u - w * (k + 1), w)
 }
 
@@ -254,9 +254,9 @@ pub(crate) fn divide_by(ib: &mut [u8], n: usize, i: usize, bytes: &[u8], cuts: C
     let pen = put_all(ib, &old[..size], job, bytes, cuts);
     let e = size - 7 - pen.size;
     fields::fill(ib, u, e, 0);
-    fields::write_two(ib, 18, u);
-    fields::write_two(ib, 20, pen.last);
-    fields::write_two(ib, 22, pen.first);
+    fields::write(ib, 18, 2, u);
+    fields::write(ib, 20, 2, pen.last);
+    fields::write(ib, 22, 2, pen.first);
 }
 
 // Out of line, so that a caller's frame has no room for the copies that other sizes ask for.

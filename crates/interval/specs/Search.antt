@@ -3,17 +3,17 @@ use Rattle.std.specs.Prelude.{ℕ, ◌+◌, ◌≤◌, ◌<◌, Bool, true, fals
 use Rattle.fields.specs.Choice.{pick, either}
 use Rattle.fields.specs.Order.{order_of, less}
 use Rattle.fields.specs.Lists.{concat, every}
-use Rattle.fields.specs.declared.Order.{Order}
-use Rattle.fields.specs.declared.Order.TheVariants.{Less, Same, Greater}
+use Rattle.std.specs.declared.cmp.Ordering.{Ordering}
+use Rattle.std.specs.declared.cmp.Ordering.TheVariants.{Less, Equal, Greater}
 use Rattle.measures.specs.declared.Measures.{Measures}
 use Rattle.interval.specs.Records.{key_of}
 use Rattle.interval.specs.declared.Found.{Found}
 use Rattle.interval.specs.declared.Found.TheVariants.{At, Gap}
 
 -- two keys are the same
-abbrev pub is_same : Order → Bool
+abbrev pub is_same : Ordering → Bool
 is_same Less = false
-is_same Same = true
+is_same Equal = true
 is_same Greater = false
 
 -- how many records have a key below the given one

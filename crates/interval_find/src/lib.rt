@@ -9,7 +9,7 @@ ghost use Rattle.interval.specs.Search.{place_of, Within, starting_at, started_o
 ghost use Rattle.interval.specs.declared.Found.TheVariants.{At};
 ghost use Rattle.interval_find.specs.AidRuns.{RunIn, Holding};
 
-use fields::Order;
+use std::cmp::Ordering;
 use interval::Found;
 use measures::Measures;
 use rdf::Front;
@@ -36,7 +36,7 @@ pub(crate) fn found(run: Run, i: usize) -> Found
 }
 
 // How the key of the record that begins at a place stands to a key.
-pub(crate) fn order_at(ci: &[u8], m: Measures, at: usize, key: &[u8]) -> Order
+pub(crate) fn order_at(ci: &[u8], m: Measures, at: usize, key: &[u8]) -> Ordering
     requires { (at + m.offset + m.key ≤ length ci.now) × (length key.now ≡ m.key) }
     ensures { result ≡ order_of (part ci.now (at + m.offset) m.key) key.now }
 {
@@ -56,9 +56,9 @@ pub(crate) fn find_in(ci: &[u8], m: Measures, key: &[u8], run: Run) -> Found
     while low < high {
         let middle = low + (high - low) / 2;
         match order_at(ci, m, run.start + middle * run.len, key) {
-            Order::Less => low = middle + 1,
-            Order::Same => return found(run, middle),
-            Order::Greater => high = middle,
+            Ordering::Less => low = middle + 1,
+            Ordering::Equal => return found(run, middle),
+            Ordering::Greater => high = middle,
         }
     }
     Found::Gap {
@@ -89,9 +89,9 @@ pub fn find(ci: &[u8], m: Measures, key: &[u8]) -> Found
             last: count - 1,
         };
         match order_at(ci, m, start + run.last * len, key) {
-            Order::Less => {}
-            Order::Same => return found(run, run.last),
-            Order::Greater => return find_in(ci, m, key, run),
+            Ordering::Less => {}
+            Ordering::Equal => return found(run, run.last),
+            Ordering::Greater => return find_in(ci, m, key, run),
         }
         ordinal += count;
         start += count * len;

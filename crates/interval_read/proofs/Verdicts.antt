@@ -11,7 +11,7 @@ use borrow.Author.Tests.{eqb-true, eqb-false}
 use Rattle.fields.specs.Choice.{pick, no}
 use Rattle.fields.specs.Bytes.{part, Octets}
 use Rattle.fields.specs.Order.{order_of, is_less, less}
-use Rattle.fields.specs.declared.Order.{Order}
+use Rattle.std.specs.declared.cmp.Ordering.{Ordering}
 use Rattle.fields.specs.Lists.{sum, every}
 use Rattle.fields.proofs.Lists.{sum-cons}
 use Rattle.fields.proofs.Octets.{octets-part}
@@ -195,7 +195,7 @@ unfolding opened_of
 opens_not m low ci e = rw e
 
 -- A separator was compared with as many bytes of the key from place a on as it has: that is how its bound stands to the whole key.
-pub compared : (K : ℕ) (ci sep : List ℕ) (a : ℕ) (o : Order) → length sep ≤ K → a + K ≤ length ci → Octets ci
+pub compared : (K : ℕ) (ci sep : List ℕ) (a : ℕ) (o : Ordering) → length sep ≤ K → a + K ≤ length ci → Octets ci
     → o ≡ order_of sep (take (a + length sep - a) (drop a ci)) → less (bound K sep) (part ci a K) ≡ is_less o
 compared K ci sep a o h i b e =
     let t : take (a + length sep - a) (drop a ci) ≡ take (length sep) (part ci a K) = part-is ci a (length sep) ∙ sym (take-take (length sep) K (drop a ci) h) in

@@ -13,7 +13,7 @@ ghost use Rattle.interval_read.specs.Verdict.{verdict_of};
 ghost use Rattle.interval_read.specs.AidWalk.{tail_of, Small, keys_in, walked, RunLies, KeysLie, lead_of, LeadsKnown};
 ghost use Rattle.interval_read.specs.AidOpened.{opened_of, Inside, Closable};
 
-use fields::Order;
+use std::cmp::Ordering;
 use measures::Measures;
 use rdf::Front;
 
@@ -41,8 +41,8 @@ pub(crate) fn read_tail(ci: &[u8]) -> Option<Tail>
     ensures small { Small (length ci.now) result }
 {
     let size = ci.len();
-    let bytes = fields::read_two(ci, size - 4);
-    let field = fields::read_two(ci, size - 2);
+    let bytes = fields::read::<2>(ci, size - 4);
+    let field = fields::read::<2>(ci, size - 2);
     if rdf::is_busy(field) {
         return None;
     }
@@ -64,7 +64,7 @@ pub(crate) fn key_below(ci: &[u8], key: usize, before: usize, here: usize) -> bo
 {
     let e = before + key;
     let f = here + key;
-    let Order::Less = fields::compare(&ci[before..e], &ci[here..f]) else {
+    let Ordering::Less = fields::compare(&ci[before..e], &ci[here..f]) else {
         return false;
     };
     true
@@ -236,7 +236,7 @@ pub fn opens(ci: &[u8], m: Measures, first: bool, low: &[u8]) -> Option<Opened>
     }
     let from = m.offset;
     let to = from + low.len();
-    let Order::Less = fields::compare_bytes(low, &ci[from..to]) else {
+    let Ordering::Less = fields::compare(low, &ci[from..to]) else {
         return None;
     };
     Some(opened)
@@ -252,9 +252,9 @@ pub fn closes(ci: &[u8], m: Measures, count: usize, last: usize, high: &[u8]) ->
     }
     let from = last + m.offset;
     let to = from + high.len();
-    match fields::compare_bytes(high, &ci[from..to]) {
-        Order::Less => false,
-        Order::Same => true,
-        Order::Greater => true,
+    match fields::compare(high, &ci[from..to]) {
+        Ordering::Less => false,
+        Ordering::Equal => true,
+        Ordering::Greater => true,
     }
 }

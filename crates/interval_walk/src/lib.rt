@@ -75,14 +75,14 @@ pub(crate) fn group_right(ci: &[u8], end: usize, q: usize) -> Spot
     if e < q || e - q < 3 {
         return nothing();
     }
-    let first = fields::read_two(ci, q + 1);
+    let first = fields::read::<2>(ci, q + 1);
     match rdf::take_apart(ci[q]) {
         Some(Control::Single) => group_end(end, first, 1, q + 3),
         Some(Control::Count) => {
             if e - q < 6 {
                 return nothing();
             }
-            group_end(end, fields::read_two(ci, q + 4), first, q + 6)
+            group_end(end, fields::read::<2>(ci, q + 4), first, q + 6)
         }
         Some(Control::Paired) => nothing(),
         None => nothing(),
@@ -107,7 +107,7 @@ pub fn last(ci: &[u8]) -> Spot
     if n < 4 {
         return nothing();
     }
-    let bytes = fields::read_two(ci, n - 4);
+    let bytes = fields::read::<2>(ci, n - 4);
     group_right(ci, bytes, rdf::rdfs_begin(ci))
 }
 

@@ -16,7 +16,7 @@ pub(crate) fn put_rdf(ci: &mut [u8], at: usize, kind: Control, num: usize)
     requires { (at + 3 ≤ length ci.old) × (num < 65536) }
     ensures { ci.new ≡ splice ci.old at (rdf_bytes (byte_of kind) num) }
 {
-    fields::write_two(ci, at + 1, num);
+    fields::write(ci, at + 1, 2, num);
     ci[at] = rdf::put_together(kind);
 }
 
@@ -57,8 +57,8 @@ pub(crate) fn put_cidf(ci: &mut [u8], at: usize, displacement: usize, unused: us
     requires { (at + 4 ≤ length ci.old) × (displacement < 65536) × (unused < 32768) }
     ensures { ci.new ≡ splice ci.old at (cidf displacement unused) }
 {
-    fields::write_two(ci, at, displacement);
-    fields::write_two(ci, at + 2, rdf::with_flag(0, unused));
+    fields::write(ci, at, 2, displacement);
+    fields::write(ci, at + 2, 2, rdf::with_flag(0, unused));
 }
 
 // Writes what follows the records of an interval, whose bytes lie at its front: zeros in the unused space, the RDFs of their lengths grouped

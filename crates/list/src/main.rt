@@ -7,7 +7,7 @@ mod print;
 ghost use Rattle.list.specs.Listed.{Lists};
 
 use depot_io::End;
-use fields::Order;
+use std::cmp::Ordering;
 use measures::Numbers;
 use std::env::FillError;
 use std::io::Result;
@@ -81,9 +81,9 @@ fn wanted(rt: &impl Env) -> Kind {
         return Kind::Unknown;
     };
     match fields::compare(&word[..n], b"--text") {
-        Order::Same => Kind::Text,
-        Order::Less => Kind::Unknown,
-        Order::Greater => Kind::Unknown,
+        Ordering::Equal => Kind::Text,
+        Ordering::Less => Kind::Unknown,
+        Ordering::Greater => Kind::Unknown,
     }
 }
 

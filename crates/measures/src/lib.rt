@@ -54,14 +54,7 @@ const SIZES: [usize; 28] = [
 pub fn permitted(size: usize) -> bool
     ensures { result ≡ permitted_size size }
 {
-    let mut i: usize = 0;
-    while i < 28 {
-        if SIZES[i] == size {
-            return true;
-        }
-        i += 1;
-    }
-    false
+    SIZES.contains(&size)
 }
 
 // Refusal 1 is none, of the measures as one value: whether they and the buffer's length are what document 01 allows, and the

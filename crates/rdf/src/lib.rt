@@ -75,7 +75,7 @@ pub fn rdfs_begin(ci: &[u8]) -> usize
     ensures small { result < 98304 }
 {
     let n = ci.len();
-    fields::read_two(ci, n - 4) + below_flag(fields::read_two(ci, n - 2))
+    fields::read::<2>(ci, n - 4) + below_flag(fields::read::<2>(ci, n - 2))
 }
 
 // The RDFs lie right before the CIDF.
@@ -106,7 +106,7 @@ pub fn group_before(b: &[u8], q: usize, n: usize, least: usize, most: usize) -> 
     ensures small { Small n result }
 {
     let at = q - 3;
-    let len = fields::read_two(b, at + 1);
+    let len = fields::read::<2>(b, at + 1);
     if len < least || most < len {
         return None;
     }
@@ -134,7 +134,7 @@ pub(crate) fn pair_before(b: &[u8], q: usize, n: usize, len: usize) -> Option<Fr
     let Control::Count = take_apart(b[at])? else {
         return None;
     };
-    let count = fields::read_two(b, at + 1);
+    let count = fields::read::<2>(b, at + 1);
     if count < 2 {
         return None;
     }

@@ -4,7 +4,7 @@ ghost use Rattle.std.specs.Prelude.{◌<◌, ◌≤◌, length};
 use crate::script::Ask;
 use crate::{print, walks};
 use change::Written;
-use fields::Order;
+use std::cmp::Ordering;
 use measures::Numbers;
 use requests::{Answer, Done, Refusal};
 
@@ -58,7 +58,7 @@ fn listed(bytes: &[u8]) {
 
 // A unit of the area, the index or a data interval by its number, where it is another than before.
 fn compared(unit: &[u8], old: &[u8], place: usize) {
-    if let Order::Same = fields::compare(unit, old) {
+    if let Ordering::Equal = fields::compare(unit, old) {
         return;
     }
     print::words(b"    ");

@@ -65,8 +65,8 @@ fn parse(letter: u8, head: &[u8; 48]) -> Ask {
     Ask {
         letter,
         numbers,
-        lent: fields::read_four(head, 32),
-        out: fields::read_four(head, 36),
+        lent: fields::read::<4>(head, 32),
+        out: fields::read::<4>(head, 36),
         address: fields::read_eight(head, 40) as u64,
     }
 }

@@ -26,7 +26,7 @@ fn mixed(rest: usize, bytes: &[u8]) -> usize
     let mut r = rest;
     let mut i = 0;
     while i < bytes.len() {
-        r = (r * 256 + fields::wide(bytes[i])) % 65521;
+        r = (r * 256 + usize::from(bytes[i])) % 65521;
         i += 1;
     }
     r

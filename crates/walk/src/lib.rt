@@ -143,7 +143,7 @@ pub(crate) fn last_filled(area: &[u8], size: usize, n: usize, entries: usize) ->
             return found;
         }
         let z = (number + 2) * size;
-        if fields::read_two(area, z - 4) != 0 {
+        if fields::read::<2>(area, z - 4) != 0 {
             found = Filled {
                 entry: i,
                 place: number + 1,

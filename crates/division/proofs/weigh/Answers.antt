@@ -32,18 +32,18 @@ returns-then-best-eq0 c =
     let a = c.args in
     let n₁ : ℕ = a.left.bytes + 3 * a.left.rdfs + 4 in
     first-cut a.best a.cut a.left.bytes n₁ a.bytes a.need a.s (left-fits c.before.before.before.before) c.if-s-need.false
-    c.apart-difference.result c.apart-difference.ensures c.if-best-eq0.true
+    c.abs_diff-difference.result c.abs_diff-difference.ensures c.if-best-eq0.true
 
 pub returns-then-difference-best : goal.returns-then-difference-best
 returns-then-difference-best c =
     let a = c.args in
     let n₁ : ℕ = a.left.bytes + 3 * a.left.rdfs + 4 in
     nearer-cut a.best a.cut a.left.bytes n₁ a.bytes a.need a.s (left-fits c.before.before.before.before.before.before) c.if-s-need.false
-    c.apart-difference.result c.apart-difference.ensures c.if-best-eq0.false c.if-difference-best.true
+    c.abs_diff-difference.result c.abs_diff-difference.ensures c.if-best-eq0.false c.if-difference-best.true
 
 pub returns : goal.returns
 returns c =
     let a = c.args in
     let n₁ : ℕ = a.left.bytes + 3 * a.left.rdfs + 4 in
     no-nearer a.best a.cut a.left.bytes n₁ a.bytes a.need a.s (left-fits c.before.before.before.before.before.before) c.if-s-need.false
-    c.apart-difference.result c.apart-difference.ensures c.if-best-eq0.false c.if-difference-best.false
+    c.abs_diff-difference.result c.abs_diff-difference.ensures c.if-best-eq0.false c.if-difference-best.false

@@ -11,7 +11,7 @@ use Rattle.index_read.specs.AidParsing.{closes_at}
 use Rattle.index_read.specs.AidStand.{Walkable, Stand}
 use Rattle.index_read.proofs.Walking.{NextReach, by-look, by_front, set_out, roomy, ready, first-empty, sighted, within, length-is, ends-left, ends-top, ends_last, ends_found, ends-bad, ends-big, ends-again, passes_on, goes_on, ends_open}
 use Rattle.index_read.proofs.walk_inner.Goals as goal
-use Rattle.index_read.proofs.walk_inner.Goals.{In-loop-left, After-wide, Joined-wide-reach, then-wide-reach+else-reach-eq0, else-wide-reach}
+use Rattle.index_read.proofs.walk_inner.Goals.{In-loop-left, After-from, Joined-wide-reach, then-wide-reach+else-reach-eq0, else-wide-reach}
 
 -- at each turn
 stand : (l : In-loop-left)
@@ -33,23 +33,23 @@ ends l =
     within a.ib.now a.by a.key.now l.requires.stands.old o.seen o.buf l.requires.stands.high o.p (eqb o.left a.from.left) o.left o.reach (stand l)
 
 -- the length of the entry, and the reach past it
-long : (c : After-wide) → c.wide.result ≡ length_at c.args.by.width c.args.ib.now c.loop-left.p.right
+long : (c : After-from) → c.from.result ≡ length_at c.args.by.width c.args.ib.now c.loop-left.p.right
 long c =
     let o = c.loop-left in
     let a = c.args in
     let x = c.requires.stands in
     length-is a.ib.now a.by a.key.now x.old o.seen o.buf x.high o.p (eqb o.left a.from.left) o.left o.reach (o.invariant.goes x.old x.high x.stand) c.requires.walkable.0
-    c.wide.result c.wide.ensures.0
+    c.from.result c.from.ensures
 
-reaches : (c : Joined-wide-reach) → NextReach c.args.ib.now c.loop-left.p c.args.by c.args.key.now c.loop-left.reach c.if-wide-reach.reach
+reaches : (c : Joined-wide-reach) → NextReach c.args.ib.now c.loop-left.p c.args.by c.args.key.now c.loop-left.reach c.if-from-reach.reach
 reaches c =
     let o = c.loop-left in
     let a = c.args in
-    elim c.if-wide-reach.branch [
+    elim c.if-from-reach.branch [
       then-wide-reach+else-reach-eq0 h ↦
-          by-look a.ib.now o.p a.by a.key.now o.reach c.if-wide-reach.reach c.wide-in-loop-left.result c.wide-in-loop-left.ensures.0 h.look-reach.result h.if-wide-reach.true h.look-reach.ensures h.if-reach-eq0.false h.reach-is
+          by-look a.ib.now o.p a.by a.key.now o.reach c.if-from-reach.reach c.from-in-loop-left.result c.from-in-loop-left.ensures h.look-reach.result h.if-from-reach.true h.look-reach.ensures h.if-reach-eq0.false h.reach-is
     | else-wide-reach h ↦
-          by_front a.ib.now o.p a.by a.key.now o.reach c.if-wide-reach.reach c.wide-in-loop-left.result c.wide-in-loop-left.ensures.0 h.if-wide-reach.false h.reach-is
+          by_front a.ib.now o.p a.by a.key.now o.reach c.if-from-reach.reach c.from-in-loop-left.result c.from-in-loop-left.ensures h.if-from-reach.false h.reach-is
     ]
 
 pub overflow_sub-c : goal.overflow_sub-c
@@ -70,7 +70,7 @@ returns-then-c-by c =
     let o = c.loop-left in
     let a = c.args in
     ends-left a.ib.now a.by a.key.now a.seen.now a.buf.now a.from o.seen o.buf o.p o.left o.reach o.invariant c.loop-left-test.true c.requires.walkable.0 o.seen o.buf
-    c.wide.result (long (goal.at.returns-then-c-by c).After-wide) c.if-c-by.true
+    c.from.result (long (goal.at.returns-then-c-by c).After-from) c.if-c-by.true
 
 pub bounds-ib-c-in-loop-left : goal.bounds-ib-c-in-loop-left
 bounds-ib-c-in-loop-left c = omega (arith, begins (goal.at.bounds-ib-c-in-loop-left c).In-loop-left, ends (goal.at.bounds-ib-c-in-loop-left c).In-loop-left)
@@ -80,7 +80,7 @@ look-reach-requires c =
     let o = c.loop-left in
     let a = c.args in record {
       le_width = sighted a.ib.now a.by a.key.now c.requires.stands.old o.seen o.buf c.requires.stands.high o.p (eqb o.left a.from.left) o.left o.reach (stand (goal.at.look-reach-requires c).In-loop-left) c.requires.walkable.0
-          (omega (arith, c.if-wide-reach.true));
+          (omega (arith, c.if-from-reach.true));
       which = ne_eqb _ _ c.if-c-p.false;
     }
 
@@ -96,7 +96,7 @@ returns-then-reach-eq0 c =
     let o = c.loop-left in
     let a = c.args in
     ends_found a.ib.now a.by a.key.now a.seen.now a.buf.now a.from o.seen o.buf o.p o.left o.reach o.invariant c.loop-left-test.true c.requires.walkable.0
-    c.if-left-eq1.false c.wide-in-loop-left.result c.look-reach.result c.wide-in-loop-left.ensures.0 c.if-wide-reach.true c.look-reach.ensures c.if-reach-eq0.true
+    c.if-left-eq1.false c.from-in-loop-left.result c.look-reach.result c.from-in-loop-left.ensures c.if-from-reach.true c.look-reach.ensures c.if-reach-eq0.true
 
 pub read_pointer-number-requires : goal.read_pointer-number-requires
 read_pointer-number-requires c =
@@ -125,7 +125,7 @@ next_inner-requires c =
         first-empty a.ib.now a.by a.key.now c.requires.stands.old o.seen o.buf c.requires.stands.high o.p (eqb o.left a.from.left) o.left o.reach (stand (goal.at.next_inner-requires c).In-loop-left),
       );
       which = ne_eqb _ _ c.if-c-p.false;
-      lies = omega (arith, begins (goal.at.next_inner-requires c).In-loop-left, long (goal.at.next_inner-requires c).After-wide, c.if-c-by.false);
+      lies = omega (arith, begins (goal.at.next_inner-requires c).In-loop-left, long (goal.at.next_inner-requires c).After-from, c.if-c-by.false);
     }
 
 pub returns-in_err-s : goal.returns-in_err-s
@@ -152,7 +152,7 @@ loop-left-preserved c =
     let x = c.next_inner in
     goes_on a.ib.now a.by a.key.now a.seen.now a.buf.now a.from o.seen o.buf o.p o.left o.reach o.invariant c.loop-left-test.true c.requires.walkable.0
     x.result c.in_ok-s.s x.ensures.is c.in_ok-s.was x.new.buf x.ensures.renewed x.auto.buf c.past-p.result c.past-p.ensures (ne_eqb _ _ c.if-c-p.false)
-    c.if-wide-reach.reach (reaches (goal.at.loop-left-preserved c).Joined-wide-reach) c.read_pointer-number.result c.read_pointer-number.ensures.0 c.if-by-number.false c.if-seen-number-ne0.false
+    c.if-from-reach.reach (reaches (goal.at.loop-left-preserved c).Joined-wide-reach) c.read_pointer-number.result c.read_pointer-number.ensures.0 c.if-by-number.false c.if-seen-number-ne0.false
 
 pub returns : goal.returns
 returns c =

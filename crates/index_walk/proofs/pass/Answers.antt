@@ -31,11 +31,11 @@ returns-then-w-gt4 c =
 pub returns-then-control-l : goal.returns-then-control-l
 returns-then-control-l c =
     let a = c.args in
-    pass-none a.w a.ib.now a.e c.if-w-gt4.false c.if-ib-lt24.false c.if-ib-r.false c.if-r-w.false c.wide-l.result c.if-control-e.field c.wide-l.ensures.0
+    pass-none a.w a.ib.now a.e c.if-w-gt4.false c.if-ib-lt24.false c.if-ib-r.false c.if-r-w.false c.from-l.result c.if-control-e.field c.from-l.ensures
     (field_told (goal.at.returns-then-control-l c).Joined-control-e) c.if-control-l.true
 
 pub returns : goal.returns
 returns c =
     let a = c.args in
-    pass-is a.w a.ib.now a.e c.if-w-gt4.false c.if-ib-lt24.false c.if-ib-r.false c.if-r-w.false c.wide-l.result c.if-control-e.field c.wide-l.ensures.0
-    (field_told (goal.at.returns c).Joined-control-e) c.if-control-l.false c.entry_at-s.result c.entry_at-s.ensures.is c.past-q.result c.past-q.ensures c.read_two.result c.read_two.ensures.0
+    pass-is a.w a.ib.now a.e c.if-w-gt4.false c.if-ib-lt24.false c.if-ib-r.false c.if-r-w.false c.from-l.result c.if-control-e.field c.from-l.ensures
+    (field_told (goal.at.returns c).Joined-control-e) c.if-control-l.false c.entry_at-s.result c.entry_at-s.ensures.is c.past-q.result c.past-q.ensures c.read.result c.read.ensures.0

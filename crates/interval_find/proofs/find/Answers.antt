@@ -92,11 +92,11 @@ order_at-requires c =
 pub found-requires : goal.found-requires
 found-requires c = last-small (goal.at.found-requires c).In-Some
 
-pub returns-in-Same : goal.returns-in-Same
-returns-in-Same c =
+pub returns-in-Equal : goal.returns-in-Equal
+returns-in-Equal c =
     let told = find-ends c.args.m c.args.ci.now c.args.key.now c.requires.0 _
-    (c.found.ensures ∙ run-same c.args.m c.args.ci.now c.args.key.now c.requires.0 (run_of (goal.at.returns-in-Same c).In-Some) (lies (goal.at.returns-in-Same c).In-Some) (count_of (goal.at.returns-in-Same c).In-Some - 1) (omega arith) _ (sym c.order_at.ensures)
-    c.in-Same.is) in record { is = told.0; within = told.1 }
+    (c.found.ensures ∙ run-same c.args.m c.args.ci.now c.args.key.now c.requires.0 (run_of (goal.at.returns-in-Equal c).In-Some) (lies (goal.at.returns-in-Equal c).In-Some) (count_of (goal.at.returns-in-Equal c).In-Some - 1) (omega arith) _ (sym c.order_at.ensures)
+    c.in-Equal.is) in record { is = told.0; within = told.1 }
 
 pub find_in-requires : goal.find_in-requires
 find_in-requires c = (

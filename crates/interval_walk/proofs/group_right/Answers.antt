@@ -27,15 +27,15 @@ returns-in-Some-Single c =
     let a = c.args in
     let kind = sym c.take_apart.ensures ∙ c.in-Some-Single.is ∙ ap Some c.in-Some-Single.field-0-is in
     c.group_end.ensures
-    ∙ right-one a.ci.now a.end a.q c.if-e-q.false c.if-e-q-lt3.false kind c.read_two-first.result c.read_two-first.ensures.0
+    ∙ right-one a.ci.now a.end a.q c.if-e-q.false c.if-e-q-lt3.false kind c.read-first.result c.read-first.ensures.0
 
 pub returns-else-e-q-lt6 : goal.returns-else-e-q-lt6
 returns-else-e-q-lt6 c =
     let a = c.args in
     let kind = sym c.take_apart.ensures ∙ c.in-Some-Count.is ∙ ap Some c.in-Some-Count.field-0-is in
     c.group_end-in-Some-Count.ensures
-    ∙ right-run a.ci.now a.end a.q c.if-e-q.false c.if-e-q-lt3.false kind c.if-e-q-lt6.false c.read_two.result c.read_two-first.result c.read_two.ensures.0
-    c.read_two-first.ensures.0
+    ∙ right-run a.ci.now a.end a.q c.if-e-q.false c.if-e-q-lt3.false kind c.if-e-q-lt6.false c.read.result c.read-first.result c.read.ensures.0
+    c.read-first.ensures.0
 
 pub returns-in-Some-Paired : goal.returns-in-Some-Paired
 returns-in-Some-Paired c =

@@ -9,4 +9,4 @@ returns-then-n-lt4 c = c.nothing.ensures ∙ last-short c.args.ci.now c.if-n-lt4
 pub returns : goal.returns
 returns c =
     c.group_right.ensures
-    ∙ last-is c.args.ci.now c.if-n-lt4.false c.read_two-bytes.result c.rdfs_begin.result c.read_two-bytes.ensures.0 c.rdfs_begin.ensures.is
+    ∙ last-is c.args.ci.now c.if-n-lt4.false c.read-bytes.result c.rdfs_begin.result c.read-bytes.ensures.0 c.rdfs_begin.ensures.is

@@ -17,9 +17,9 @@ returns-then-len-least c =
     let a = c.args in
     let cons = rdfs-before a.b.now a.q a.n (omega arith) (omega arith) in
     elim c.then-len-least.branch [
-      | then-len-least-via-then-len-least w ↦ record { is = rw (cons, ← c.read_two-len.ensures.0, lt-leb _ _ w.if-len-least.true); small = tt }
+      | then-len-least-via-then-len-least w ↦ record { is = rw (cons, ← c.read-len.ensures.0, lt-leb _ _ w.if-len-least.true); small = tt }
       | then-len-least-via-else-len-least+then-most-len w ↦
-          record { is = rw (cons, ← c.read_two-len.ensures.0, le-leb _ _ w.if-len-least.false, lt-leb _ _ w.if-most-len.true); small = tt }
+          record { is = rw (cons, ← c.read-len.ensures.0, le-leb _ _ w.if-len-least.false, lt-leb _ _ w.if-most-len.true); small = tt }
     ]
 
 pub returns-in_err-take_apart : goal.returns-in_err-take_apart
@@ -29,7 +29,7 @@ returns-in_err-take_apart c =
     let cons = rdfs-before a.b.now a.q a.n (omega arith) (omega arith) in
     let f = told x c.take_apart.ensures (c.in_err-take_apart.was) in record {
       is = c.from_residual.ensures
-          ∙ rw (cons, ← c.read_two-len.ensures.0, le-leb _ _ c.if-len-least.false, le-leb _ _ c.if-most-len.false, ne_eqb x 0 f.0, ne_eqb x 64 f.1);
+          ∙ rw (cons, ← c.read-len.ensures.0, le-leb _ _ c.if-len-least.false, le-leb _ _ c.if-most-len.false, ne_eqb x 0 f.0, ne_eqb x 64 f.1);
       small = rw c.from_residual.ensures tt;
     }
 
@@ -39,7 +39,7 @@ returns-in-Single c =
     let x : ℕ = get_or a.b.now (a.q - 3) 0 in
     let cons = rdfs-before a.b.now a.q a.n (omega arith) (omega arith) in
     let f = told x c.take_apart.ensures (c.in_ok-take_apart.was ∙ ap Some c.in-Single.is) in record {
-      is = rw (cons, ← c.read_two-len.ensures.0, le-leb _ _ c.if-len-least.false, le-leb _ _ c.if-most-len.false, f);
+      is = rw (cons, ← c.read-len.ensures.0, le-leb _ _ c.if-len-least.false, le-leb _ _ c.if-most-len.false, f);
       small = omega arith;
     }
 
@@ -50,7 +50,7 @@ returns-in-Paired c =
     let cons = rdfs-before a.b.now a.q a.n (omega arith) (omega arith) in
     let e : a.n - 1 + 1 ≡ a.n = omega arith in
     let f = told x c.take_apart.ensures (c.in_ok-take_apart.was ∙ ap Some c.in-Paired.is) in record {
-      is = rw (cons, ← c.read_two-len.ensures.0, le-leb _ _ c.if-len-least.false, le-leb _ _ c.if-most-len.false, f) c.pair_before.ensures.is;
+      is = rw (cons, ← c.read-len.ensures.0, le-leb _ _ c.if-len-least.false, le-leb _ _ c.if-most-len.false, f) c.pair_before.ensures.is;
       small = rw e at c.pair_before.ensures.small;
     }
 
@@ -60,6 +60,6 @@ returns-in-Count c =
     let x : ℕ = get_or a.b.now (a.q - 3) 0 in
     let cons = rdfs-before a.b.now a.q a.n (omega arith) (omega arith) in
     let f = told x c.take_apart.ensures (c.in_ok-take_apart.was ∙ ap Some c.in-Count.is) in record {
-      is = rw (cons, ← c.read_two-len.ensures.0, le-leb _ _ c.if-len-least.false, le-leb _ _ c.if-most-len.false, f);
+      is = rw (cons, ← c.read-len.ensures.0, le-leb _ _ c.if-len-least.false, le-leb _ _ c.if-most-len.false, f);
       small = tt;
     }

@@ -53,7 +53,7 @@ returns-then-count-lt2 c =
       is = rw (
         rdfs-before a.b.now a.q a.n (omega arith) (omega arith),
         told x c.take_apart.ensures (c.in_ok-take_apart.was ∙ ap Some c.in-Count.is),
-        ← c.read_two-count.ensures.0,
+        ← c.read-count.ensures.0,
         lt-leb _ _ c.if-count-lt2.true,
       );
       small = tt;
@@ -66,7 +66,7 @@ returns c =
       is = rw (
         rdfs-before a.b.now a.q a.n (omega arith) (omega arith),
         told x c.take_apart.ensures (c.in_ok-take_apart.was ∙ ap Some c.in-Count.is),
-        ← c.read_two-count.ensures.0,
+        ← c.read-count.ensures.0,
         le-leb _ _ c.if-count-lt2.false,
       );
       small = omega arith;

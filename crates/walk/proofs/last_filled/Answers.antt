@@ -9,7 +9,7 @@ use Rattle.walk.specs.declared.Filled.{Filled}
 use Rattle.walk.specs.AidSteps.{index_at}
 use Rattle.walk.proofs.Ways.{filled-start, filled_none, filled-nothing, filled-far, filled-here, filled-empty, filled-few, interval-ends, intervals-few, index-long}
 use Rattle.walk.proofs.last_filled.Goals as goal
-use Rattle.walk.proofs.last_filled.Goals.{After-pass, then-read_two-ne0, else-read_two-ne0}
+use Rattle.walk.proofs.last_filled.Goals.{After-pass, then-read-ne0, else-read-ne0}
 
 -- what a pass meets there
 met_of : (q : After-pass)
@@ -36,14 +36,14 @@ pub loop-i-preserved : goal.loop-i-preserved
 loop-i-preserved c =
     let a = c.args in
     let turn = filled-here a.area.now a.size a.n c.loop-i.i a.entries c.loop-i.e c.loop-i.found c.loop-i-test.true c.in-Some.met.number c.in-Some.met.next c.in-Some.met.last (met_of (goal.at.loop-i-preserved c).After-pass ∙ c.in-Some.is) c.if-n-number.false
-    c.read_two.result c.read_two.ensures.0 c.if-read_two-ne0.found in
+    c.read.result c.read.ensures.0 c.if-read-ne0.found in
     let stay = filled-empty a.area.now a.size a.n c.loop-i.i a.entries c.loop-i.e c.loop-i.found c.loop-i-test.true c.in-Some.met.number c.in-Some.met.next c.in-Some.met.last (met_of (goal.at.loop-i-preserved c).After-pass ∙ c.in-Some.is) c.if-n-number.false
-    c.read_two.result c.read_two.ensures.0 c.if-read_two-ne0.found in
+    c.read.result c.read.ensures.0 c.if-read-ne0.found in
     let few = filled-few a.area.now a.size a.n c.loop-i.i a.entries c.loop-i.e c.loop-i.found c.loop-i-test.true c.in-Some.met.number c.in-Some.met.next c.in-Some.met.last (met_of (goal.at.loop-i-preserved c).After-pass ∙ c.in-Some.is) c.if-n-number.false
-    c.read_two.result c.read_two.ensures.0 c.if-read_two-ne0.found in (
+    c.read.result c.read.ensures.0 c.if-read-ne0.found in (
       c.loop-i.invariant.0,
-      c.loop-i.invariant.1 ∙ elim c.if-read_two-ne0.branch [ then-read_two-ne0 x ↦ turn x.if-read_two-ne0.true x.found-is | else-read_two-ne0 x ↦ stay x.if-read_two-ne0.false x.found-is ],
-      elim c.if-read_two-ne0.branch [ then-read_two-ne0 x ↦ few x.found-is | else-read_two-ne0 x ↦ omega (arith, ap (λ (g : Filled). g.place) x.found-is, c.loop-i.invariant.2) ],
+      c.loop-i.invariant.1 ∙ elim c.if-read-ne0.branch [ then-read-ne0 x ↦ turn x.if-read-ne0.true x.found-is | else-read-ne0 x ↦ stay x.if-read-ne0.false x.found-is ],
+      elim c.if-read-ne0.branch [ then-read-ne0 x ↦ few x.found-is | else-read-ne0 x ↦ omega (arith, ap (λ (g : Filled). g.place) x.found-is, c.loop-i.invariant.2) ],
     )
 
 pub returns : goal.returns
