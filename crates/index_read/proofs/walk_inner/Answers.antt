@@ -11,7 +11,7 @@ use Rattle.index_read.specs.AidParsing.{closes_at}
 use Rattle.index_read.specs.AidStand.{Walkable, Stand}
 use Rattle.index_read.proofs.Walking.{NextReach, by-look, by_front, set_out, roomy, ready, first-empty, sighted, within, length-is, ends-left, ends-top, ends_last, ends_found, ends-bad, ends-big, ends-again, passes_on, goes_on, ends_open}
 use Rattle.index_read.proofs.walk_inner.Goals as goal
-use Rattle.index_read.proofs.walk_inner.Goals.{In-loop-left, After-from, Joined-wide-reach, then-wide-reach+else-reach-eq0, else-wide-reach}
+use Rattle.index_read.proofs.walk_inner.Goals.{In-loop-left, After-from, Joined-from-reach, then-from-reach+else-reach-eq0, else-from-reach}
 
 -- at each turn
 stand : (l : In-loop-left)
@@ -41,14 +41,14 @@ long c =
     length-is a.ib.now a.by a.key.now x.old o.seen o.buf x.high o.p (eqb o.left a.from.left) o.left o.reach (o.invariant.goes x.old x.high x.stand) c.requires.walkable.0
     c.from.result c.from.ensures
 
-reaches : (c : Joined-wide-reach) → NextReach c.args.ib.now c.loop-left.p c.args.by c.args.key.now c.loop-left.reach c.if-from-reach.reach
+reaches : (c : Joined-from-reach) → NextReach c.args.ib.now c.loop-left.p c.args.by c.args.key.now c.loop-left.reach c.if-from-reach.reach
 reaches c =
     let o = c.loop-left in
     let a = c.args in
     elim c.if-from-reach.branch [
-      then-wide-reach+else-reach-eq0 h ↦
+      then-from-reach+else-reach-eq0 h ↦
           by-look a.ib.now o.p a.by a.key.now o.reach c.if-from-reach.reach c.from-in-loop-left.result c.from-in-loop-left.ensures h.look-reach.result h.if-from-reach.true h.look-reach.ensures h.if-reach-eq0.false h.reach-is
-    | else-wide-reach h ↦
+    | else-from-reach h ↦
           by_front a.ib.now o.p a.by a.key.now o.reach c.if-from-reach.reach c.from-in-loop-left.result c.from-in-loop-left.ensures h.if-from-reach.false h.reach-is
     ]
 
@@ -152,7 +152,7 @@ loop-left-preserved c =
     let x = c.next_inner in
     goes_on a.ib.now a.by a.key.now a.seen.now a.buf.now a.from o.seen o.buf o.p o.left o.reach o.invariant c.loop-left-test.true c.requires.walkable.0
     x.result c.in_ok-s.s x.ensures.is c.in_ok-s.was x.new.buf x.ensures.renewed x.auto.buf c.past-p.result c.past-p.ensures (ne_eqb _ _ c.if-c-p.false)
-    c.if-from-reach.reach (reaches (goal.at.loop-left-preserved c).Joined-wide-reach) c.read_pointer-number.result c.read_pointer-number.ensures.0 c.if-by-number.false c.if-seen-number-ne0.false
+    c.if-from-reach.reach (reaches (goal.at.loop-left-preserved c).Joined-from-reach) c.read_pointer-number.result c.read_pointer-number.ensures.0 c.if-by-number.false c.if-seen-number-ne0.false
 
 pub returns : goal.returns
 returns c =
