@@ -21,8 +21,7 @@ use Rattle.measures.proofs.Fine.{fits-large}
 use Rattle.interval.specs.Records.{all_within, lengths_fine}
 use Rattle.interval.specs.Reading.{records_in, sound, Readable}
 use Rattle.interval.specs.Search.{starting_at, started_of}
-use Rattle.interval.specs.declared.Started.{Started}
-use Rattle.interval.specs.declared.Started.TheVariants as started
+use Rattle.std.specs.Prelude.{Option, Some, None}
 use Rattle.interval.proofs.Backward.{in_size}
 use Rattle.interval.proofs.Lengths.{within_low, within-rest}
 use Rattle.interval.proofs.Starting.{starting-before, starting-begins}
@@ -224,12 +223,12 @@ LiesAs area rs None = rs ≡ []
 
 module _ (m : Measures) (n : ℕ) (area : List ℕ) (o : Fits m n (length area)) (k : ℕ) (h : k < n) (d : Readable m (data_in m area k)) where
   -- the record that begins at a place of an interval, as a part of the area
-  one-record : (place : ℕ) (rs : List (List ℕ)) → starting_at place 0 (records_in (data_in m area k)) ≡ rs → (x : Started) → started_of rs ≡ x
+  one-record : (place : ℕ) (rs : List (List ℕ)) → starting_at place 0 (records_in (data_in m area k)) ≡ rs → (x : Option ℕ) → started_of rs ≡ x
       → LiesAs area rs (lying_of ((k + 1) * m.size + place) x)
-  one-record place [] e started.Nothing y = refl
-  one-record place [] e (started.Here len) y = absurd (let z : ◌≡◌ {A = ℕ} 0 1 = cc in omega arith)
-  one-record place (r ∷ rs) e started.Nothing y = absurd (let z : ◌≡◌ {A = ℕ} 0 1 = cc in omega arith)
-  one-record place (r ∷ rs) e (started.Here len) y =
+  one-record place [] e None y = refl
+  one-record place [] e (Some len) y = absurd (let z : ◌≡◌ {A = ℕ} 0 1 = cc in omega arith)
+  one-record place (r ∷ rs) e None y = absurd (let z : ◌≡◌ {A = ℕ} 0 1 = cc in omega arith)
+  one-record place (r ∷ rs) e (Some len) y =
       let b = starting-begins m (data_in m area k) d place r rs e in
       let l : length r ≡ len = cc in
       let i : r ≡ part (data_in m area k) place len = sym (rw l at b.is) in
