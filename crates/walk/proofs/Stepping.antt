@@ -16,7 +16,7 @@ use Rattle.interval.specs.Reading.{records_in, Readable, rdfs, lengths}
 use Rattle.area.specs.Content.{Filled, Content, records_of}
 use Rattle.area.specs.Reading.{read_area, whole}
 use Rattle.interval_walk.specs.declared.Spot.{Spot}
-use Rattle.interval_walk.specs.AidSpots.{after_of, before_of, Backward, SpotOf}
+use Rattle.interval_walk.specs.AidSpots.{spot, after_of, before_of, Backward, SpotOf}
 use Rattle.interval_walk.proofs.Standing.{stands-long, stands-inside}
 use Rattle.interval_walk.proofs.Stepping.{after_run, before-run, after-stands, after_none, before_stands, before-none}
 use Rattle.walk.specs.declared.Place.{Place}

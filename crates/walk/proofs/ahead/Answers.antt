@@ -1,7 +1,7 @@
 use Rattle.walk.proofs.ahead.Lts
 use Rattle.walk.proofs.ahead.Reads
 use Rattle.walk.proofs.ahead.Tie
-use Prim.Native.Nat.{◌+◌, ◌*◌, ◌≤◌, ◌<◌}
+use Prim.Native.Nat.{◌+◌, ◌-◌, ◌*◌, ◌≤◌, ◌<◌}
 use mathlib.Core.Path.{◌≡◌, refl, ◌∙◌, sym, ap}
 use mathlib.Core.Logic.{⊎_elim}
 use lib.ListN.{length}

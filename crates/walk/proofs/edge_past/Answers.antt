@@ -1,6 +1,7 @@
 use Rattle.walk.proofs.edge_past.Lts
 use Rattle.walk.proofs.edge_past.Reads
 use Rattle.walk.proofs.edge_past.Tie
+use Prim.Native.Nat.{◌-◌}
 use mathlib.Core.Path.{◌≡◌, ◌∙◌, sym, ap}
 use mathlib.Core.Logic.{⊎_elim}
 use native.Mathlib.Omega.{arith}

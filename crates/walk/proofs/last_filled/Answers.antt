@@ -1,7 +1,7 @@
 use Rattle.walk.proofs.last_filled.Lts
 use Rattle.walk.proofs.last_filled.Reads
 use Rattle.walk.proofs.last_filled.Tie
-use Prim.Native.Nat.{◌+◌, ◌*◌, ◌≤◌, ◌<◌}
+use Prim.Native.Nat.{◌+◌, ◌-◌, ◌*◌, ◌≤◌, ◌<◌}
 use mathlib.Core.Path.{◌≡◌, ◌∙◌, sym, ap}
 use mathlib.Core.Logic.{⊎_elim}
 use lib.ListN.{length}
