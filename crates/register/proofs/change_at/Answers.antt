@@ -27,7 +27,7 @@ pub change-requires : goal.change-requires
 change-requires c =
     let a = c.args in
     aim-edits a.m a.n a.area.now c.requires.fits.0 c.requires.fits.1.content c.requires.fits.1.reads a.kind a.key.now a.new.now c.requires.asked (λ i. omega (arith, c.type_inv.key i)) (λ i. omega (arith, c.type_inv.new i))
-    c.find.result c.find.ensures c.in_ok-site.site (sym c.take_aim.ensures ∙ c.in_ok-site.was) (λ i. omega arith)
+    c.find.result c.find.ensures c.in_ok-site.site (sym c.take_aim.ensures ∙ c.in_ok-site.was) (λ i. omega (arith, c.slice_known-1.given i))
 
 pub returns : goal.returns
 returns c =
