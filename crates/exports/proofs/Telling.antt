@@ -4,8 +4,7 @@ use Rattle.std.proofs.Common.{◌≡◌, ℕ, Bool, true, false, ltb, List, [], 
 use lib.ListN.{get_or-eq_default}
 use Rattle.fields.specs.Choice.{pick}
 use Rattle.change.specs.declared.Written.{Written}
-use Rattle.requests.specs.Answers.{number_of, values_of}
-use Rattle.requests.specs.Answers.{Answer}
+use Rattle.requests.specs.Answers.{number_of, values_of, Answer}
 use Rattle.requests.specs.declared.Done.TheVariants.{Changed}
 use Rattle.exports.specs.Values.{values_told}
 use Rattle.exports.specs.declared.Values.{Values}
