@@ -6,17 +6,15 @@ use mathlib.Core.List.{List}
 use lib.ListN.{length}
 use native.Mathlib.Omega.{arith}
 use Rattle.fields.specs.Bytes.{Octets}
-use Rattle.requests.specs.Answers.{number_of}
+use Rattle.requests.specs.Answers.{number_of, Answer}
 use Rattle.requests.specs.Reading.{check_of, get_of, get_at_of}
 use Rattle.requests.specs.Changing.{insert_of, update_of, erase_of}
 use Rattle.requests.specs.Walks.{walk_from_of, walk_end_of}
-use Rattle.requests.specs.Answers.{Answer}
 use Rattle.requests.specs.declared.Done.TheVariants.{Changed, Found, Intact}
 use Rattle.requests.specs.declared.Refusal.TheVariants.{Outside, Damaged, WrongLength, Present, Absent, NoInterval, NoRoom, Short, NoRecord}
 use Rattle.opening.specs.AidOpened.{opened_of}
-use Rattle.walk.specs.AidGives.{Begins}
+use Rattle.walk.specs.AidGives.{Begins, Begun}
 use Rattle.walk.specs.AidStands.{ended_by, begun_from}
-use Rattle.walk.specs.AidGives.{Begun}
 use Rattle.walk.proofs.Walking.{ended-begins, begun-begins}
 use Rattle.ask.specs.declared.ReadKind.{ReadKind}
 use Rattle.ask.specs.declared.ReadKind.TheVariants.{Check, Get, GetAt, WalkFrom, WalkEnd, Step, Record}
@@ -46,7 +44,7 @@ number-few (Err NoRecord) = omega arith
 
 begun-few : (b : Begun) → (begun_told b).number ≤ 9
 begun-few (Ok p) = omega arith
-begun-few (Err a) = number-few a
+begun-few (Err a) = number-few (Err a)
 
 -- what is served has one of document 01's numbers
 read-few : (k : ReadKind) (q : Question) → (read_made k q).told.number ≤ 9

@@ -1,7 +1,6 @@
 -- An answer as a number and eight values: document 01, 'What each number tells the depot'.
 use Rattle.std.specs.Prelude.{ℕ, List, [], ◌∷◌, get_or, Ok, Err}
-use Rattle.requests.specs.Answers.{number_of, values_of}
-use Rattle.requests.specs.Answers.{Answer}
+use Rattle.requests.specs.Answers.{number_of, values_of, Answer}
 use Rattle.walk.specs.declared.Place.{Place}
 use Rattle.walk.specs.AidGives.{Begun}
 use Rattle.ask.specs.declared.Told.{Told}

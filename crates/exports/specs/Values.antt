@@ -6,10 +6,9 @@ use Rattle.interval.specs.Search.{place_of}
 use Rattle.interval.specs.declared.Found.{Found}
 use Rattle.interval.specs.declared.Found.TheVariants.{At, Gap}
 use Rattle.index_read.specs.declared.Index.{Index}
-use Rattle.requests.specs.Answers.{number_of, values_of}
+use Rattle.requests.specs.Answers.{number_of, values_of, Answer}
 use Rattle.requests.specs.Reading as reading
 use Rattle.requests.specs.Changing.{Outcome}
-use Rattle.requests.specs.Answers.{Answer}
 use Rattle.exports.specs.declared.Values.{Values}
 
 -- a number and two values

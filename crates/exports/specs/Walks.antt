@@ -6,10 +6,9 @@ use Rattle.requests.specs.Walks.{walk_from_of, walk_end_of}
 use Rattle.requests.specs.declared.Refusal.{Refusal}
 use Rattle.opening.specs.AidOpened.{opened_of}
 use Rattle.walk.specs.AidSteps.{next_of, record_of}
-use Rattle.walk.specs.AidGives.{Begins}
+use Rattle.walk.specs.AidGives.{Begins, Begun}
 use Rattle.walk.specs.AidStands.{BeginsAt, ended_by}
 use Rattle.walk.specs.declared.Place.{Place}
-use Rattle.walk.specs.AidGives.{Begun}
 
 -- a place by its seven numbers
 abbrev pub place : ℕ → ℕ → ℕ → ℕ → ℕ → ℕ → ℕ → Place

@@ -17,10 +17,9 @@ use Rattle.requests.specs.Words.{Small}
 use Rattle.requests.proofs.Bounded.{check-small}
 use Rattle.requests.proofs.Items.{none, items-long}
 use Rattle.requests.proofs.Walks.{walk-all}
-use Rattle.walk.specs.AidGives.{Gives, Begins}
+use Rattle.walk.specs.AidGives.{Gives, Begins, Begun}
 use Rattle.walk.specs.AidSteps.{next_of, record_of, steps_from}
 use Rattle.walk.specs.declared.Place.{Place}
-use Rattle.walk.specs.AidGives.{Begun}
 use Rattle.walk.proofs.Promised.{never, placed-gives}
 use Rattle.list.specs.Listed.{given_by, depot, list_of, Line, Closing, Lists}
 

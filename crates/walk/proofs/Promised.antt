@@ -18,16 +18,15 @@ use Rattle.measures.specs.declared.Measures.{Measures}
 use Rattle.area.specs.Content.{Content}
 use Rattle.area.specs.Reading.{read_area, whole}
 use Rattle.requests.specs.Walks.{Item, refused_with, giving, head_fine, if_some, walk_of, walk_from_of, walk_end_of}
-use Rattle.requests.specs.Answers.{Answer}
+use Rattle.requests.specs.declared.Refusal.{Refusal}
 use Rattle.requests.specs.declared.Refusal.TheVariants.{WrongLength, Absent}
 use Rattle.requests.proofs.Gets.{judged-least}
 use Rattle.requests.proofs.Items.{none}
 use Rattle.requests.proofs.Walks.{walk-some}
 use Rattle.promises.specs.Tables.{First}
 use Rattle.walk.specs.declared.Place.{Place}
-use Rattle.walk.specs.AidGives.{Begun}
 use Rattle.walk.specs.AidSteps.{next_of, outside, record_of, begins_in, Shown, steps_from}
-use Rattle.walk.specs.AidGives.{Gives, Begins}
+use Rattle.walk.specs.AidGives.{Begun, Gives, Begins}
 use Rattle.walk.specs.Refusals.{number_in, from_table, end_table}
 use Rattle.walk.proofs.Refusals.{from-refusals, end-refusals}
 use contract.Lifetimes.{Lfts}
@@ -85,23 +84,23 @@ pub record Given (area : Bor (List ℕ)) (items : List Item) (parts : ℕ → Bo
 
 -- ---- how it began
 
-place_same : (p q : Place) → Ok p ≡ Ok q → p ≡ q
+place_same : (p q : Place) → ◌≡◌ {A = Begun} (Ok p) (Ok q) → p ≡ q
 place_same p q e = cc
 
 module _ (area : List ℕ) (size : ℕ) (forward : Bool) (r : Begun) (p : Place) (at : r ≡ Ok p) where
   -- a walk that was refused stands at no place
-  pub never : (a : Answer) → r ≡ Err a → ⊥
+  pub never : (a : Refusal) → r ≡ Err a → ⊥
   never a e = one (sym at ∙ e)
     where
-      one : Ok p ≡ Err a → ⊥
+      one : ◌≡◌ {A = Begun} (Ok p) (Err a) → ⊥
       one f = let z : ◌≡◌ {A = ℕ} 0 1 = cc in omega arith
 
   pub placed-gives : (items : List Item) → Begins area size forward (giving items) r → Gives area size forward items p
   placed-gives items b = rw (place_same p b.0 (sym at ∙ b.1)) b.2
 
   picked-gives : (t : Bool) (items : List Item) → Begins area size forward (pick t (if_some items) (refused_with WrongLength)) r → Gives area size forward items p
-  picked-gives false items b = absurd (never (Err WrongLength) b)
-  picked-gives true [] b = absurd (never (Err Absent) b)
+  picked-gives false items b = absurd (never WrongLength b)
+  picked-gives true [] b = absurd (never Absent b)
   picked-gives true (i ∷ items) b = placed-gives (i ∷ items) b
 
 -- From the place at which a walk began, the steps give the records of `walk_of`.

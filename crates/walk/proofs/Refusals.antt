@@ -22,13 +22,12 @@ use Rattle.requests.specs.declared.Refusal.TheVariants.{WrongLength}
 use Rattle.requests.proofs.Walks.{walk-among}
 use Rattle.promises.specs.Tables.{done, row, First}
 use Rattle.promises.proofs.Rows.{first_two, held}
-use Rattle.walk.specs.AidGives.{Begins}
+use Rattle.walk.specs.AidGives.{Begun, Begins}
 use Rattle.walk.specs.Refusals.{number_in, values_in, WrongBytes, NothingBeyond, from_table, end_table}
-use Rattle.walk.specs.AidGives.{Begun}
 
 -- the number of a walk's meaning
 abbrev number_for : Walk → ℕ
-number_for (refused_with a) = number_of a
+number_for (refused_with a) = number_of (Err a)
 number_for (giving is) = 0
 
 begins-number : (area : List ℕ) (size : ℕ) (forward : Bool) (x : Walk) (r : Begun) → Begins area size forward x r → number_in r ≡ number_for x
@@ -37,7 +36,7 @@ begins-number area size forward (giving is) r b = ap number_in b.1
 
 -- and the values
 abbrev values_for : Walk → List ℕ
-values_for (refused_with a) = values_of a
+values_for (refused_with a) = values_of (Err a)
 values_for (giving is) = []
 
 begins-values : (area : List ℕ) (size : ℕ) (forward : Bool) (x : Walk) (r : Begun) → Begins area size forward x r → values_in r ≡ values_for x

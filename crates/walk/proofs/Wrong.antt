@@ -36,7 +36,7 @@ use Rattle.area.specs.Example.{depot}
 use Rattle.requests.specs.Walks.{Item, giving, items_from, items_of, kept, backwards, walk_of, walk_from_of, walk_end_of}
 use Rattle.requests.proofs.Items.{none}
 use Rattle.walk.specs.declared.Place.{Place}
-use Rattle.walk.specs.AidGives.{Gives, Begins}
+use Rattle.walk.specs.AidGives.{Begun, Gives, Begins}
 use Rattle.walk.specs.Wrong.{stopping, from_first, twice, gapped, gapped_bytes}
 use Rattle.walk.proofs.Walking.{gives-long}
 
@@ -96,7 +96,7 @@ from_gives = rw (gapped-judged, gapped-sound)
 
 -- a walk that has begun there, and what its steps may give
 begun-gives : (forward : Bool) (is : List Item) (p : Place) → Begins gapped_bytes 512 forward (giving is) (Ok p) → Gives gapped_bytes 512 forward is p
-begun-gives forward is p b = let e : p ≡ b.0 = let a : Ok p ≡ Ok b.0 = b.1 in cc in rw e b.2
+begun-gives forward is p b = let e : p ≡ b.0 = let a : ◌≡◌ {A = Begun} (Ok p) (Ok b.0) = b.1 in cc in rw e b.2
 
 -- ---- the three walkers
 

@@ -18,8 +18,7 @@ use Rattle.index_walk.specs.declared.Edge.{Edge}
 use Rattle.index_walk.specs.AidPasses.{edge}
 use Rattle.requests.specs.Walks.{Walk, refused_with, giving, walk_from_of}
 use Rattle.requests.proofs.Walks.{pad, reached}
-use Rattle.opening.specs.AidOpened.{opened_of}
-use Rattle.opening.specs.AidOpened.{Opened}
+use Rattle.opening.specs.AidOpened.{Opened, opened_of}
 use Rattle.walk.specs.AidSteps.{end_place, edge_past_of, edge_in, spot_in, end_in, steps_from}
 use Rattle.walk.specs.declared.Place.{Place}
 use Rattle.walk.specs.AidGives.{Begun}
