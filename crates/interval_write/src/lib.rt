@@ -17,7 +17,7 @@ pub(crate) fn put_rdf(ci: &mut [u8], at: usize, kind: Control, num: usize)
     ensures { ci.new ≡ splice ci.old at (rdf_bytes (byte_of kind) num) }
 {
     fields::write(ci, at + 1, 2, num);
-    ci[at] = rdf::put_together(kind);
+    ci[at] = rdf::control_byte(kind);
 }
 
 // Stores a group's RDFs so that they end at a place, and gives the place where they begin.

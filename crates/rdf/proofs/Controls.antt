@@ -37,3 +37,10 @@ pub flag-joined : (busy unused : ℕ) → busy < 2 → unused < 32768 → bit_or
 flag-joined busy unused h k =
     let p : busy * 32768 % 18446744073709551616 ≡ busy * 32768 = mod-eq_of_lt (omega arith) in
     rw p (or_shifted busy 15 unused k)
+
+-- two bits put together, and a flag above fifteen bits
+pub bits-joined : (paired count : ℕ) → paired < 2 → count < 2 → bit_or (paired * 64 % 256) (count * 8 % 256) ≡ paired * 64 + count * 8
+bits-joined paired count h k =
+    let p : paired * 64 % 256 ≡ paired * 64 = mod-eq_of_lt (omega arith) in
+    let q : count * 8 % 256 ≡ count * 8 = mod-eq_of_lt (omega arith) in
+    rw (p, q) (or_shifted paired 6 (count * 8) (omega arith))

@@ -9,6 +9,7 @@ use Rattle.rdf.specs.declared.Front.{Front}
 use Rattle.rdf.specs.declared.RdfsIn.{RdfsIn}
 use Rattle.rdf.proofs.take_apart.Reads as take-apart
 use Rattle.rdf.proofs.put_together.Reads as put-together
+use Rattle.rdf.proofs.control_byte.Reads as control-byte
 use Rattle.rdf.proofs.is_busy.Reads as is-busy
 use Rattle.rdf.proofs.below_flag.Reads as below-flag
 use Rattle.rdf.proofs.with_flag.Reads as with-flag
@@ -25,6 +26,9 @@ unique-take-apart κs args r s e f p q = agree p q
 
 pub unique-put-together : (κs : _) (args : _) (r s : ℕ) (e f : _) → put-together.Learnt κs args r e → put-together.Learnt κs args s f → r ≡ s
 unique-put-together κs args r s e f p q = agree p q
+
+pub unique-control-byte : (κs : _) (args : _) (r s : ℕ) (e f : _) → control-byte.Learnt κs args r e → control-byte.Learnt κs args s f → r ≡ s
+unique-control-byte κs args r s e f p q = agree p q
 
 pub unique-is-busy : (κs : _) (args : _) (r s : Bool) (e f : _) → is-busy.Learnt κs args r e → is-busy.Learnt κs args s f → r ≡ s
 unique-is-busy κs args r s e f p q = agree p q

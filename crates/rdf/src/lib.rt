@@ -1,4 +1,4 @@
-// RDFs: the control byte and the busy flag, taken apart and put together; and the groups that RDFs make.
+// RDFs: the control byte and the busy flag, taken apart and put together by masks and shifts; and the groups that RDFs make.
 #![tactic(auto)]
 
 ghost use Rattle.std.specs.Prelude.{◌+◌, ◌-◌, ◌*◌, ◌/◌, ◌%◌, ◌≤◌, ◌<◌, ◌≡◌, length, eqb};
@@ -18,22 +18,38 @@ pub enum Control {
 pub fn take_apart(control: u8) -> Option<Control>
     ensures { result ≡ control_of control }
 {
-    match control {
-        0x00 => Some(Control::Single),
-        0x40 => Some(Control::Paired),
-        0x08 => Some(Control::Count),
-        _ => None,
+    if control & 0xB7 != 0 {
+        return None;
+    }
+    if control & 0x40 != 0 {
+        if control & 0x08 != 0 {
+            return None;
+        }
+        return Some(Control::Paired);
+    }
+    if control & 0x08 != 0 {
+        Some(Control::Count)
+    } else {
+        Some(Control::Single)
     }
 }
 
+// The control byte with its paired bit and its count bit.
+pub fn put_together(paired: u8, count: u8) -> u8
+    requires { (paired < 2) × (count < 2) }
+    ensures { result ≡ paired * 64 + count * 8 }
+{
+    (paired << 6) | (count << 3)
+}
+
 // The control byte of a kind.
-pub fn put_together(kind: Control) -> u8
+pub fn control_byte(kind: Control) -> u8
     ensures { result ≡ byte_of kind }
 {
     match kind {
-        Control::Single => 0x00,
-        Control::Paired => 0x40,
-        Control::Count => 0x08,
+        Control::Single => put_together(0, 0),
+        Control::Paired => put_together(1, 0),
+        Control::Count => put_together(0, 1),
     }
 }
 
