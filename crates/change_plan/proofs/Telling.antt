@@ -24,6 +24,7 @@ use Rattle.interval_edit.specs.AidChanged.{fresh_in}
 use Rattle.interval_edit.specs.declared.Site.{Site}
 use Rattle.division.specs.Division.{division_of, counts, parts, pieces}
 use Rattle.division.specs.Fewest.{AllHeld}
+use Rattle.division.specs.declared.Division.{Division}
 use Rattle.division.specs.declared.Division.TheVariants.{Stays, Two, Three}
 use Rattle.division.proofs.Answers.{is-stays, is-two, two-fit}
 use Rattle.division.proofs.Spreads.{pieces-2}
@@ -85,6 +86,11 @@ fresh-small m [] f h = omega arith
 fresh-small m (b ∷ bs) f h = omega (arith, within-high m.least m.most (length (b ∷ bs)) [] f, h)
 
 -- A division that is neither the first nor the second is the third.
+pub is-three : (d : Division) → (d ≡ Stays → ⊥) → ((k : ℕ) → d ≡ Two k → ⊥) → d ≡ Three
+is-three Stays h g = absurd (h refl)
+is-three (Two k) h g = absurd (g k refl)
+is-three Three h g = refl
+
 -- ---- the edit
 
 abbrev pub two_at : ℕ → Parts

@@ -186,8 +186,9 @@ pub fn plan(
     requires { Told m n area.now site new.now lens.now }
     ensures { PlannedAs m n area.now site (edit_at site (fresh_in new.now)) result }
 {
-    match division::divide(lens, m.size) {
-        Division::Stays => Ok(Spread {
+    let division = division::divide(lens, m.size);
+    if let Division::Stays = division {
+        return Ok(Spread {
             site,
             parts: Parts {
                 many: 1,
@@ -197,22 +198,20 @@ pub fn plan(
             a: 0,
             b: 0,
             index: 0,
-        }),
-        Division::Two { cut } => {
-            let two = Parts {
-                many: 2,
-                first: cut,
-                second: cut,
-            };
-            plan_divided(area, m, n, site, new, lens, two)
-        }
-        Division::Three => {
-            let three = Parts {
-                many: 3,
-                first: site.ordinal,
-                second: site.ordinal + 1,
-            };
-            plan_divided(area, m, n, site, new, lens, three)
-        }
+        });
     }
+    let Division::Two { cut } = division else {
+        let three = Parts {
+            many: 3,
+            first: site.ordinal,
+            second: site.ordinal + 1,
+        };
+        return plan_divided(area, m, n, site, new, lens, three);
+    };
+    let two = Parts {
+        many: 2,
+        first: cut,
+        second: cut,
+    };
+    plan_divided(area, m, n, site, new, lens, two)
 }
