@@ -5,11 +5,11 @@ use mathlib.Core.List.{List, [], ◌∷◌, ◌++◌, append_assoc, append-nil}
 use lib.ListN.{length, get_or, drop, set, length-append, length-drop}
 use lib.Seq.{get_or-append_seam, take_at, drop_at, take-suc, get_or-drop}
 use native.Mathlib.Omega.{arith}
-use native.Mathlib.Nat.{div-add-mod', mod-eq_of_lt, mul-suc, pow-suc, mul_assoc}
+use native.Mathlib.Nat.{div-add-mod', mul-suc, pow-suc, mul_assoc}
 use native.Mathlib.Numerals.{add-one}
 use Rattle.std.proofs.Math.Nat.{pow-le-pow_right}
 use Rattle.fields.specs.Bytes.{Octets, part, number, digits, splice}
-use Rattle.fields.proofs.Splices.{sets-splice, splice-nil, set-splice, length-splice}
+use Rattle.fields.proofs.Splices.{splice-nil, set-splice, length-splice}
 
 pub length_digits : (w x : ℕ) → length (digits w x) ≡ w
 unfolding digits
@@ -54,29 +54,9 @@ digits_number (suc w) b a o h =
     let s : part b a (suc w) ≡ part b a w ++ (get_or b (a + w) 0 ∷ []) = take-suc (drop a b) w 0 l ∙ rw get_or-drop in
     rw (q, r, s, digits_number w b a o (omega arith))
 
-pub number-1 : (b : List ℕ) (i : ℕ) → number 1 b i ≡ get_or b i 0
-unfolding number
-number-1 b i = let e : i + 0 ≡ i = omega arith in rw e (omega arith)
-
 pub number-2 : (b : List ℕ) (i : ℕ) → number 2 b i ≡ get_or b i 0 * 256 + get_or b (i + 1) 0
 unfolding number
 number-2 b i = let e : i + 0 ≡ i = omega arith in rw e (omega arith)
-
-pub digits_1 : (x : ℕ) → x < 256 → digits 1 x ≡ x ∷ []
-unfolding digits
-digits_1 x h = rw (mod-eq_of_lt h)
-
-pub digits_2 : (x : ℕ) → x < 65536 → digits 2 x ≡ x / 256 ∷ x % 256 ∷ []
-unfolding digits
-digits_2 x h =
-    let e : x / 256 % 256 ≡ x / 256 = mod-eq_of_lt (omega arith) in
-    rw e
-
-pub number-4 : (b : List ℕ) (i : ℕ) → number 4 b i ≡ get_or b i 0 * 16777216 + get_or b (i + 1) 0 * 65536 + get_or b (i + 2) 0 * 256 + get_or b (i + 3) 0
-unfolding number
-number-4 b i =
-    let p : i + 0 ≡ i = omega arith in
-    rw p (omega arith)
 
 -- the number of two stretches, one after the other
 pub number-add : (v w : ℕ) (b : List ℕ) (a : ℕ) → number (v + w) b a ≡ number v b a * 256 ^ w + number w b (a + v)
@@ -101,10 +81,6 @@ number-none b a = refl
 pub number_more : (i : ℕ) (b : List ℕ) (a : ℕ) → number (i + 1) b a ≡ number i b a * 256 + get_or b (a + i) 0
 unfolding number
 number_more i b a = rw add-one
-
-pub number-byte : (b : List ℕ) (a : ℕ) → number 1 b a ≡ get_or b a 0
-unfolding number
-number-byte b a = let e : a + 0 ≡ a = omega arith in rw e (omega arith)
 
 -- up to seven bytes leave room for one more
 pub number_small : (i : ℕ) (b : List ℕ) (a : ℕ) → Octets b → i ≤ 7 → number i b a < 72057594037927936

@@ -1,4 +1,3 @@
-use mathlib.Core.Path.{◌∙◌}
 use native.Mathlib.Omega.{arith}
 use Rattle.fields.specs.Bytes.{part}
 use Rattle.fields.proofs.Splices.{mid-splice, part-is, length-mid}

@@ -1,6 +1,5 @@
 -- Invariant: the digits of x from digit i on are stored in their places, every other byte is as at entry (record Stored).
 -- The digits not yet stored are the i digits of left; i is at most the width.
-use Prim.Native.Nat.{◌≤◌}
 use Rattle.fields.proofs.Numbers.{Stored}
 use Rattle.fields.proofs.write.Given as goal
 
