@@ -117,7 +117,7 @@ def exceptions():
             wants(hits, f"{page}: there is no {caller}")
             for f in hits[:1]:
                 uses = [g.split("::") for g in asked]
-                wants(any(re.search((r"\b" if f.crate == c[0] else c[0] + "::") + c[-1] + r"\(", f.body) for c in uses),
+                wants(any(re.search((r"\b" if f.crate == c[0] else c[0] + "::") + c[-1] + r"(?:::<\w+>)?\(", f.body) for c in uses),
                       f"{page}: {caller} calls none of {', '.join(asked)}")
     for f in FUNCTIONS:
         if f.public and "requires" in f.head:
