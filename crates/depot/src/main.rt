@@ -49,10 +49,12 @@ fn open(rt: &(impl Print + Files), area: &mut [u8]) -> End
     ensures { Leads area.old area.new }
 {
     match check(area) {
-        Ok(Done::Intact {
-            records: _,
-            free: _,
-        }) => day(rt, area),
+        Ok(
+            Done::Intact {
+                records: _,
+                free: _,
+            },
+        ) => day(rt, area),
         other => depot_io::refused(rt, other),
     }
 }

@@ -31,12 +31,7 @@ fn after(rt: &impl Print, told: Option<Answer>, out: &[u8]) -> Result<()> {
 }
 
 // The line for one request: its place, its number, and the record that it found.
-pub(crate) fn line(
-    rt: &impl Print,
-    place: u64,
-    told: Option<Answer>,
-    out: &[u8],
-) -> Result<()> {
+pub(crate) fn line(rt: &impl Print, place: u64, told: Option<Answer>, out: &[u8]) -> Result<()> {
     number(rt, place)?;
     words(rt, b" ")?;
     number(rt, lines::number(told) as u64)?;

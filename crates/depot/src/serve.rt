@@ -56,16 +56,14 @@ fn one(rt: &impl Print, file: &mut impl Read, area: &mut [u8], place: u64) -> Tu
 fn all(rt: &impl Print, file: &mut impl Read, area: &mut [u8]) -> End
     ensures { Leads area.old area.new }
 {
-    let mut place = 1;
     let mut end = End::Whole;
-    while place < u64::MAX {
+    for place in 1..u64::MAX {
         match one(rt, file, area, place) {
             Turn::Done => {}
             Turn::Refused => end = End::Partly,
             Turn::Ended => return end,
             Turn::Failed => return End::Failed,
         }
-        place += 1;
     }
     End::Failed
 }

@@ -62,11 +62,7 @@ enum Kind {
 // Whether the program was started with this word or with more.
 fn given(rt: &impl Env, place: usize) -> bool {
     let mut word = [0u8; 8];
-    match rt.arg(place, &mut word) {
-        Ok(_) => true,
-        Err(FillError::TooLong) => true,
-        Err(FillError::NotPresent) => false,
-    }
+    !matches!(rt.arg(place, &mut word), Err(FillError::NotPresent))
 }
 
 fn wanted(rt: &impl Env) -> Kind {
@@ -80,11 +76,10 @@ fn wanted(rt: &impl Env) -> Kind {
     let Ok(n) = rt.arg(1, &mut word) else {
         return Kind::Unknown;
     };
-    match fields::compare(&word[..n], b"--text") {
-        Ordering::Equal => Kind::Text,
-        Ordering::Less => Kind::Unknown,
-        Ordering::Greater => Kind::Unknown,
-    }
+    let Ordering::Equal = fields::compare(&word[..n], b"--text") else {
+        return Kind::Unknown;
+    };
+    Kind::Text
 }
 
 // One byte more than the largest area, so that a longer file shows: no area has that length.

@@ -86,8 +86,7 @@ fn steps(rt: &impl Files<File = File>, area: &mut [u8], old: &mut [u8]) {
     };
     let fd = script.as_raw_fd();
     let mut held = 0;
-    let mut n = 0;
-    while n < u64::MAX {
+    for _ in 0..u64::MAX {
         match step(fd, area, old, held) {
             Turn::Held(length) => held = length,
             Turn::Ended => return,
@@ -96,7 +95,6 @@ fn steps(rt: &impl Files<File = File>, area: &mut [u8], old: &mut [u8]) {
                 return;
             }
         }
-        n += 1;
     }
 }
 

@@ -24,10 +24,8 @@ fn mixed(rest: usize, bytes: &[u8]) -> usize
     ensures { result < 65521 }
 {
     let mut r = rest;
-    let mut i = 0;
-    while i < bytes.len() {
-        r = (r * 256 + usize::from(bytes[i])) % 65521;
-        i += 1;
+    for byte in bytes {
+        r = (r * 256 + usize::from(*byte)) % 65521;
     }
     r
 }
@@ -102,12 +100,10 @@ fn place(area: &[u8], p: Place) {
 // A place, and so many steps from there.
 fn steps(area: &[u8], size: usize, forward: bool, from: Place, count: usize) {
     let mut p = from;
-    let mut i = 0;
     place(area, p);
-    while i < count {
+    for _ in 0..count {
         p = walk::walk_next(area, size, forward, p);
         place(area, p);
-        i += 1;
     }
 }
 
