@@ -16,9 +16,9 @@ ghost use Rattle.index_read.specs.AidStand.{Walkable, Stand, Stood, Stopped};
 ghost use Rattle.index_read.specs.AidJudged.{JudgedAs};
 ghost use Rattle.index_step.specs.AidStep.{joined_of, copied_from};
 
-use std::cmp::Ordering;
 use index_step::{BUFFER, PassPlace, Step};
 use measures::LIMIT;
+use std::cmp::Ordering;
 
 // The entry that a key leads to: its place among the entries, from 0, its number, and how many bytes the separator before it and its own have.
 #[derive(Clone, Copy, Default)]
@@ -62,6 +62,14 @@ pub(crate) struct Leg {
 pub(crate) struct Stop {
     pub p: PassPlace,
     pub left: usize,
+}
+
+// Which interval numbers were met, and how many are free and how many have an entry. It goes by value through the walk.
+#[derive(Drop)]
+pub(crate) struct Marks {
+    pub seen: [u8; LIMIT],
+    pub used: usize,
+    pub free: usize,
 }
 
 // A sound record: its free intervals and entries, and where the key leads that was sought.
@@ -173,7 +181,13 @@ pub(crate) fn ends_low(buf: &[u8], ib: &[u8], s: Step) -> bool
 
 // The next entry, no section's highest, which lies right of the edge, with every rule on its separator: F, the length, the order of the bounds, the last byte. The
 // buffer begins with the separator before it, and afterwards with its own. A wrong entry ends the walk, so that nothing is stored of one.
-pub(crate) fn next_inner(buf: &mut [u8], first: bool, ib: &[u8], p: PassPlace, by: Limits) -> Option<Step>
+pub(crate) fn next_inner(
+    buf: &mut [u8],
+    first: bool,
+    ib: &[u8],
+    p: PassPlace,
+    by: Limits,
+) -> Option<Step>
     requires before { Before ib.now p by buf.old × (first ≡ true → p.len ≡ 0) }
     requires which { closes_at by.width p ≡ false }
     requires lies { by.edge + (by.width + 2 + length_at by.width ib.now p.right) ≤ p.right }
@@ -221,7 +235,9 @@ pub(crate) fn next_top(
     ensures is { result ≡ entry_of ib.now p by first buf.old high.old }
     ensures renewed { Taken ib.now buf.old high.old buf.new high.new result }
 {
-    let s = piece_at(ib, p, by, true)?;
+    let Some(s) = piece_at(ib, p, by, true) else {
+        return None;
+    };
     index_step::extend(high, s.front, ib, s.at, s.len);
     let z = s.front + s.len;
     if !topmost(buf, first, p.len, high, z) {
@@ -236,13 +252,21 @@ pub(crate) fn next_top(
 
 // The same for the one entry that the key leads to, where it is no section's highest. It stands apart from `next_inner`, whose body is then put into the loop that alone calls
 // it: with a call in that loop the walk takes more than twice as long.
-pub(crate) fn next_met(buf: &mut [u8], first: bool, ib: &[u8], p: PassPlace, by: Limits) -> Option<Step>
+pub(crate) fn next_met(
+    buf: &mut [u8],
+    first: bool,
+    ib: &[u8],
+    p: PassPlace,
+    by: Limits,
+) -> Option<Step>
     requires before { Before ib.now p by buf.old × (first ≡ true → p.len ≡ 0) }
     requires which { closes_at by.width p ≡ false }
     ensures is { (high : List ℕ) → by.key + 8 ≤ length high → result ≡ entry_of ib.now p by first buf.old high }
     ensures renewed { (high : List ℕ) → by.key + 8 ≤ length high → Taken ib.now buf.old high buf.new high result }
 {
-    let s = piece_at(ib, p, by, false)?;
+    let Some(s) = piece_at(ib, p, by, false) else {
+        return None;
+    };
     if !ascends(buf, first, p.len, ib, s) {
         return None;
     }
@@ -405,7 +429,9 @@ pub(crate) fn walk_inner(
             return None;
         }
         seen[number] = 1;
-        let s = next_inner(buf, left == by.count, ib, p, by)?;
+        let Some(s) = next_inner(buf, left == by.count, ib, p, by) else {
+            return None;
+        };
         p = index_step::past(ib, s, p);
         left -= 1;
     }
@@ -450,13 +476,17 @@ pub(crate) fn mark_entries(
     let mut spot = Lead::default();
     while 0 < left {
         let leg = Leg { p, left, reach };
-        let stop = walk_inner(seen, &mut buf, ib, key, leg, by)?;
+        let Some(stop) = walk_inner(seen, &mut buf, ib, key, leg, by) else {
+            return None;
+        };
         let q = stop.p;
         let l = stop.left;
         let aim = aimed(key, ib, q, by, reach);
         let meets = if reach == 0 { false } else { aim == 0 };
         keep(before, &buf, q.len, meets);
-        let s = next_entry(&mut buf, &mut high, l == by.count, ib, q, by)?;
+        let Some(s) = next_entry(&mut buf, &mut high, l == by.count, ib, q, by) else {
+            return None;
+        };
         let number = s.number;
         if by.n <= number {
             return None;
@@ -484,9 +514,9 @@ pub(crate) fn mark_entries(
     Some(spot)
 }
 
-// The walk over the free numbers, and then over the entries.
+// The walk over the free numbers, and then over the entries. A number either is free or has an entry, so all lie below the sum of the two counts.
 pub(crate) fn walk(
-    seen: &mut [u8; LIMIT],
+    marks: Marks,
     ib: &[u8],
     by: Limits,
     key: &[u8],
@@ -495,13 +525,15 @@ pub(crate) fn walk(
 ) -> Option<Lead>
     requires walkable { Walkable ib.now by key.now × (0 < by.count) × (length before.old ≡ 263) × (length own.old ≡ 263) }
     requires free { (by.count ≤ by.n) × (24 + by.width * (by.n - by.count) ≤ length ib.now) }
-    ensures sound { is_some result ≡ walked_fine by ib.now seen.old }
+    requires counts { (marks.free ≡ by.n - by.count) × (marks.used ≡ by.count) }
+    ensures sound { is_some result ≡ walked_fine by ib.now marks.seen }
     ensures found { 0 < length key.now → IfSome result (λ spot. FoundBy by.width by.count ib.now key.now spot before.new own.new) }
 {
-    if !mark_free(seen, ib, by.width, by.n - by.count, by.n) {
+    let mut m = marks;
+    if !mark_free(&mut m.seen, ib, by.width, m.free, m.free + m.used) {
         return None;
     }
-    mark_entries(seen, ib, by, key, before, own)
+    mark_entries(&mut m.seen, ib, by, key, before, own)
 }
 
 // Whether header values, RDF and CIDF are as they must be. The pointer indicator has a bit for each byte of a pointer.
@@ -617,8 +649,12 @@ pub(crate) fn judge(
         count: entries,
         key,
     };
-    let mut seen = [0u8; LIMIT];
-    let spot = walk(&mut seen, ib, by, wanted, before, own)?;
+    let marks = Marks {
+        seen: [0u8; LIMIT],
+        used: entries,
+        free,
+    };
+    let spot = walk(marks, ib, by, wanted, before, own)?;
     Some(Verdict {
         free,
         entries,

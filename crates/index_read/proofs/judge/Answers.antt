@@ -5,6 +5,7 @@
 -- Each refusal contradicts one part of soundness (no-frame to no_walk); where none does, all-fine: so many free numbers as the displacement tells, and the rest of
 -- the n numbers have an entry. The width is the one that the definition says, and it is 1 to 4.
 use mathlib.Core.Path.{refl, sym}
+use native.Mathlib.Omega.{arith}
 use Rattle.measures.proofs.Width.{width_some, width-most}
 use Rattle.index_read.proofs.Judging.{no-frame, no-base, no-places, free-inside, free-few, used-some, edge-inside, edge-far, edge-small, no_walk, all-fine}
 use Rattle.index_read.proofs.judge.Goals as goal
@@ -59,6 +60,7 @@ walk-requires c =
         b.2,
       );
       free = free-inside w.result a.key a.n a.ib.now w.ensures f g p.4 x at p.0;
+      counts = (omega (arith, free-few w.result a.key a.n a.ib.now w.ensures f g p.4 x at), refl);
     }
 
 pub returns-in_err-spot : goal.returns-in_err-spot

@@ -1,7 +1,7 @@
 -- No loop. The key is sought in the walk that judges the record; what was found is the definition's (seeks-found), and lies within its limits (seeks-within): so
 -- both separators fit into the buffers that were lent, and each copy is one splice. Where the record is unsound nothing is stored (seeks-unsound).
 use Prim.Native.Nat.{◌<◌, ◌≤◌}
-use lib.ListN.{length, take, length-take}
+use lib.ListN.{length, length-take}
 use native.Mathlib.Omega.{arith}
 use Rattle.index_read.proofs.Seeking.{seeks-within, seeks-found, seeks-unsound}
 use Rattle.index_read.proofs.seek.Goals as goal

@@ -1,15 +1,12 @@
-use Prim.Native.Nat.{◌+◌, ◌<◌, ◌≤◌}
-use mathlib.Core.Path.{◌≡◌, sym, ◌∙◌}
-use mathlib.Core.Bool.{false}
-use mathlib.Core.Logic.{⊎_elim}
+use Prim.Native.Nat.{◌+◌, ◌≤◌}
+use mathlib.Core.Path.{◌≡◌}
 use lib.ListN.{length, set}
 use lib.Dec.{eqb}
 use native.Mathlib.Omega.{arith}
 use borrow.Author.Tests.{ne_eqb}
 use Rattle.index.specs.Reading.{length_at}
-use Rattle.index_read.specs.AidParsing.{closes_at}
-use Rattle.index_read.specs.AidStand.{Walkable, Stand}
-use Rattle.index_read.proofs.Walking.{NextReach, by-look, by_front, set_out, roomy, ready, first-empty, sighted, within, length-is, ends-left, ends-top, ends_last, ends_found, ends-bad, ends-big, ends-again, passes_on, goes_on, ends_open}
+use Rattle.index_read.specs.AidStand.{Stand}
+use Rattle.index_read.proofs.Walking.{NextReach, by-look, by_front, roomy, ready, first-empty, sighted, within, length-is, ends-left, ends-top, ends_last, ends_found, ends-bad, ends-big, ends-again, passes_on, goes_on, ends_open}
 use Rattle.index_read.proofs.walk_inner.Goals as goal
 use Rattle.index_read.proofs.walk_inner.Goals.{In-loop-left, After-from, Joined-from-reach, then-from-reach+else-reach-eq0, else-from-reach}
 
@@ -46,9 +43,9 @@ reaches c =
     let o = c.loop-left in
     let a = c.args in
     elim c.if-from-reach.branch [
-      then-from-reach+else-reach-eq0 h ↦
+      | then-from-reach+else-reach-eq0 h ↦
           by-look a.ib.now o.p a.by a.key.now o.reach c.if-from-reach.reach c.from-in-loop-left.result c.from-in-loop-left.ensures h.look-reach.result h.if-from-reach.true h.look-reach.ensures h.if-reach-eq0.false h.reach-is
-    | else-from-reach h ↦
+      | else-from-reach h ↦
           by_front a.ib.now o.p a.by a.key.now o.reach c.if-from-reach.reach c.from-in-loop-left.result c.from-in-loop-left.ensures h.if-from-reach.false h.reach-is
     ]
 
@@ -128,14 +125,13 @@ next_inner-requires c =
       lies = omega (arith, begins (goal.at.next_inner-requires c).In-loop-left, long (goal.at.next_inner-requires c).After-from, c.if-c-by.false);
     }
 
-pub returns-in_err-s : goal.returns-in_err-s
-returns-in_err-s c = λ old high st.
+pub returns-in_default : goal.returns-in_default
+returns-in_default c = λ old high st.
     let o = c.loop-left in
     let a = c.args in
     let x = c.next_inner in
-    rw c.from_residual.ensures
-    (ends-bad a.ib.now a.by a.key.now a.seen.now a.buf.now a.from o.seen o.buf o.p o.left o.reach o.invariant c.loop-left-test.true c.requires.walkable.0
-    (set o.seen c.read_pointer-number.result 1) x.new.buf x.result x.ensures.is c.in_err-s.was old high st)
+    ends-bad a.ib.now a.by a.key.now a.seen.now a.buf.now a.from o.seen o.buf o.p o.left o.reach o.invariant c.loop-left-test.true c.requires.walkable.0
+    (set o.seen c.read_pointer-number.result 1) x.new.buf x.result x.ensures.is c.in_default.is old high st
 
 pub past-p-requires : goal.past-p-requires
 past-p-requires c =
@@ -143,7 +139,7 @@ past-p-requires c =
     let a = c.args in
     let x = c.next_inner in
     passes_on a.ib.now a.by a.key.now a.seen.now a.buf.now a.from o.seen o.buf o.p o.left o.reach o.invariant c.loop-left-test.true c.requires.walkable.0
-    x.result c.in_ok-s.s x.ensures.is c.in_ok-s.was c.requires.stands.old c.requires.stands.high (stand (goal.at.past-p-requires c).In-loop-left)
+    x.result c.in-Some.s x.ensures.is c.in-Some.is c.requires.stands.old c.requires.stands.high (stand (goal.at.past-p-requires c).In-loop-left)
 
 pub loop-left-preserved : goal.loop-left-preserved
 loop-left-preserved c =
@@ -151,7 +147,7 @@ loop-left-preserved c =
     let a = c.args in
     let x = c.next_inner in
     goes_on a.ib.now a.by a.key.now a.seen.now a.buf.now a.from o.seen o.buf o.p o.left o.reach o.invariant c.loop-left-test.true c.requires.walkable.0
-    x.result c.in_ok-s.s x.ensures.is c.in_ok-s.was x.new.buf x.ensures.renewed x.auto.buf c.past-p.result c.past-p.ensures (ne_eqb _ _ c.if-c-p.false)
+    x.result c.in-Some.s x.ensures.is c.in-Some.is x.new.buf x.ensures.renewed x.auto.buf c.past-p.result c.past-p.ensures (ne_eqb _ _ c.if-c-p.false)
     c.if-from-reach.reach (reaches (goal.at.loop-left-preserved c).Joined-from-reach) c.read_pointer-number.result c.read_pointer-number.ensures.0 c.if-by-number.false c.if-seen-number-ne0.false
 
 pub returns : goal.returns
