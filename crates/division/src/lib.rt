@@ -46,17 +46,11 @@ pub(crate) fn weigh(
     }
     let difference = left.bytes.abs_diff(bytes);
     if best.cut == 0 {
-        return Chosen {
-            cut,
-            difference,
-        };
+        return Chosen { cut, difference };
     }
     // On a tie the earlier cut stays: it has the smaller left part.
     if difference < best.difference {
-        return Chosen {
-            cut,
-            difference,
-        };
+        return Chosen { cut, difference };
     }
     best
 }

@@ -5,8 +5,8 @@ ghost use Rattle.std.specs.Prelude.{◌+◌, ◌≤◌, ◌<◌, ◌≡◌, leng
 ghost use Rattle.fields.specs.Order.{less};
 ghost use Rattle.index_find.specs.AidLocate.{Searchable, Leads};
 
-use std::cmp::Ordering;
 use index_step::BUFFER;
+use std::cmp::Ordering;
 
 // The entry that a key leads to: its place among the entries, from 0, and the number of its interval.
 #[derive(Clone, Copy)]

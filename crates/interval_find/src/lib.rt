@@ -9,10 +9,10 @@ ghost use Rattle.interval.specs.Search.{place_of, Within, starting_at, started_o
 ghost use Rattle.interval.specs.declared.Found.TheVariants.{At};
 ghost use Rattle.interval_find.specs.AidRuns.{RunIn, Holding};
 
-use std::cmp::Ordering;
 use interval::Found;
 use measures::Measures;
 use rdf::Front;
+use std::cmp::Ordering;
 
 // Records of one length that lie one after another: the ordinal of the first, where it begins, how long each is, and how many follow it.
 #[derive(Clone, Copy)]

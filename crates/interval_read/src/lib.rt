@@ -13,9 +13,9 @@ ghost use Rattle.interval_read.specs.Verdict.{verdict_of};
 ghost use Rattle.interval_read.specs.AidWalk.{tail_of, Small, keys_in, walked, RunLies, KeysLie, lead_of, LeadsKnown};
 ghost use Rattle.interval_read.specs.AidOpened.{opened_of, Inside, Closable};
 
-use std::cmp::Ordering;
 use measures::Measures;
 use rdf::Front;
+use std::cmp::Ordering;
 
 // What is told of a sound interval: how many records, their bytes, how many RDFs, and where the last record begins (0 where there is none).
 #[derive(Clone, Copy)]

@@ -7,8 +7,8 @@ mod print;
 ghost use Rattle.list.specs.Listed.{Lists};
 
 use depot_io::End;
-use std::cmp::Ordering;
 use measures::Numbers;
+use std::cmp::Ordering;
 use std::env::FillError;
 use std::io::Result;
 use std::rt::{Env, Files};

@@ -4,9 +4,9 @@ ghost use Rattle.std.specs.Prelude.{◌<◌, ◌≤◌, length};
 use crate::script::Ask;
 use crate::{print, walks};
 use change::Written;
-use std::cmp::Ordering;
 use measures::Numbers;
 use requests::{Answer, Done, Refusal};
+use std::cmp::Ordering;
 
 pub(crate) fn value(n: usize) {
     print::words(b" ");

@@ -7,4 +7,3 @@ use Rattle.area_read.proofs.free_worst.Given as goal
 
 abbrev pub invariant-loop-i : goal.invariant-loop-i
 invariant-loop-i l = Looking l.m l.n l.area l.ib (width_for l.n) l.free l.worst (24 + width_for l.n * l.i) (l.free - l.i)
-

@@ -133,8 +133,8 @@ overflow_add-records c =
       arith,
       o.invariant.few,
       seen_few a.m a.n a.area.now a.ib.now a.worst o.buf o.high o.p o.i o.lowest o.records o.invariant more c.entry_at-s.result (stepped (goal.at.overflow_add-records c).After-entry_at-s) c.renew.new.buf
-      c.renew.new.high c.past-p.result c.renew.ensures c.past-p.ensures (c.renew.auto.buf ∙ o.invariant.whole) c.requires.0 c.opens-opened.result c.closed-seen.result
-      (opened-is (goal.at.overflow_add-records c).After-opens-opened k) (closed_is (goal.at.overflow_add-records c).After-closed-seen k),
+          c.renew.new.high c.past-p.result c.renew.ensures c.past-p.ensures (c.renew.auto.buf ∙ o.invariant.whole) c.requires.0 c.opens-opened.result c.closed-seen.result
+          (opened-is (goal.at.overflow_add-records c).After-opens-opened k) (closed_is (goal.at.overflow_add-records c).After-closed-seen k),
       more,
       entries-count (width_for a.n) a.n a.ib.now,
       c.requires.0.few,

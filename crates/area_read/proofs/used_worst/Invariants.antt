@@ -7,4 +7,3 @@ use Rattle.area_read.proofs.used_worst.Given as goal
 
 abbrev pub invariant-loop-i : goal.invariant-loop-i
 invariant-loop-i l = Going l.m l.n l.area l.ib l.worst l.buf l.high l.p l.i l.lowest l.records
-

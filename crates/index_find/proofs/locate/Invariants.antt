@@ -7,4 +7,3 @@ use Rattle.index_find.proofs.locate.Given as goal
 
 abbrev pub invariant-loop-i : goal.invariant-loop-i
 invariant-loop-i l = State l.ib l.n l.key l.buf l.high l.p l.i
-

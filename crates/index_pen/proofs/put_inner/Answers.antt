@@ -26,10 +26,10 @@ bytes : (c : Joined-b-gt7)
 bytes c =
     let a = c.args in
     elim c.if-b-gt7.branch [
-      then-b-gt7 w ↦
-        inner-stored a.b.now a.pen a.sep.now a.front a.number w.if-b-gt7.true c.if-b-gt7.b
-        (piece_is a.b.now a.pen a.sep.now a.front a.number c.if-b-gt7.b (w.b-is ∙ w.put_piece.ensures))
-    | else-b-gt7 w ↦ inner-counted a.b.now a.pen a.sep.now a.front a.number w.if-b-gt7.false c.if-b-gt7.b w.b-is
+      | then-b-gt7 w ↦
+          inner-stored a.b.now a.pen a.sep.now a.front a.number w.if-b-gt7.true c.if-b-gt7.b
+          (piece_is a.b.now a.pen a.sep.now a.front a.number c.if-b-gt7.b (w.b-is ∙ w.put_piece.ensures))
+      | else-b-gt7 w ↦ inner-counted a.b.now a.pen a.sep.now a.front a.number w.if-b-gt7.false c.if-b-gt7.b w.b-is
     ]
 
 pub overflow_sub-r : goal.overflow_sub-r

@@ -14,18 +14,18 @@ field_told : (j : Joined-control-e) → j.if-control-e.field ≡ pick (eqb (j.ar
 field_told j =
     let a = j.args in
     elim j.if-control-e.branch [
-      then-control-e x ↦ field-there j.if-control-e.field (a.e.right - (a.w + 2)) a.e.end x.if-control-e.true x.field-is
-    | else-control-e x ↦ field-none j.if-control-e.field (a.e.right - (a.w + 2)) a.e.end x.if-control-e.false x.field-is
+      | then-control-e x ↦ field-there j.if-control-e.field (a.e.right - (a.w + 2)) a.e.end x.if-control-e.true x.field-is
+      | else-control-e x ↦ field-none j.if-control-e.field (a.e.right - (a.w + 2)) a.e.end x.if-control-e.false x.field-is
     ]
 
 pub returns-then-w-gt4 : goal.returns-then-w-gt4
 returns-then-w-gt4 c =
     let a = c.args in
     elim c.then-w-gt4.branch [
-      then-w-gt4-via-then-w-gt4 x ↦ pass-wide a.w a.ib.now a.e x.if-w-gt4.true
-    | then-w-gt4-via-else-w-gt4+then-ib-lt24 x ↦ pass-short a.w a.ib.now a.e x.if-w-gt4.false x.if-ib-lt24.true
-    | then-w-gt4-via-else-w-gt4+else-ib-lt24+then-ib-r x ↦ pass-past a.w a.ib.now a.e x.if-w-gt4.false x.if-ib-lt24.false x.if-ib-r.true
-    | then-w-gt4-via-else-w-gt4+else-ib-lt24+else-ib-r+then-r-w x ↦ pass-cut a.w a.ib.now a.e x.if-w-gt4.false x.if-ib-lt24.false x.if-ib-r.false x.if-r-w.true
+      | then-w-gt4-via-then-w-gt4 x ↦ pass-wide a.w a.ib.now a.e x.if-w-gt4.true
+      | then-w-gt4-via-else-w-gt4+then-ib-lt24 x ↦ pass-short a.w a.ib.now a.e x.if-w-gt4.false x.if-ib-lt24.true
+      | then-w-gt4-via-else-w-gt4+else-ib-lt24+then-ib-r x ↦ pass-past a.w a.ib.now a.e x.if-w-gt4.false x.if-ib-lt24.false x.if-ib-r.true
+      | then-w-gt4-via-else-w-gt4+else-ib-lt24+else-ib-r+then-r-w x ↦ pass-cut a.w a.ib.now a.e x.if-w-gt4.false x.if-ib-lt24.false x.if-ib-r.false x.if-r-w.true
     ]
 
 pub returns-then-control-l : goal.returns-then-control-l

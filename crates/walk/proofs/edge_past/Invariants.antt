@@ -6,4 +6,3 @@ use Rattle.walk.proofs.edge_past.Given as goal
 
 abbrev pub invariant-loop-i : goal.invariant-loop-i
 invariant-loop-i l = (l.w ≡ width_for l.n) × (l.e ≡ edge_past_of (width_for l.n) l.ib l._i)
-

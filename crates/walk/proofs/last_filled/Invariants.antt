@@ -9,4 +9,3 @@ use Rattle.walk.proofs.last_filled.Given as goal
 abbrev pub invariant-loop-i : goal.invariant-loop-i
 invariant-loop-i l =
     (l.w ≡ width_for l.n) × (last_filled_of l.area l.size l.n l.entries ≡ filled_from (l.entries - l.i) l.area l.size l.n l.i l.e l.found) × (l.found.place ≤ l.n)
-
