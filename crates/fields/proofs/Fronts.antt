@@ -1,17 +1,19 @@
 -- Laws of the common front.
 use Prim.Native.Nat.{ℕ, suc, ◌+◌, ◌≤◌, ◌<◌}
-use mathlib.Core.Path.{◌≡◌, refl, ◌∙◌}
+use mathlib.Core.Path.{◌≡◌, refl, ◌∙◌, sym}
 use mathlib.Core.Bool.{Bool, true, false}
 use mathlib.Core.List.{List, [], ◌∷◌, ◌++◌}
-use mathlib.Core.Logic.{◌⊎◌, inl, inr}
+use mathlib.Core.Logic.{◌⊎◌, inl, inr, ⊎_elim}
 use lib.ListN.{length, get_or, take, drop, drop_of_length-le}
 use lib.Seq.{drop-cons}
 use lib.Dec.{eqb}
+use native.Mathlib.Nat.{eq-or-lt_of_le}
 use native.Mathlib.Omega.{arith}
 use native.Mathlib.Numerals.{add-one}
-use borrow.Author.Tests.{eqb-true, eqb-false, eq-eqb, ne_eqb}
+use borrow.Author.Tests.{eqb-true, eqb-false, eq-eqb, ne_eqb, le-ltb, lt-ltb}
 use Rattle.fields.specs.Choice.{pick}
 use Rattle.fields.specs.Order.{order_of, common}
+use Rattle.std.specs.declared.cmp.Ordering.TheVariants.{Less, Equal, Greater}
 use Rattle.fields.proofs.Orders.{order-self}
 
 pub common-left : (a b : List ℕ) → common a b ≤ length a
@@ -91,6 +93,26 @@ module _ (a b : List ℕ) (i : ℕ) where
   unfolding common
   front_ends (inl e) = let h : length a ≤ i = omega arith in rw (drop_of_length-le a)
   front_ends (inr e) = let h : length b ≤ i = omega arith in rw (drop_of_length-le b) (common-none (drop i a))
+
+-- what the byte after the common front decides
+module _ (a b : List ℕ) (i : ℕ) (front : i ≡ common a b) where
+  ordered : order_of a b ≡ order_of (drop i a) (drop i b)
+  ordered = rw front (order-common a b)
+
+  pub order-ends : length a ≤ i → length b ≤ i → order_of a b ≡ Equal
+  unfolding order_of
+  order-ends h k = ordered ∙ rw (drop_of_length-le a, drop_of_length-le b)
+
+  pub order-lower : i < length a → i < length b → get_or a i 0 < get_or b i 0 → order_of a b ≡ Less
+  unfolding order_of
+  order-lower h k l = ordered ∙ rw (drop-cons a i 0, drop-cons b i 0, lt-ltb (get_or a i 0) (get_or b i 0) l)
+
+  pub order-higher : i < length a → i < length b → get_or b i 0 ≤ get_or a i 0 → order_of a b ≡ Greater
+  unfolding order_of
+  order-higher h k l =
+      let n : get_or a i 0 ≡ get_or b i 0 → ⊥ = rw (← front) at (common-differs a b) (omega arith) (omega arith) in
+      let g : get_or b i 0 < get_or a i 0 = ⊎_elim (λ (e : get_or b i 0 ≡ get_or a i 0). absurd (n (sym e))) (λ (e : get_or b i 0 < get_or a i 0). e) (eq-or-lt_of_le l) in
+      ordered ∙ rw (drop-cons a i 0, drop-cons b i 0, le-ltb (get_or a i 0) (get_or b i 0) l, lt-ltb (get_or b i 0) (get_or a i 0) g)
 
 -- what two lists begin with alike, and what they have in common behind it
 pub common-prefix : (xs a b : List ℕ) → common (xs ++ a) (xs ++ b) ≡ length xs + common a b
