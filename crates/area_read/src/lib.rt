@@ -20,28 +20,18 @@ use index_step::BUFFER;
 use interval_read::Opened;
 use measures::Measures;
 
-// An entry's interval as it was seen: sound in its role or not, and how many records it has.
-#[derive(Clone, Copy)]
-pub struct Seen {
-    pub ok: bool,
-    pub count: usize,
-}
-
 // The lowest unsound number so far, and how many records were counted.
 #[derive(Clone, Copy)]
-pub struct Tally {
-    pub worst: usize,
-    pub records: usize,
+pub(crate) struct Tally {
+    pub(crate) worst: usize,
+    pub(crate) records: usize,
 }
 
 // The lowest number met, when one more was seen.
 pub(crate) fn noted(worst: usize, number: usize, ok: bool) -> usize
     ensures { result ≡ pick ok worst (min number worst) }
 {
-    if ok {
-        return worst;
-    }
-    if number < worst { number } else { worst }
+    if ok { worst } else { worst.min(number) }
 }
 
 // The lowest of the free intervals that are not empty and sound, or n.
@@ -60,21 +50,13 @@ pub(crate) fn free_worst(area: &[u8], ib: &[u8], m: Measures, n: usize, free: us
     worst
 }
 
-// The second half of an entry's judgement: its own bound.
-pub(crate) fn closed(ci: &[u8], m: Measures, opened: Option<Opened>, high: &[u8]) -> Seen
+// The second half of an entry's judgement: its own bound. How many records it has; none where it is unsound in its role.
+pub(crate) fn closed(ci: &[u8], m: Measures, opened: Option<Opened>, high: &[u8]) -> Option<usize>
     requires { Checkable m ci.now × Inside m ci.now opened × (length high.now ≤ m.key) }
     ensures { Closed m ci.now (bound m.key high.now) opened result }
 {
-    match opened {
-        Some(Opened { count, last }) => Seen {
-            ok: interval_read::closes(ci, m, count, last, high),
-            count,
-        },
-        None => Seen {
-            ok: false,
-            count: 0,
-        },
-    }
+    let Opened { count, last } = opened?;
+    interval_read::closes(ci, m, count, last, high).then_some(count)
 }
 
 // The lowest of the intervals in use that are unsound in their role, or `worst` where that is lower; and the records counted.
@@ -108,8 +90,8 @@ pub(crate) fn used_worst(
         p = index_step::past(ib, s, p);
         let len = p.len;
         let seen = closed(&area[a..e], m, opened, &buf[..len]);
-        lowest = noted(lowest, s.number, seen.ok);
-        records += seen.count;
+        lowest = noted(lowest, s.number, seen.is_some());
+        records += seen.unwrap_or(0);
     }
     Tally {
         worst: lowest,

@@ -1,4 +1,4 @@
-use Prim.Native.Nat.{◌-◌, ◌≤◌, ◌<◌}
+use Prim.Native.Nat.{◌<◌}
 use mathlib.Core.Path.{◌≡◌, sym, ◌∙◌}
 use mathlib.Core.List.{[]}
 use lib.ListN.{length, take}
@@ -17,7 +17,7 @@ use Rattle.index_step.proofs.Stepping.{entries-count}
 use Rattle.area.specs.Content.{data_in}
 use Rattle.area.proofs.Places.{data-ends, data-small, length-lent, lent-data}
 use Rattle.area_read.specs.AidEntries.{Closed}
-use Rattle.area_read.proofs.Entries.{setting-out, arrived, entry-lies, within, before-inside, before-long, before-short, renew-fits, past_fits, own-inside, own-long, own-short, seen_few, onward}
+use Rattle.area_read.proofs.Entries.{setting-out, arrived, entry-lies, within, before-short, renew-fits, past_fits, own-inside, own-long, own-short, seen_few, onward}
 use Rattle.area_read.proofs.used_worst.Goals as goal
 use Rattle.area_read.proofs.used_worst.Goals.{After-entry_at-s, After-opens-opened, After-closed-seen}
 
@@ -144,7 +144,7 @@ pub loop-i-preserved : goal.loop-i-preserved
 loop-i-preserved c =
     let a = c.args in
     let o = c.loop-i in
-    rw c.noted-lowest.ensures
+    rw (c.noted-lowest.ensures, c.is_some.ensures, c.unwrap_or-records.ensures)
     (onward a.m a.n a.area.now a.ib.now a.worst o.buf o.high o.p o.i o.lowest o.records o.invariant (omega (arith, c.requires.3, c.loop-i-test.true)) c.entry_at-s.result (stepped (goal.at.loop-i-preserved c).After-entry_at-s)
     c.renew.new.buf c.renew.new.high c.past-p.result c.renew.ensures c.past-p.ensures (c.renew.auto.buf ∙ o.invariant.whole)
     c.requires.0 c.opens-opened.result c.closed-seen.result (opened-is (goal.at.loop-i-preserved c).After-opens-opened (inside (goal.at.loop-i-preserved c).After-entry_at-s)) (closed_is (goal.at.loop-i-preserved c).After-closed-seen (inside (goal.at.loop-i-preserved c).After-entry_at-s)) (c.renew.auto.high ∙ o.invariant.whole'))
