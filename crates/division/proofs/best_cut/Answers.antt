@@ -1,13 +1,12 @@
 use Rattle.division.proofs.best_cut.Lts
 use Rattle.division.proofs.best_cut.Reads
 use Rattle.division.proofs.best_cut.Tie
-use Prim.Native.Nat.{ℕ, ◌≤◌, ◌<◌, ◌-◌, ◌+◌}
-use mathlib.Core.Path.{◌≡◌, ap, ◌∙◌}
-use lib.ListN.{length, get_or}
+use Prim.Native.Nat.{ℕ, ◌≤◌, ◌<◌, ◌+◌}
+use mathlib.Core.Path.{◌∙◌}
+use lib.ListN.{get_or}
 use native.Mathlib.Omega.{arith}
 use Rattle.room.proofs.Steps.{also-bytes, also-rdfs}
-use Rattle.division.specs.Division.{best_to, best_cut}
-use Rattle.division.proofs.Turns.{holds-start, holds-bytes, holds-need, holds_on}
+use Rattle.division.proofs.Turns.{holds-start, holds-bytes, holds-need, holds_on, none-best, some-best}
 use Rattle.division.proofs.best_cut.Goals as goal
 
 abbrev After-add-state : Type 0
@@ -69,10 +68,14 @@ loop-i-preserved c =
     holds_on a.s a.lens.now p.i p.left p.bytes p.need p.best p.invariant c.ahead_at-a.result c.ahead_at-a.ensures
     (omega arith) (elem c.before.before) c.add-left.result c.add-left.ensures c.weigh-best.result c.weigh-best.ensures
 
+pub returns-in_err-best : goal.returns-in_err-best
+returns-in_err-best c =
+    let p = c.loop-i in
+    let a = c.args in
+    c.from_residual.ensures ∙ none-best a.s a.lens.now p.i (omega arith) p.best p.invariant.known c.in_err-best.was
+
 pub returns : goal.returns
-unfolding best_cut
 returns c =
     let p = c.loop-i in
     let a = c.args in
-    let e : p.i ≡ length a.lens.now - 1 = omega arith in
-    p.invariant.known.cut ∙ ap (best_to a.s a.lens.now) e
+    some-best a.s a.lens.now p.i (omega arith) p.best p.invariant.known c.in_ok-best.field-0 c.in_ok-best.was

@@ -1,5 +1,5 @@
 -- Invariant: left is the room of the first i lengths; bytes and need are the bytes and the need of the others (record Holds).
--- best is the best of the cuts 1 to i, or 0 where none of them fits, with what its parts differ in.
+-- best is the best of the cuts 1 to i, with what its parts differ in; none where none of them fits.
 -- Bounds on the bytes, the RDFs and the need keep the sums in a usize.
 -- holds-start: nothing is left of the first cut. holds_on: one length goes from the right part to the left one, and the cut after it is weighed.
 use Rattle.division.proofs.Turns.{Holds}
