@@ -1,5 +1,5 @@
 -- What a caller may count on at either door, whatever it asks with.
-use Rattle.std.specs.Prelude.{Ok, Err}
+use Rattle.std.specs.Prelude.{Ok, Err, Option, Some, None}
 use Prim.Native.Nat.{ℕ, ◌≤◌}
 use mathlib.Core.Path.{◌≡◌, refl}
 use mathlib.Core.List.{List}
@@ -21,7 +21,7 @@ use Rattle.ask.specs.declared.ReadKind.TheVariants.{Check, Get, GetAt, WalkFrom,
 use Rattle.ask.specs.declared.ChangeKind.{ChangeKind}
 use Rattle.ask.specs.declared.ChangeKind.TheVariants.{Insert, Update, Erase}
 use Rattle.ask.specs.declared.Asked.{Asked}
-use Rattle.ask.specs.declared.Asked.TheVariants.{Reads, Changes, Nothing}
+use Rattle.ask.specs.declared.Asked.TheVariants.{Reads, Changes}
 use Rattle.ask.specs.Told.{begun_told}
 use Rattle.ask.specs.Kinds.{asked_of}
 use Rattle.ask.specs.Asking.{Question, number_at, measures_in, upwards, place_from, record_given, telling, read_made, change_made, not_served, read_asked, read_of, ask_asked, ask_of}
@@ -65,28 +65,28 @@ module _ (kind : ℕ) (q : Question) (values : List ℕ) where
   pub ask-255 : (ask_of kind q values).number ≡ 255 → ask_of kind q values ≡ not_served q values
   ask-255 = go (asked_of kind q.numbers (length values))
     where
-      go : (a : Asked) → (ask_asked a q values).number ≡ 255 → ask_asked a q values ≡ not_served q values
-      go (Reads k) e = absurd (omega (arith, read-few k q))
-      go (Changes k) e = absurd (omega (arith, change-few k q))
-      go Nothing e = refl
+      go : (a : Option Asked) → (ask_asked a q values).number ≡ 255 → ask_asked a q values ≡ not_served q values
+      go (Some (Reads k)) e = absurd (omega (arith, read-few k q))
+      go (Some (Changes k)) e = absurd (omega (arith, change-few k q))
+      go None e = refl
 
   pub read-255 : (read_of kind q values).number ≡ 255 → read_of kind q values ≡ not_served q values
   read-255 = go (asked_of kind q.numbers (length values))
     where
-      go : (a : Asked) → (read_asked a q values).number ≡ 255 → read_asked a q values ≡ not_served q values
-      go (Reads k) e = absurd (omega (arith, read-few k q))
-      go (Changes k) e = refl
-      go Nothing e = refl
+      go : (a : Option Asked) → (read_asked a q values).number ≡ 255 → read_asked a q values ≡ not_served q values
+      go (Some (Reads k)) e = absurd (omega (arith, read-few k q))
+      go (Some (Changes k)) e = refl
+      go None e = refl
 
   -- ---- what the door that reads serves, the other one serves so
 
   pub read-is-ask : ((read_of kind q values).number ≡ 255 → ⊥) → ask_of kind q values ≡ read_of kind q values
   read-is-ask = go (asked_of kind q.numbers (length values))
     where
-      go : (a : Asked) → ((read_asked a q values).number ≡ 255 → ⊥) → ask_asked a q values ≡ read_asked a q values
-      go (Reads k) e = refl
-      go (Changes k) e = absurd (e refl)
-      go Nothing e = refl
+      go : (a : Option Asked) → ((read_asked a q values).number ≡ 255 → ⊥) → ask_asked a q values ≡ read_asked a q values
+      go (Some (Reads k)) e = refl
+      go (Some (Changes k)) e = absurd (e refl)
+      go None e = refl
 
 -- ---- a walk that the door begins is the one that is meant: document 02, L1
 

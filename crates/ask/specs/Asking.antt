@@ -1,5 +1,5 @@
 -- What each request, asked through the door, answers and leaves: its number, both areas, the output and the values.
-use Rattle.std.specs.Prelude.{ℕ, ◌+◌, Bool, List, [], ◌∷◌, length, get_or, eqb, Err}
+use Rattle.std.specs.Prelude.{ℕ, ◌+◌, Bool, List, [], ◌∷◌, length, get_or, eqb, Err, Option, Some, None}
 use Rattle.fields.specs.Bytes.{splice}
 use Rattle.measures.specs.Judgement.{asked}
 use Rattle.measures.specs.declared.Measures.{Measures}
@@ -17,7 +17,7 @@ use Rattle.ask.specs.declared.ReadKind.TheVariants.{Check, Get, GetAt, WalkFrom,
 use Rattle.ask.specs.declared.ChangeKind.{ChangeKind}
 use Rattle.ask.specs.declared.ChangeKind.TheVariants.{Insert, Update, Erase}
 use Rattle.ask.specs.declared.Asked.{Asked}
-use Rattle.ask.specs.declared.Asked.TheVariants.{Reads, Changes, Nothing}
+use Rattle.ask.specs.declared.Asked.TheVariants.{Reads, Changes}
 use Rattle.ask.specs.Told.{told_of, place_told, begun_told, listed}
 use Rattle.ask.specs.Kinds.{asked_of}
 
@@ -121,19 +121,19 @@ abbrev pub served : Made → List ℕ → Left
 served m values = left m.told.number m.area m.second m.out (splice values 0 (listed m.told))
 
 -- the door for requests that only read
-abbrev pub read_asked : Asked → Question → List ℕ → Left
-read_asked (Reads k) q values = served (read_made k q) values
-read_asked (Changes k) q values = not_served q values
-read_asked Nothing q values = not_served q values
+abbrev pub read_asked : Option Asked → Question → List ℕ → Left
+read_asked (Some (Reads k)) q values = served (read_made k q) values
+read_asked (Some (Changes k)) q values = not_served q values
+read_asked None q values = not_served q values
 
 abbrev pub read_of : ℕ → Question → List ℕ → Left
 read_of kind q values = read_asked (asked_of kind q.numbers (length values)) q values
 
 -- the door for every request
-abbrev pub ask_asked : Asked → Question → List ℕ → Left
-ask_asked (Reads k) q values = served (read_made k q) values
-ask_asked (Changes k) q values = served (change_made k q) values
-ask_asked Nothing q values = not_served q values
+abbrev pub ask_asked : Option Asked → Question → List ℕ → Left
+ask_asked (Some (Reads k)) q values = served (read_made k q) values
+ask_asked (Some (Changes k)) q values = served (change_made k q) values
+ask_asked None q values = not_served q values
 
 abbrev pub ask_of : ℕ → Question → List ℕ → Left
 ask_of kind q values = ask_asked (asked_of kind q.numbers (length values)) q values

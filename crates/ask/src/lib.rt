@@ -37,18 +37,17 @@ pub enum ChangeKind {
     Erase,
 }
 
-// What is asked for; nothing where it is not there.
+// What is asked for.
 #[derive(Clone, Copy)]
 pub enum Asked {
     Reads(ReadKind),
     Changes(ChangeKind),
-    Nothing,
 }
 
-// What is said of a kind: which request it is, how many numbers it must have, and whether the fifth is a direction.
+// What is said of a kind: which request it is, if any, how many numbers it must have, and whether the fifth is a direction.
 #[derive(Clone, Copy)]
 pub struct Row {
-    pub asks: Asked,
+    pub asks: Option<Asked>,
     pub numbers: usize,
     pub directed: bool,
 }
@@ -192,7 +191,7 @@ pub(crate) fn place_in(numbers: &[u64], from: usize) -> Place
 }
 
 // A row of the table.
-pub(crate) fn kind_row(asks: Asked, numbers: usize, directed: bool) -> Row
+pub(crate) fn kind_row(asks: Option<Asked>, numbers: usize, directed: bool) -> Row
     ensures { result ≡ row asks numbers directed }
 {
     Row {
@@ -207,36 +206,36 @@ pub(crate) fn row_of(kind: u64) -> Row
     ensures { result ≡ row_of kind }
 {
     match kind {
-        1 => kind_row(Asked::Reads(ReadKind::Check), 4, false),
-        2 => kind_row(Asked::Reads(ReadKind::Get), 4, false),
-        3 => kind_row(Asked::Reads(ReadKind::GetAt), 5, false),
-        4 => kind_row(Asked::Changes(ChangeKind::Insert), 4, false),
-        5 => kind_row(Asked::Changes(ChangeKind::Update), 4, false),
-        6 => kind_row(Asked::Changes(ChangeKind::Erase), 4, false),
-        7 => kind_row(Asked::Reads(ReadKind::WalkFrom), 5, true),
-        8 => kind_row(Asked::Reads(ReadKind::WalkEnd), 5, true),
-        9 => kind_row(Asked::Reads(ReadKind::Step), 12, true),
-        10 => kind_row(Asked::Reads(ReadKind::Record), 11, false),
-        _ => kind_row(Asked::Nothing, 0, false),
+        1 => kind_row(Some(Asked::Reads(ReadKind::Check)), 4, false),
+        2 => kind_row(Some(Asked::Reads(ReadKind::Get)), 4, false),
+        3 => kind_row(Some(Asked::Reads(ReadKind::GetAt)), 5, false),
+        4 => kind_row(Some(Asked::Changes(ChangeKind::Insert)), 4, false),
+        5 => kind_row(Some(Asked::Changes(ChangeKind::Update)), 4, false),
+        6 => kind_row(Some(Asked::Changes(ChangeKind::Erase)), 4, false),
+        7 => kind_row(Some(Asked::Reads(ReadKind::WalkFrom)), 5, true),
+        8 => kind_row(Some(Asked::Reads(ReadKind::WalkEnd)), 5, true),
+        9 => kind_row(Some(Asked::Reads(ReadKind::Step)), 12, true),
+        10 => kind_row(Some(Asked::Reads(ReadKind::Record)), 11, false),
+        _ => kind_row(None, 0, false),
     }
 }
 
 // What is asked for; nothing where there are too few values or numbers, or a direction is neither 0 nor 1.
-pub(crate) fn asked_of(kind: u64, numbers: &[u64], values: usize) -> Asked
+pub(crate) fn asked_of(kind: u64, numbers: &[u64], values: usize) -> Option<Asked>
     ensures { result ≡ asked_of kind numbers.now values }
 {
     if values < 8 {
-        return Asked::Nothing;
+        return None;
     }
     let row = row_of(kind);
     if numbers.len() < row.numbers {
-        return Asked::Nothing;
+        return None;
     }
     if !row.directed {
         return row.asks;
     }
     if 1 < at(numbers, 4) {
-        return Asked::Nothing;
+        return None;
     }
     row.asks
 }
@@ -339,7 +338,7 @@ pub extern "C" fn belquita_read(
         ≡ read_of kind (question numbers.now area.now second.now
         given.now out.old) values.old }
 {
-    let Asked::Reads(k) = asked_of(kind, numbers, values.len()) else {
+    let Some(Asked::Reads(k)) = asked_of(kind, numbers, values.len()) else {
         return 255;
     };
     let t = read(k, numbers, area, second, given, out);
@@ -362,7 +361,7 @@ pub extern "C" fn belquita_ask(
         ≡ ask_of kind (question numbers.now area.old second.old
         given.now out.old) values.old }
 {
-    let Asked::Changes(k) = asked_of(kind, numbers, values.len()) else {
+    let Some(Asked::Changes(k)) = asked_of(kind, numbers, values.len()) else {
         return belquita_read(kind, numbers, area, second, given, out, values);
     };
     let t = change(k, numbers, area, second, given, out);
