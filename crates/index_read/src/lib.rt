@@ -479,12 +479,10 @@ pub(crate) fn mark_entries(
         let Some(stop) = walk_inner(seen, &mut buf, ib, key, leg, by) else {
             return None;
         };
-        let q = stop.p;
-        let l = stop.left;
-        let aim = aimed(key, ib, q, by, reach);
+        let aim = aimed(key, ib, stop.p, by, reach);
         let meets = if reach == 0 { false } else { aim == 0 };
-        keep(before, &buf, q.len, meets);
-        let Some(s) = next_entry(&mut buf, &mut high, l == by.count, ib, q, by) else {
+        keep(before, &buf, stop.p.len, meets);
+        let Some(s) = next_entry(&mut buf, &mut high, stop.left == by.count, ib, stop.p, by) else {
             return None;
         };
         let number = s.number;
@@ -495,13 +493,13 @@ pub(crate) fn mark_entries(
             return None;
         }
         seen[number] = 1;
-        p = index_step::past(ib, s, q);
-        left = l - 1;
+        p = index_step::past(ib, s, stop.p);
+        left = stop.left - 1;
         if meets {
             spot = Lead {
-                ordinal: by.count - l,
+                ordinal: by.count - stop.left,
                 number,
-                before: q.len,
+                before: stop.p.len,
                 own: p.len,
             };
         }
