@@ -7,7 +7,7 @@ use lib.ListN.{length, take}
 use lib.Seq.{length-take-le}
 use lib.Dec.{ltb}
 use native.Mathlib.Omega.{arith}
-use native.Mathlib.Nat.{le-div_iff_mul-le, mul-le-mul_left, mul-le-mul_right, div-mul-le_self}
+use native.Mathlib.Nat.{le-div_iff_mul-le, mul-le-mul_right, div-mul-le_self}
 use borrow.Author.Tests.{ltb-false, eq-eqb, ne_eqb, lt-ltb, le-ltb, lt-leb, le-leb}
 use denote.Ref.{Bor}
 use Rattle.std.specs.Prelude.{Option, Some, None}
@@ -25,7 +25,7 @@ use Rattle.index_walk.specs.declared.Edge.{Edge}
 use Rattle.index_walk.specs.AidPasses.{edge, edge_first, pass_of, met}
 use Rattle.walk.specs.declared.Place.{Place}
 use Rattle.walk.specs.declared.Filled.{Filled}
-use Rattle.walk.specs.AidSteps.{end_place, count_in, index_at, data_at, placed_of, placed_or, Among, beyond_of, edge_past_of, ahead_of, filled, filled_from, last_filled_of, behind_at, along_to, along_of, edge_in, spot_in, leave_in, leave_of, next_of, outside, Shown, behind_of, end_in}
+use Rattle.walk.specs.AidSteps.{end_place, count_in, index_at, data_at, placed_of, placed_or, Among, beyond_of, edge_past_of, ahead_of, filled, filled_from, along_to, along_of, edge_in, spot_in, leave_in, leave_of, next_of, outside, Shown, behind_of, end_in}
 use Rattle.walk.specs.AidStands.{FirstFrom}
 
 -- ---- how many intervals
@@ -204,23 +204,6 @@ module _ (area : List ℕ) (size n i k : ℕ) (e : Edge) (f : Option Filled) whe
         pub filled-few : g ≡ Some (filled i num) → Among n g
         filled-few q = rw q h
 
-pub filled-start : (area : List ℕ) (size n k : ℕ) (e : Edge) → e ≡ edge_first (index_at size area) → last_filled_of area size n k ≡ filled_from (k - 0) area size n 0 e None
-filled-start area size n k e is = let z : k - 0 ≡ k = omega arith in rw (z, is)
-
-module _ (area : List ℕ) (size : ℕ) (x : Option Filled) where
-  pub behind-none : x ≡ None → end_place ≡ behind_at area size x
-  behind-none h = rw h
-
-  module _ (f : Filled) (h : x ≡ Some f) (t : Option Spot) (is : t ≡ last_of (data_at size area f.number)) where
-    behind-in : placed_or end_place t ((f.number + 1) * size) f.entry (edge 0 0) ≡ behind_at area size x
-    behind-in = rw (h, is)
-
-    pub behind-is : (s : Spot) → t ≡ Some s → placed_of s ((f.number + 1) * size) f.entry (edge 0 0) ≡ behind_at area size x
-    behind-is s k = or-here end_place t ((f.number + 1) * size) f.entry (edge 0 0) s k ∙ behind-in
-
-    pub behind-empty : t ≡ None → end_place ≡ behind_at area size x
-    behind-empty k = or-other end_place t ((f.number + 1) * size) f.entry (edge 0 0) k ∙ behind-in
-
 -- its interval is one of n
 pub among-few : (n : ℕ) (x : Option Filled) (f : Filled) → Among n x → x ≡ Some f → f.number < n
 among-few n x f a e = rw e at a
@@ -256,10 +239,6 @@ starts-at n x s h e = rw e at h
 -- where the last record of an interval begins, whatever its bytes are
 pub last-starts : (ci : List ℕ) → Octets ci → (s : Spot) → last_of ci ≡ Some s → s.start < 65536
 last-starts ci o s e = omega (arith, starts-at (displacement ci) (last_of ci) s (last-start ci) e, number-below 2 ci (length ci - 4) o)
-
--- there are fewer intervals than bytes
-pub intervals-few : (size n long : ℕ) → 512 ≤ size → (n + 1) * size ≤ long → n + 1 ≤ long
-intervals-few size n long h k = let l : 1 ≤ size = omega arith in omega (arith, mul-le-mul_left (n + 1) l)
 
 -- an interval whose number and one is so much ends within the area
 pub place-ends : (size n long place : ℕ) → (n + 1) * size ≤ long → place ≤ n → place * size + size ≤ long
