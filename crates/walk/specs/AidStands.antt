@@ -1,5 +1,5 @@
 -- Aids: where a walk stands in a sound area. `walk_of` of crate requests says which records come: document 02, L1.
-use Rattle.std.specs.Prelude.{ℕ, suc, ◌+◌, ◌-◌, ◌*◌, ◌≤◌, ◌<◌, ◌≡◌, Bool, true, false, List, [], length, get_or, take, Ok, Err}
+use Rattle.std.specs.Prelude.{ℕ, suc, ◌+◌, ◌-◌, ◌*◌, ◌≤◌, ◌<◌, ◌≡◌, Bool, true, false, List, [], length, get_or, take, Option, None, Ok, Err}
 use Rattle.fields.specs.Choice.{pick}
 use Rattle.measures.specs.Judgement.{width_for, judged_of, passed}
 use Rattle.measures.specs.declared.Measures.{Measures}
@@ -13,7 +13,7 @@ use Rattle.area.specs.Content.{Filled, Content, index_in, data_in, records_of}
 use Rattle.area.specs.Reading.{read_area, whole}
 use Rattle.area_find.specs.declared.KeyPlace.{KeyPlace}
 use Rattle.interval_walk.specs.declared.Spot.{Spot}
-use Rattle.interval_walk.specs.AidSpots.{SpotOf}
+use Rattle.interval_walk.specs.AidSpots.{SpotOf, StepTo}
 use Rattle.index_walk.specs.declared.Edge.{Edge}
 use Rattle.index_walk.specs.AidPasses.{edge}
 use Rattle.requests.specs.Walks.{Walk, refused_with, giving, walk_from_of}
@@ -82,8 +82,8 @@ upto_found (found.At i start len) = i + 1
 upto_found (found.Gap i start) = i
 
 -- the record of an ordinal, or none past the last
-abbrev pub FirstFrom : Measures → List ℕ → ℕ → Spot → Type 0
-FirstFrom m ci o s = (o < length (records_in ci) → SpotOf m ci true s o) × (o ≡ length (records_in ci) → s.len ≡ 0)
+abbrev pub FirstFrom : Measures → List ℕ → ℕ → Option Spot → Type 0
+FirstFrom m ci o s = (o < length (records_in ci) → StepTo m ci true s o) × (o ≡ length (records_in ci) → s ≡ None)
 
 -- of all records, how many lie before the first at or above the bytes given; how many are at or below them
 abbrev pub begins_from : Measures → Bool → List ℕ → List (List ℕ) → ℕ

@@ -11,7 +11,7 @@ ghost use Rattle.area.specs.Content.{records_of};
 ghost use Rattle.area_find.specs.AidSought.{Whole};
 ghost use Rattle.requests.specs.Walks.{walk_from_of, walk_end_of};
 ghost use Rattle.opening.specs.AidOpened.{opened_of};
-ghost use Rattle.walk.specs.AidSteps.{end_place, count_in, placed_of, edge_past_of, ahead_of, last_filled_of, behind_of, along_to, along_of, leave_of, next_of, Shown, end_in};
+ghost use Rattle.walk.specs.AidSteps.{end_place, count_in, placed_of, edge_past_of, ahead_of, last_filled_of, Among, behind_of, along_to, along_of, leave_of, next_of, Shown, end_in};
 ghost use Rattle.walk.specs.AidGives.{Begins};
 ghost use Rattle.walk.specs.AidStands.{before, StoodIn, Sits, from_found, upto_found, FirstFrom, begins_from, BeginsAt, ended_by};
 ghost use Rattle.walk.specs.AidStands.{begun_from};
@@ -65,14 +65,11 @@ pub(crate) fn count_of(long: usize, size: usize) -> usize
     long / size - 1
 }
 
-// A record of the interval that begins at `base`; no place where there is none.
+// A record of the interval that begins at `base`.
 pub(crate) fn placed(s: Spot, base: usize, entry: usize, next: Edge) -> Place
     requires { base + s.start < 2 ^ 64 }
     ensures { result ≡ placed_of s base entry next }
 {
-    if s.len == 0 {
-        return ended();
-    }
     Place {
         entry,
         start: base + s.start,
@@ -109,8 +106,7 @@ pub(crate) fn ahead(area: &[u8], size: usize, n: usize, entry: usize, from: Edge
         };
         let a = (number + 1) * size;
         let z = a + size;
-        let s = interval_walk::first(&area[a..z]);
-        if 0 < s.len {
+        if let Some(s) = interval_walk::first(&area[a..z]) {
             return placed(s, a, i, beyond);
         }
         e = beyond;
@@ -118,22 +114,22 @@ pub(crate) fn ahead(area: &[u8], size: usize, n: usize, entry: usize, from: Edge
     ended()
 }
 
-// An entry whose interval has records, by its ordinal and its interval's number and one; 0 for none.
+// An entry whose interval has records, by its ordinal and its interval's number.
 #[derive(Clone, Copy)]
 pub(crate) struct Filled {
     pub entry: usize,
-    pub place: usize,
+    pub number: usize,
 }
 
 // The last entry of the first so many, of n intervals, whose interval has records: one pass over the index record.
-pub(crate) fn last_filled(area: &[u8], size: usize, n: usize, entries: usize) -> Filled
+pub(crate) fn last_filled(area: &[u8], size: usize, n: usize, entries: usize) -> Option<Filled>
     requires { (512 ≤ size) × ((n + 1) * size ≤ length area.now) }
     ensures is { result ≡ last_filled_of area.now size n entries }
-    ensures inside { result.place ≤ n }
+    ensures inside { Among n result }
 {
     let w = measures::width_for(n);
     let mut e = index_walk::start(&area[..size]);
-    let mut found = Filled { entry: 0, place: 0 };
+    let mut found = None;
     for i in 0..entries {
         let Some(met) = index_walk::pass(&area[..size], w, e) else {
             return found;
@@ -144,10 +140,7 @@ pub(crate) fn last_filled(area: &[u8], size: usize, n: usize, entries: usize) ->
         }
         let z = (number + 2) * size;
         if fields::read::<2>(area, z - 4) != 0 {
-            found = Filled {
-                entry: i,
-                place: number + 1,
-            };
+            found = Some(Filled { entry: i, number });
         }
         e = met.next;
     }
@@ -159,14 +152,16 @@ pub(crate) fn behind(area: &[u8], size: usize, n: usize, entries: usize) -> Plac
     requires { (512 ≤ size) × ((n + 1) * size ≤ length area.now) }
     ensures { result ≡ behind_of area.now size n entries }
 {
-    let f = last_filled(area, size, n, entries);
-    if f.place == 0 {
+    let Some(Filled { entry, number }) = last_filled(area, size, n, entries) else {
         return ended();
-    }
-    let a = f.place * size;
+    };
+    let a = (number + 1) * size;
     let z = a + size;
+    let Some(s) = interval_walk::last(&area[a..z]) else {
+        return ended();
+    };
     let none = Edge { right: 0, end: 0 };
-    placed(interval_walk::last(&area[a..z]), a, f.entry, none)
+    placed(s, a, entry, none)
 }
 
 // The record of the same run that begins at a byte of the area.
@@ -227,14 +222,12 @@ pub(crate) fn leave(area: &[u8], size: usize, forward: bool, p: Place) -> Place
         end: p.end,
     };
     if forward {
-        let s = interval_walk::after(&area[a..z], here);
-        if 0 < s.len {
+        if let Some(s) = interval_walk::after(&area[a..z], here) {
             return placed(s, a, p.entry, next);
         }
         return ahead(area, size, n, p.entry + 1, next);
     }
-    let s = interval_walk::before(&area[a..z], here);
-    if 0 < s.len {
+    if let Some(s) = interval_walk::before(&area[a..z], here) {
         return placed(s, a, p.entry, next);
     }
     behind(area, size, n, p.entry)
@@ -301,17 +294,17 @@ pub(crate) fn from_above(area: &[u8], m: Measures, n: usize, sought: KeyPlace) -
             ordinal,
             start: _,
             length: _,
-        } => interval_walk::spot_at(&area[a..z], m, ordinal, true),
+        } => Some(interval_walk::spot_at(&area[a..z], m, ordinal, true)),
         Found::Gap { ordinal, start: _ } => first_from(&area[a..z], m, ordinal),
     };
-    if 0 < s.len {
+    if let Some(s) = s {
         return placed(s, a, entry, next);
     }
     ahead(area, size, n, entry + 1, next)
 }
 
 // The record of a sound interval whose ordinal is so much, none past the last.
-pub(crate) fn first_from(ci: &[u8], m: Measures, ordinal: usize) -> Spot
+pub(crate) fn first_from(ci: &[u8], m: Measures, ordinal: usize) -> Option<Spot>
     requires { Readable m ci.now × (ordinal ≤ length (records_in ci.now)) }
     ensures { FirstFrom m ci.now ordinal result }
 {

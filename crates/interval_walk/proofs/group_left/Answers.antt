@@ -7,17 +7,17 @@ use Rattle.interval_walk.proofs.group_left.Goals as goal
 pub returns-then-q-p : goal.returns-then-q-p
 returns-then-q-p c =
     let a = c.args in
-    c.nothing.ensures ∙ left-none a.ci.now a.start a.q c.rdfs_begin-p.result c.rdfs_begin-p.ensures.is c.if-q-p.true
+    left-none a.ci.now a.start a.q c.rdfs_begin-p.result c.rdfs_begin-p.ensures.is c.if-q-p.true
 
-pub returns-in_default : goal.returns-in_default
-returns-in_default c =
+pub returns-in_err-len : goal.returns-in_err-len
+returns-in_err-len c =
     let a = c.args in
-    c.nothing-in_default.ensures
-    ∙ ap (beginning a.start a.q) (sym c.in_default.is)
+    c.from_residual.ensures
+    ∙ ap (beginning a.start a.q) (sym c.in_err-len.was)
     ∙ left_is a.ci.now a.start a.q c.rdfs_begin-p.result c.rdfs_begin-p.ensures.is c.if-q-p.false _ c.group_before.ensures.is
 
 pub returns : goal.returns
 returns c =
     let a = c.args in
-    ap (beginning a.start a.q) (sym c.in-Some.is)
+    ap (beginning a.start a.q) (sym c.in_ok-len.was)
     ∙ left_is a.ci.now a.start a.q c.rdfs_begin-p.result c.rdfs_begin-p.ensures.is c.if-q-p.false _ c.group_before.ensures.is

@@ -10,8 +10,7 @@ use Rattle.interval_walk.proofs.group_right.Goals.{then-e-q-via-then-e-q, then-e
 pub returns-then-e-q : goal.returns-then-e-q
 returns-then-e-q c =
     let a = c.args in
-    c.nothing.ensures
-    ∙ elim c.then-e-q.branch [
+    elim c.then-e-q.branch [
       | then-e-q-via-then-e-q w ↦ right-past a.ci.now a.end a.q w.if-e-q.true
       | then-e-q-via-else-e-q+then-e-q-lt3 w ↦ right-none a.ci.now a.end a.q w.if-e-q.false w.if-e-q-lt3.true
     ]
@@ -20,7 +19,7 @@ pub returns-then-e-q-lt6 : goal.returns-then-e-q-lt6
 returns-then-e-q-lt6 c =
     let a = c.args in
     let kind = sym c.take_apart.ensures ∙ c.in-Some-Count.is ∙ ap Some c.in-Some-Count.field-0-is in
-    c.nothing-then-e-q-lt6.ensures ∙ right-cut a.ci.now a.end a.q c.if-e-q.false c.if-e-q-lt3.false kind c.if-e-q-lt6.true
+    right-cut a.ci.now a.end a.q c.if-e-q.false c.if-e-q-lt3.false kind c.if-e-q-lt6.true
 
 pub returns-in-Some-Single : goal.returns-in-Some-Single
 returns-in-Some-Single c =
@@ -41,10 +40,9 @@ pub returns-in-Some-Paired : goal.returns-in-Some-Paired
 returns-in-Some-Paired c =
     let a = c.args in
     let kind = sym c.take_apart.ensures ∙ c.in-Some-Paired.is ∙ ap Some c.in-Some-Paired.field-0-is in
-    c.nothing-in-Some-Paired.ensures ∙ right_is a.ci.now a.end a.q c.if-e-q.false c.if-e-q-lt3.false (Some Paired) kind
+    right_is a.ci.now a.end a.q c.if-e-q.false c.if-e-q-lt3.false (Some Paired) kind
 
 pub returns-in-None : goal.returns-in-None
 returns-in-None c =
     let a = c.args in
-    c.nothing-in-None.ensures
-    ∙ right_is a.ci.now a.end a.q c.if-e-q.false c.if-e-q-lt3.false None (sym c.take_apart.ensures ∙ c.in-None.is)
+    right_is a.ci.now a.end a.q c.if-e-q.false c.if-e-q-lt3.false None (sym c.take_apart.ensures ∙ c.in-None.is)

@@ -4,7 +4,7 @@ use Rattle.interval_walk.proofs.Reading.{last-short, last-is}
 use Rattle.interval_walk.proofs.last.Goals as goal
 
 pub returns-then-n-lt4 : goal.returns-then-n-lt4
-returns-then-n-lt4 c = c.nothing.ensures ∙ last-short c.args.ci.now c.if-n-lt4.true
+returns-then-n-lt4 c = last-short c.args.ci.now c.if-n-lt4.true
 
 pub returns : goal.returns
 returns c =

@@ -67,11 +67,11 @@ loop-left-init c =
 pub group_at-requires : goal.group_at-requires
 group_at-requires c = (c.loop-left-test.true, c.loop-left.invariant.0.room)
 
-pub returns-in_default : goal.returns-in_default
-returns-in_default c =
-    absurd (no-damage c.args.m.least c.args.m.most c.args.ci.now c.rdfs_of-rdfs.result.at c.loop-left.left c.loop-left.invariant.0.formed
+pub unreachable-requires : goal.unreachable-requires
+unreachable-requires c =
+    no-damage c.args.m.least c.args.m.most c.args.ci.now c.rdfs_of-rdfs.result.at c.loop-left.left c.loop-left.invariant.0.formed
     c.loop-left-test.true
-    (sym c.in_default.is ∙ c.group_at.ensures.is))
+    (sym c.in_default.is ∙ c.group_at.ensures.is)
 
 pub overflow_add-ordinal : goal.overflow_add-ordinal
 overflow_add-ordinal c = omega (arith, (ends c).1, c.requires.0.small)
@@ -153,9 +153,9 @@ loop-left-preserved c =
       omega (arith, i.4),
     )
 
-pub returns : goal.returns
-returns c =
+pub unreachable-requires-2 : goal.unreachable-requires-2
+unreachable-requires-2 c =
     let i = c.loop-left.invariant in
     let z : c.loop-left.left ≡ 0 = omega (arith, c.loop-left-test.false) in
     let n = passed-all c.args.m c.args.ci.now c.requires.0 c.rdfs_of-rdfs.result.at c.loop-left.left i.0 z in
-    absurd (omega (arith, n.0, i.1, i.3, c.requires.1))
+    omega (arith, n.0, i.1, i.3, c.requires.1)

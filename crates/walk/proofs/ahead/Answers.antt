@@ -1,18 +1,16 @@
-use Prim.Native.Nat.{◌+◌, ◌-◌, ◌*◌, ◌≤◌, ◌<◌}
-use mathlib.Core.Path.{◌≡◌, refl, ◌∙◌, sym, ap}
-use mathlib.Core.Logic.{⊎_elim}
+use Prim.Native.Nat.{◌+◌, ◌*◌}
+use mathlib.Core.Path.{◌≡◌, ◌∙◌, sym, ap}
 use lib.ListN.{length}
 use native.Mathlib.Omega.{arith}
-use borrow.Author.Rules.{rules}
 use Rattle.fields.proofs.Splices.{part-is}
 use Rattle.measures.specs.Judgement.{width_for}
 use Rattle.interval_walk.specs.AidSpots.{first_of}
 use Rattle.interval_walk.proofs.Landing.{first-start}
 use Rattle.index_walk.specs.AidPasses.{edge, pass_of}
 use Rattle.walk.specs.AidSteps.{index_at, data_at, beyond_of}
-use Rattle.walk.proofs.Ways.{beyond-last, beyond-more, ahead_none, ahead-ended, ahead-nothing, ahead-far, ahead-here, ahead-on, interval-ends, index-long}
+use Rattle.walk.proofs.Ways.{beyond-last, beyond-more, ahead_none, ahead-ended, ahead-nothing, ahead-far, ahead-here, ahead-on, interval-ends, starts-at}
 use Rattle.walk.proofs.ahead.Goals as goal
-use Rattle.walk.proofs.ahead.Goals.{After-pass, Joined-met, After-first-s, then-met, else-met}
+use Rattle.walk.proofs.ahead.Goals.{After-pass, Joined-met, After-first, then-met, else-met}
 
 -- what a pass meets there
 met_of : (q : After-pass)
@@ -30,12 +28,12 @@ past-told j =
     elim j.if-met.branch [ then-met x ↦ beyond-last m.last m.next j.if-met.right x.if-met.true x.right-is | else-met x ↦ beyond-more m.last m.next j.if-met.right x.if-met.false x.right-is ]
 
 -- the first record of its interval
-first-told : (d : After-first-s)
-    → d.first-s.result
+first-told : (d : After-first)
+    → d.first.result
     ≡ first_of (data_at d.args.size d.args.area.now d.in-Some.met.number)
 first-told d =
     let a = d.args in
-    d.first-s.ensures ∙ ap first_of (part-is a.area.now ((d.in-Some.met.number + 1) * a.size) a.size)
+    d.first.ensures ∙ ap first_of (part-is a.area.now ((d.in-Some.met.number + 1) * a.size) a.size)
 
 pub returns-then-e-eq0 : goal.returns-then-e-eq0
 returns-then-e-eq0 c =
@@ -61,15 +59,15 @@ returns-then-n-number c =
 pub placed-requires : goal.placed-requires
 placed-requires c =
     let a = c.args in
-    let z : c.first-s.result.start ≤ 0 = rw (first-told (goal.at.placed-requires c).After-first-s) (first-start (data_at a.size a.area.now c.in-Some.met.number)) in
+    let z = starts-at 0 c.first.result c.in-Some-first.s (rw (first-told (goal.at.placed-requires c).After-first) (first-start (data_at a.size a.area.now c.in-Some.met.number))) c.in-Some-first.is in
     omega (arith, interval-ends a.size a.n (length a.area.now) c.in-Some.met.number c.requires.1 c.if-n-number.false, z, c.well_formed)
 
-pub returns-then-s-gt0 : goal.returns-then-s-gt0
-returns-then-s-gt0 c =
+pub returns-in-Some-first : goal.returns-in-Some-first
+returns-in-Some-first c =
     let a = c.args in
     c.placed.ensures
-    ∙ ahead-here a.area.now a.size a.n c.loop-i.i c.loop-i.e c.loop-i-test.true c.if-e-eq0.false c.in-Some.met.number c.in-Some.met.next c.in-Some.met.last (met_of (goal.at.returns-then-s-gt0 c).After-pass ∙ c.in-Some.is) c.if-n-number.false c.first-s.result (first-told (goal.at.returns-then-s-gt0 c).After-first-s)
-    (edge c.if-met.right c.in-Some.met.next.end) (past-told (goal.at.returns-then-s-gt0 c).Joined-met) c.if-s-gt0.true
+    ∙ ahead-here a.area.now a.size a.n c.loop-i.i c.loop-i.e c.loop-i-test.true c.if-e-eq0.false c.in-Some.met.number c.in-Some.met.next c.in-Some.met.last (met_of (goal.at.returns-in-Some-first c).After-pass ∙ c.in-Some.is) c.if-n-number.false c.first.result (first-told (goal.at.returns-in-Some-first c).After-first)
+    (edge c.if-met.right c.in-Some.met.next.end) (past-told (goal.at.returns-in-Some-first c).Joined-met) c.in-Some-first.s c.in-Some-first.is
     ∙ sym c.loop-i.invariant.1
 
 pub loop-i-preserved : goal.loop-i-preserved
@@ -77,8 +75,8 @@ loop-i-preserved c =
     let a = c.args in (
       c.loop-i.invariant.0,
       c.loop-i.invariant.1
-          ∙ ahead-on a.area.now a.size a.n c.loop-i.i c.loop-i.e c.loop-i-test.true c.if-e-eq0.false c.in-Some.met.number c.in-Some.met.next c.in-Some.met.last (met_of (goal.at.loop-i-preserved c).After-pass ∙ c.in-Some.is) c.if-n-number.false c.first-s.result (first-told (goal.at.loop-i-preserved c).After-first-s)
-          (edge c.if-met.right c.in-Some.met.next.end) (past-told (goal.at.loop-i-preserved c).Joined-met) c.if-s-gt0.false,
+          ∙ ahead-on a.area.now a.size a.n c.loop-i.i c.loop-i.e c.loop-i-test.true c.if-e-eq0.false c.in-Some.met.number c.in-Some.met.next c.in-Some.met.last (met_of (goal.at.loop-i-preserved c).After-pass ∙ c.in-Some.is) c.if-n-number.false c.first.result (first-told (goal.at.loop-i-preserved c).After-first)
+          (edge c.if-met.right c.in-Some.met.next.end) (past-told (goal.at.loop-i-preserved c).Joined-met) c.in_default-first.is,
     )
 
 pub returns : goal.returns

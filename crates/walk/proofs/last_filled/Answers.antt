@@ -1,13 +1,8 @@
-use Prim.Native.Nat.{◌+◌, ◌-◌, ◌*◌, ◌≤◌, ◌<◌}
 use mathlib.Core.Path.{◌≡◌, ◌∙◌, sym, ap}
-use mathlib.Core.Logic.{⊎_elim}
-use lib.ListN.{length}
-use native.Mathlib.Omega.{arith}
 use Rattle.measures.specs.Judgement.{width_for}
 use Rattle.index_walk.specs.AidPasses.{pass_of}
-use Rattle.walk.specs.declared.Filled.{Filled}
 use Rattle.walk.specs.AidSteps.{index_at}
-use Rattle.walk.proofs.Ways.{filled-start, filled_none, filled-nothing, filled-far, filled-here, filled-empty, filled-few, interval-ends, intervals-few, index-long}
+use Rattle.walk.proofs.Ways.{filled_none, filled-nothing, filled-far, filled-here, filled-empty, filled-few}
 use Rattle.walk.proofs.last_filled.Goals as goal
 use Rattle.walk.proofs.last_filled.Goals.{After-pass, then-read-ne0, else-read-ne0}
 
@@ -43,7 +38,7 @@ loop-i-preserved c =
     c.read.result c.read.ensures.0 c.if-read-ne0.found in (
       c.loop-i.invariant.0,
       c.loop-i.invariant.1 ∙ elim c.if-read-ne0.branch [ then-read-ne0 x ↦ turn x.if-read-ne0.true x.found-is | else-read-ne0 x ↦ stay x.if-read-ne0.false x.found-is ],
-      elim c.if-read-ne0.branch [ then-read-ne0 x ↦ few x.found-is | else-read-ne0 x ↦ omega (arith, ap (λ (g : Filled). g.place) x.found-is, c.loop-i.invariant.2) ],
+      elim c.if-read-ne0.branch [ then-read-ne0 x ↦ few x.found-is | else-read-ne0 x ↦ rw x.found-is c.loop-i.invariant.2 ],
     )
 
 pub returns : goal.returns
