@@ -103,6 +103,14 @@ module _ (a b : List ℕ) (i : ℕ) (front : i ≡ common a b) where
   unfolding order_of
   order-ends h k = ordered ∙ rw (drop_of_length-le a, drop_of_length-le b)
 
+  pub order-shorter : length a ≤ i → i < length b → order_of a b ≡ Less
+  unfolding order_of
+  order-shorter h k = ordered ∙ rw (drop-cons b i 0, drop_of_length-le a)
+
+  pub order-longer : i < length a → length b ≤ i → order_of a b ≡ Greater
+  unfolding order_of
+  order-longer h k = ordered ∙ rw (drop-cons a i 0, drop_of_length-le b)
+
   pub order-lower : i < length a → i < length b → get_or a i 0 < get_or b i 0 → order_of a b ≡ Less
   unfolding order_of
   order-lower h k l = ordered ∙ rw (drop-cons a i 0, drop-cons b i 0, lt-ltb (get_or a i 0) (get_or b i 0) l)

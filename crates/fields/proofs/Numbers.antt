@@ -37,6 +37,10 @@ number-seam (suc w) b xs ys x i l e h =
 pub number_digits : (w x : ℕ) → x < 256 ^ w → number w (digits w x) 0 ≡ x
 number_digits w x h = number-seam w (digits w x) [] [] x 0 h (sym (append-nil (digits w x))) refl
 
+pub number-byte : (b : List ℕ) (a : ℕ) → number 1 b a ≡ get_or b a 0
+unfolding number
+number-byte b a = let e : a + 0 ≡ a = omega arith in rw e (omega arith)
+
 -- w bytes hold less than 256 ^ w
 pub number-below : (w : ℕ) (b : List ℕ) (a : ℕ) → Octets b → number w b a < 256 ^ w
 unfolding number

@@ -8,6 +8,7 @@ use Rattle.fields.proofs.read_eight.Reads as read-eight
 use Rattle.fields.proofs.read_pointer.Reads as read-pointer
 use Rattle.fields.proofs.write.Reads as write
 use Rattle.fields.proofs.common_front.Reads as common-front
+use Rattle.fields.proofs.compare_bytes.Reads as compare-bytes
 use Rattle.fields.proofs.compare.Reads as compare
 use Rattle.fields.proofs.copy.Reads as copy
 use Rattle.fields.proofs.copy_eight.Reads as copy-eight
@@ -28,6 +29,9 @@ unique-write κs args r s e f p q = agree p q
 
 pub unique-common-front : (κs : _) (args : _) (r s : ℕ) (e f : _) → common-front.Learnt κs args r e → common-front.Learnt κs args s f → r ≡ s
 unique-common-front κs args r s e f p q = agree p.0 q.0
+
+pub unique-compare-bytes : (κs : _) (args : _) (r s : Ordering) (e f : _) → compare-bytes.Learnt κs args r e → compare-bytes.Learnt κs args s f → r ≡ s
+unique-compare-bytes κs args r s e f p q = agree p q
 
 pub unique-compare : (κs : _) (args : _) (r s : Ordering) (e f : _) → compare.Learnt κs args r e → compare.Learnt κs args s f → r ≡ s
 unique-compare κs args r s e f p q = agree p q

@@ -27,11 +27,14 @@ pub fn read_eight(b: &[u8], at: usize) -> usize
     read::<4>(b, at) * 4294967296 + read::<4>(b, at + 4)
 }
 
-// The number in `width` bytes: a pointer.
+// The number in `width` bytes: a pointer, which mostly has one.
 pub fn read_pointer(b: &[u8], at: usize, width: usize) -> usize
     requires { (width ≤ 4) × (at + width ≤ length b.now) }
     ensures { (result ≡ number width b.now at) × (result < 256 ^ width) }
 {
+    if width == 1 {
+        return usize::from(b[at]);
+    }
     let mut x = 0;
     for byte in &b[at..at + width] {
         x = x * 256 + usize::from(*byte);
@@ -64,7 +67,28 @@ pub fn common_front(a: &[u8], b: &[u8]) -> usize
     n
 }
 
-// How the part a stands to the part b: the first byte in which they differ decides. While both have eight bytes these are one number each, the
+// How the part a stands to the part b, byte by byte: the first byte in which they differ decides. For parts of a few bytes: so small
+// that the compiler puts it into its callers, where the library's order of two slices is a call.
+pub fn compare_bytes(a: &[u8], b: &[u8]) -> Ordering
+    ensures { result ≡ order_of a.now b.now }
+{
+    let i = common_front(a, b);
+    if a.len() <= i {
+        if b.len() <= i {
+            return Ordering::Equal;
+        }
+        return Ordering::Less;
+    }
+    if b.len() <= i {
+        return Ordering::Greater;
+    }
+    if a[i] < b[i] {
+        return Ordering::Less;
+    }
+    Ordering::Greater
+}
+
+// The same for parts of any length. While both have eight bytes these are one number each, the
 // highest byte first, and the first numbers that differ decide; so keys of some words are told apart in fewer steps than the library takes.
 pub fn compare(a: &[u8], b: &[u8]) -> Ordering
     ensures { result ≡ order_of a.now b.now }
@@ -77,7 +101,7 @@ pub fn compare(a: &[u8], b: &[u8]) -> Ordering
             return x.cmp(&y);
         }
     }
-    a[8 * words..].cmp(&b[8 * words..])
+    compare_bytes(&a[8 * words..], &b[8 * words..])
 }
 
 // Stores a run of bytes from a place on.

@@ -20,7 +20,7 @@ pub(crate) fn is_below(buf: &[u8], key: &[u8], len: usize) -> bool
     requires { (len ≤ length buf.now) × (len ≤ length key.now) }
     ensures { result ≡ less (take len buf.now) (take len key.now) }
 {
-    let Ordering::Less = fields::compare(&buf[..len], &key[..len]) else {
+    let Ordering::Less = fields::compare_bytes(&buf[..len], &key[..len]) else {
         return false;
     };
     true

@@ -124,7 +124,7 @@ pub(crate) fn compares(buf: &[u8], front: usize, len: usize, ib: &[u8], at: usiz
     let m = if l < rest { l } else { rest };
     let e = front + m;
     let z = at + m;
-    let o = fields::compare(&buf[front..e], &ib[at..z]);
+    let o = fields::compare_bytes(&buf[front..e], &ib[at..z]);
     match o {
         Ordering::Less => true,
         Ordering::Equal => l < rest,

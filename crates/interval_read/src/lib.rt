@@ -236,7 +236,7 @@ pub fn opens(ci: &[u8], m: Measures, first: bool, low: &[u8]) -> Option<Opened>
     }
     let from = m.offset;
     let to = from + low.len();
-    let Ordering::Less = fields::compare(low, &ci[from..to]) else {
+    let Ordering::Less = fields::compare_bytes(low, &ci[from..to]) else {
         return None;
     };
     Some(opened)
@@ -252,7 +252,7 @@ pub fn closes(ci: &[u8], m: Measures, count: usize, last: usize, high: &[u8]) ->
     }
     let from = last + m.offset;
     let to = from + high.len();
-    match fields::compare(high, &ci[from..to]) {
+    match fields::compare_bytes(high, &ci[from..to]) {
         Ordering::Less => false,
         Ordering::Equal => true,
         Ordering::Greater => true,

@@ -1,10 +1,9 @@
--- word-differs and word_same say what the numbers in the next eight bytes decide, and order-slices what the library does.
+-- word-differs and word_same say what the numbers in the next eight bytes decide.
 use Prim.Native.Nat.{◌+◌, ◌-◌, ◌*◌, ◌/◌, ◌≤◌}
 use mathlib.Core.Path.{◌≡◌, refl, ◌∙◌, sym}
 use lib.ListN.{length, drop, length-drop}
 use lib.Seq.{take_all}
 use native.Mathlib.Omega.{arith}
-use Rattle.fields.proofs.Orders.{order-slices}
 use Rattle.fields.proofs.Words.{word-differs, word_same}
 use Rattle.fields.proofs.compare.Goals as goal
 
@@ -44,4 +43,4 @@ returns c =
     let e : 8 * c.loop-word.word ≡ i = omega arith in
     let left = take_all (length a.a.now - i) (drop i a.a.now) (omega (arith, length-drop i a.a.now)) in
     let right = take_all (length a.b.now - i) (drop i a.b.now) (omega (arith, length-drop i a.b.now)) in
-    c.cmp-2.ensures ∙ rw (left, right) (sym (order-slices (drop i a.a.now) (drop i a.b.now)) ∙ rw (← e) (sym c.loop-word.invariant))
+    c.compare_bytes.ensures ∙ rw (left, right) (rw (← e) (sym c.loop-word.invariant))

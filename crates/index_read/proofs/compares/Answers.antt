@@ -31,15 +31,15 @@ overflow_add-e c = let p = c.requires in omega (arith, (both-have c.before.befor
 pub overflow_add-z : goal.overflow_add-z
 overflow_add-z c = omega (arith, (both-have c.before.before).0, c.requires.2)
 
-pub slice_bounds-compare-end : goal.slice_bounds-compare-end
-slice_bounds-compare-end c = let p = c.requires in omega (arith, (both-have c.before.before).1, p.0, p.1)
+pub slice_bounds-compare_bytes-end : goal.slice_bounds-compare_bytes-end
+slice_bounds-compare_bytes-end c = let p = c.requires in omega (arith, (both-have c.before.before).1, p.0, p.1)
 
-pub slice_bounds-compare-end-2 : goal.slice_bounds-compare-end-2
-slice_bounds-compare-end-2 c = omega (arith, (both-have c.before.before.before).0, c.requires.2)
+pub slice_bounds-compare_bytes-end-2 : goal.slice_bounds-compare_bytes-end-2
+slice_bounds-compare_bytes-end-2 c = omega (arith, (both-have c.before.before.before).0, c.requires.2)
 
 pub returns-in-Less : goal.returns-in-Less
 returns-in-Less c = λ K k1 k2.
-    let q = c.compare-o in
+    let q = c.compare_bytes-o in
     let a = c.args in
     let p = c.requires in
     above-less a.buf.now a.ib.now a.front a.len a.at a.l p.0 p.1 p.2 p.3
@@ -48,7 +48,7 @@ returns-in-Less c = λ K k1 k2.
 
 pub returns-in-Equal : goal.returns-in-Equal
 returns-in-Equal c = λ K k1 k2.
-    let q = c.compare-o in
+    let q = c.compare_bytes-o in
     let a = c.args in
     let p = c.requires in
     above_same a.buf.now a.ib.now a.front a.len a.at a.l p.0 p.1 p.2 p.3
@@ -57,7 +57,7 @@ returns-in-Equal c = λ K k1 k2.
 
 pub returns-in-Greater : goal.returns-in-Greater
 returns-in-Greater c = λ K k1 k2.
-    let q = c.compare-o in
+    let q = c.compare_bytes-o in
     let a = c.args in
     let p = c.requires in
     above-greater a.buf.now a.ib.now a.front a.len a.at a.l p.0 p.1 p.2 p.3

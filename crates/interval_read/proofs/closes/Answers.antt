@@ -22,8 +22,8 @@ Start-state = Lts.Start Tie.the-claims Reads.Pre Reads.Post
 abbrev Else1-state : Type 0
 Else1-state = Lts.Else1 Tie.the-claims Reads.Pre Reads.Post
 
-abbrev After-compare-state : Type 0
-After-compare-state = Lts.After-compare Tie.the-claims Reads.Pre Reads.Post
+abbrev After-compare_bytes-state : Type 0
+After-compare_bytes-state = Lts.After-compare_bytes Tie.the-claims Reads.Pre Reads.Post
 
 -- what was asked: the interval is sound, and these are its numbers
 told : (c : Start-state) → Told c.args.m c.args.ci.now c.args.count c.args.last
@@ -36,14 +36,14 @@ last-in c =
     last-inside a.m a.ci.now (omega arith) (omega arith) a.count a.last (told c.before.before.before) c.if-count-eq0.false
 
 -- what the comparison says: how the bound stands to the last key
-answered : (c : After-compare-state)
+answered : (c : After-compare_bytes-state)
     → less (bound c.args.m.key c.args.high.now)
     (part c.args.ci.now (c.args.last + c.args.m.offset) c.args.m.key)
-    ≡ is_less c.compare.result
+    ≡ is_less c.compare_bytes.result
 answered c =
     let a = c.args in
-    compared a.m.key a.ci.now a.high.now (a.last + a.m.offset) c.compare.result c.requires.1 (last-in c.before.before.before)
-    (λ i. omega (arith, c.shared_slice_known-1.given i)) c.compare.ensures
+    compared a.m.key a.ci.now a.high.now (a.last + a.m.offset) c.compare_bytes.result c.requires.1 (last-in c.before.before.before)
+    (λ i. omega (arith, c.shared_slice_known-1.given i)) c.compare_bytes.ensures
 
 pub returns-then-count-eq0 : goal.returns-then-count-eq0
 returns-then-count-eq0 c =
@@ -56,8 +56,8 @@ overflow_add-from c = omega (arith, last-in c.before.before)
 pub overflow_add-to : goal.overflow_add-to
 overflow_add-to c = omega (arith, last-in c.before.before, c.requires.1)
 
-pub slice_bounds-compare-end : goal.slice_bounds-compare-end
-slice_bounds-compare-end c =
+pub slice_bounds-compare_bytes-end : goal.slice_bounds-compare_bytes-end
+slice_bounds-compare_bytes-end c =
     let z = last-in c.before.before in
     search rules
 

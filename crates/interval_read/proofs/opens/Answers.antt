@@ -19,7 +19,7 @@ use Rattle.interval_read.specs.Verdict.{verdict_of}
 use Rattle.interval_read.specs.declared.Verdict.{Verdict}
 use Rattle.interval_read.proofs.Verdicts.{Told, sound-told, unsound-told, opens_not, compared, way-first, way-empty, way_above, way-below, some-there}
 use Rattle.interval_read.proofs.opens.Goals as goal
-use Rattle.interval_read.proofs.opens.Goals.{Else-count-eq0, After-compare}
+use Rattle.interval_read.proofs.opens.Goals.{Else-count-eq0, After-compare_bytes}
 
 told : {m : Measures} {ci : List ℕ} {r : Option Verdict} {v : Verdict} → r ≡ verdict_of m ci → r ≡ Some v → Told m ci v.count v.last
 told e w = sound-told _ _ _ (sym w ∙ e)
@@ -31,15 +31,15 @@ first-inside c =
     (some-there a.m a.ci.now (omega arith) (omega arith) _ _ (told c.check.ensures c.in_ok-count.was) c.if-count-eq0.false).first-in
 
 -- what the comparison says: how the bound stands to the first key
-answered : (c : After-compare)
+answered : (c : After-compare_bytes)
     → c.args.m.offset + c.args.m.key ≤ length c.args.ci.now
     → less (bound c.args.m.key c.args.low.now)
     (part c.args.ci.now c.args.m.offset c.args.m.key)
-    ≡ is_less c.compare.result
+    ≡ is_less c.compare_bytes.result
 answered c i =
     let a = c.args in
-    compared a.m.key a.ci.now a.low.now a.m.offset c.compare.result (omega arith) i
-    (λ j. omega (arith, c.type_inv.ci j)) c.compare.ensures
+    compared a.m.key a.ci.now a.low.now a.m.offset c.compare_bytes.result (omega arith) i
+    (λ j. omega (arith, c.type_inv.ci j)) c.compare_bytes.ensures
 
 pub returns-in_err-count : goal.returns-in_err-count
 returns-in_err-count c =
@@ -68,9 +68,9 @@ returns-then-count-eq0 c =
       inside = (t.stands, t.many, t.final);
     }
 
-pub slice_bounds-compare-end : goal.slice_bounds-compare-end
-slice_bounds-compare-end c =
-    let z = first-inside (goal.at.slice_bounds-compare-end c).Else-count-eq0 in
+pub slice_bounds-compare_bytes-end : goal.slice_bounds-compare_bytes-end
+slice_bounds-compare_bytes-end c =
+    let z = first-inside (goal.at.slice_bounds-compare_bytes-end c).Else-count-eq0 in
     search rules
 
 pub returns-in_default : goal.returns-in_default
@@ -78,7 +78,7 @@ returns-in_default c =
     let a = c.args in record {
       is = way-below a.m a.ci.now (omega arith) (omega arith) c.in_ok-count.field-0.count c.in_ok-count.field-0.last (told c.check.ensures c.in_ok-count.was)
           c.if-count-eq0.false a.first (bound a.m.key a.low.now) c.if-first.false
-          (answered (goal.at.returns-in_default c).After-compare (first-inside (goal.at.returns-in_default c).Else-count-eq0) ∙ not-less c.compare.result c.in_default.not-Less);
+          (answered (goal.at.returns-in_default c).After-compare_bytes (first-inside (goal.at.returns-in_default c).Else-count-eq0) ∙ not-less c.compare_bytes.result c.in_default.not-Less);
       inside = tt;
     }
 
@@ -88,6 +88,6 @@ returns c =
     let t = told c.check.ensures c.in_ok-count.was in record {
       is = way_above a.m a.ci.now (omega arith) (omega arith) c.in_ok-count.field-0.count c.in_ok-count.field-0.last t
           c.if-count-eq0.false a.first (bound a.m.key a.low.now) c.if-first.false
-          (answered (goal.at.returns c).After-compare (first-inside (goal.at.returns c).Else-count-eq0) ∙ ap is_less c.in-Less.is);
+          (answered (goal.at.returns c).After-compare_bytes (first-inside (goal.at.returns c).Else-count-eq0) ∙ ap is_less c.in-Less.is);
       inside = (t.stands, t.many, t.final);
     }
