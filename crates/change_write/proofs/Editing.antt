@@ -5,7 +5,7 @@ use mathlib.Core.Path.{◌≡◌, refl, ◌∙◌, sym, ap}
 use mathlib.Core.List.{List, map}
 use lib.ListN.{length, take, drop}
 use native.Mathlib.Omega.{arith}
-use Rattle.std.specs.Prelude.{Result, Ok}
+use Rattle.std.specs.Prelude.{Result, Ok, Err}
 use Rattle.fields.specs.Bytes.{splice}
 use Rattle.fields.proofs.Splices.{take-front}
 use Rattle.measures.specs.Judgement.{limit}
@@ -26,7 +26,14 @@ use Rattle.change_plan.specs.declared.Spread.{Spread}
 use Rattle.change_plan.proofs.Telling.{told-seen}
 use Rattle.change_write.specs.AidStored.{Countable}
 use Rattle.change.specs.declared.Full.{Full}
+use Rattle.change.specs.declared.Full.TheVariants.{NoInterval, NoRoom}
 use Rattle.change_write.proofs.Carrying.{is-ready}
+
+-- what is left of a plan when the others are ruled out
+pub is_none : (r : Result Spread Full) → ((s : Spread) → r ≡ Ok s → ⊥) → (r ≡ Err NoRoom → ⊥) → r ≡ Err NoInterval
+is_none (Ok s) h g = absurd (h s refl)
+is_none (Err NoInterval) h g = refl
+is_none (Err NoRoom) h g = absurd (g refl)
 
 module _ (m : Measures) (n : ℕ) (area : List ℕ) (site : Site) (new : List ℕ) (d : Edits m n area site (fresh_in new)) where
   abbrev a : ℕ

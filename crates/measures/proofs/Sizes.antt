@@ -5,7 +5,7 @@ use mathlib.Core.Bool.{Bool, true, false, ◌||◌}
 use mathlib.Core.List.{List, [], ◌∷◌}
 use Rattle.std.specs.List.{list_any}
 use lib.ListN.{get_or, length}
-use lib.Dec.{eqb, ltb}
+use lib.Dec.{eqb, eqb→eq, ltb}
 use native.Mathlib.Omega.{arith}
 use borrow.Author.Tests.{eqb-true, ltb-true}
 use Rattle.fields.specs.Choice.{pick, either}
@@ -32,6 +32,14 @@ any-listed f (x ∷ xs) = go (f x) (any-listed f xs) ∙ sym (any-first (λ k. f
     go : (b : Bool) → list_any f xs ≡ any_below (λ k. f (get_or xs k 0)) (length xs) → b || list_any f xs ≡ either b (any_below (λ k. f (get_or xs k 0)) (length xs))
     go true e = refl
     go false e = e
+
+right : ℕ → ℕ → Bool
+right k x = eqb x (size_at k)
+
+-- one computed test over the table, and so the rule at each entry
+pub stepping : (k : ℕ) → k < 28 → get_or sizes k 0 ≡ size_at k
+unfolding right
+stepping k h = eqb→eq (get_or sizes k 0) (size_at k) (at right sizes tt k h)
 
 -- the table has the sizes of the stepping rule
 pub listed : (size : ℕ) → list_any (λ x. eqb x size) sizes ≡ permitted_size size
