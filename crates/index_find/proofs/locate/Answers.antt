@@ -56,8 +56,8 @@ loop-i-preserved c =
     onward a.ib.now a.n a.key.now o.buf o.high o.p o.i c.requires (λ i. omega (arith, c.type_inv.key i)) o.invariant c.entry_at-s.result (stepped (goal.at.loop-i-preserved c).After-entry_at-s)
     r.new.buf r.new.high r.ensures c.if-not-is_below.ensures c.past-p.result c.past-p.ensures (r.auto.buf ∙ o.invariant.whole) (r.auto.high ∙ o.invariant.whole')
 
-pub unreachable-requires : goal.unreachable-requires
-unreachable-requires c =
+pub returns : goal.returns
+returns c =
     let o = c.loop-i in
     let a = c.args in
-    not-past a.ib.now a.n a.key.now o.buf o.high o.p o.i c.requires (λ i. omega (arith, c.type_inv.key i)) o.invariant c.loop-i-test.false
+    absurd (not-past a.ib.now a.n a.key.now o.buf o.high o.p o.i c.requires (λ i. omega (arith, c.type_inv.key i)) o.invariant c.loop-i-test.false)
