@@ -163,12 +163,14 @@ pub(crate) fn added(area: &[u8], size: usize, forward: bool, begun: Place) -> us
 {
     let mut p = begun;
     let mut sum = 0;
-    for _ in 0..area.len() {
+    let mut n = 0;
+    while n < area.len() {
         if p.length == 0 {
             return sum;
         }
         sum = std::num::wrapping_add_usize(sum, walk::walk_record(area, p).len());
         p = walk::walk_next(area, size, forward, p);
+        n += 1;
     }
     sum
 }
