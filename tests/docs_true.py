@@ -2,7 +2,7 @@
 """Holds the pages to the tree: docs_true.py [ROOT].
 
 Every crate, function, file and statement that README.md and docs/ name must exist, every caller that docs/EXCEPTIONS.md names must really call,
-and every public function with a `requires` must stand there. docs/LANDINGS.md tells of what was, and is not held to today's names.
+and every public function with a `requires` must stand there. docs/LANDINGS.md and docs/DESIGN-CHANGES.md tell of what was, and are not held to today's names.
 Prints each fault, then `docs: N names, M wrong`; the status is 0 only if none is.
 """
 import glob
@@ -117,7 +117,7 @@ def exceptions():
             wants(hits, f"{page}: there is no {caller}")
             for f in hits[:1]:
                 uses = [g.split("::") for g in asked]
-                wants(any(re.search((r"\b" if f.crate == c[0] else c[0] + "::") + c[-1] + r"\(", f.body) for c in uses),
+                wants(any(re.search((r"\b" if f.crate == c[0] else c[0] + "::") + c[-1] + r"(?:::<\w+>)?\(", f.body) for c in uses),
                       f"{page}: {caller} calls none of {', '.join(asked)}")
     for f in FUNCTIONS:
         if f.public and "requires" in f.head:
@@ -131,7 +131,7 @@ def rooms():
             wants(crate in found, f"{page}: no row for {crate}")
 
 
-PAGES = ["README.md"] + [page for page in sorted(glob.glob("docs/*.md")) if not page.endswith("LANDINGS.md")]
+PAGES = ["README.md"] + [page for page in sorted(glob.glob("docs/*.md")) if not page.endswith(("LANDINGS.md", "DESIGN-CHANGES.md"))]
 for page in PAGES:
     names_of_code(page)
     names_of_files(page)

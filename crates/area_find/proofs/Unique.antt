@@ -1,4 +1,5 @@
 -- For each public function: any two results that its contract allows are equal. `Learnt` is the contract as a caller reads it.
+use Rattle.std.specs.Prelude.{Option}
 use Prim.Native.Nat.{ℕ}
 use mathlib.Core.Path.{◌≡◌, ap, sym, ◌∙◌}
 use mathlib.Core.List.{List}
@@ -10,9 +11,9 @@ use Rattle.interval.specs.declared.Found.{Found}
 use Rattle.area.specs.Content.{data_in}
 use Rattle.area_find.specs.AidSought.{Sought}
 use Rattle.area_find.specs.declared.KeyPlace.{KeyPlace}
-use Rattle.area_find.specs.declared.Lying.{Lying}
 use Rattle.area_find.proofs.find.Reads as find
 use Rattle.area_find.proofs.record_at.Reads as record-at
+use Rattle.area.specs.declared.Lying.{Lying}
 
 abbrev spot : ℕ → ℕ → Found → KeyPlace
 spot e n f = record { entry = e; number = n; found = f }
@@ -30,5 +31,5 @@ only m n area key r s p q =
 pub unique-find : (κs : _) (args : _) (r s : KeyPlace) (e f : _) → find.Learnt κs args r e → find.Learnt κs args s f → r ≡ s
 unique-find κs args r s e f p q = only _ _ _ _ r s p q
 
-pub unique-record-at : (κs : _) (args : _) (r s : Lying) (e f : _) → record-at.Learnt κs args r e → record-at.Learnt κs args s f → r ≡ s
+pub unique-record-at : (κs : _) (args : _) (r s : Option Lying) (e f : _) → record-at.Learnt κs args r e → record-at.Learnt κs args s f → r ≡ s
 unique-record-at κs args r s e f p q = agree p.0 q.0

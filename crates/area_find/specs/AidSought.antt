@@ -1,22 +1,20 @@
 -- Aids: what a search in a sound area answers. Contracts between crates cite them; the requests' contracts say what that means for the records, so
 -- nothing here has to be believed.
-use Rattle.std.specs.Prelude.{ℕ, ◌+◌, ◌-◌, ◌*◌, ◌/◌, ◌%◌, ◌≤◌, ◌<◌, ◌≡◌, List, length, get_or, ltb, leb}
+use Rattle.std.specs.Prelude.{ℕ, ◌+◌, ◌-◌, ◌*◌, ◌/◌, ◌%◌, ◌≤◌, ◌<◌, ◌≡◌, Option, Some, None, List, length, get_or, ltb, leb}
 use Rattle.fields.specs.Choice.{pick}
 use Rattle.fields.specs.Bytes.{number}
 use Rattle.measures.specs.Judgement.{width_for}
 use Rattle.measures.specs.declared.Measures.{Measures}
 use Rattle.interval.specs.Reading.{records_in, displacement}
 use Rattle.interval.specs.Search.{place_of, Within, starting_at, started_of}
-use Rattle.interval.specs.declared.Started.{Started}
-use Rattle.interval.specs.declared.Started.TheVariants as started
 use Rattle.index.specs.Meaning.{numbers}
 use Rattle.index.specs.Search.{leads_to}
 use Rattle.sections.specs.Reading.{read_index}
 use Rattle.area.specs.Content.{Content, index_in, data_in}
 use Rattle.area.specs.Reading.{read_area, whole}
 use Rattle.area_find.specs.declared.KeyPlace.{KeyPlace}
-use Rattle.area_find.specs.declared.Lying.{Lying}
-use Rattle.area_find.specs.declared.Lying.TheVariants.{Here, Nowhere}
+use Rattle.area.specs.Checked.{lies_at}
+use Rattle.area.specs.declared.Lying.{Lying}
 
 -- the area is sound, and this is what it holds
 pub record Whole (m : Measures) (n : ℕ) (area : List ℕ) : Type 0 where
@@ -32,20 +30,20 @@ pub record Sought (m : Measures) (n : ℕ) (area key : List ℕ) (r : KeyPlace) 
   pub found : r.found ≡ place_of m key (records_in (data_in m area r.number))
   pub place : Within (length (records_in (data_in m area r.number))) (displacement (data_in m area r.number)) r.found
 
-abbrev pub lying_of : ℕ → Started → Lying
-lying_of from (started.Here len) = Here from len
-lying_of from started.Nothing = Nowhere
+abbrev pub lying_of : ℕ → Option ℕ → Option Lying
+lying_of from (Some len) = lies_at from len
+lying_of from None = None
 
 -- the record at an address; base is that of the index record
-unfoldable pub sought_at : Measures → ℕ → List ℕ → ℕ → Lying
+unfoldable pub sought_at : Measures → ℕ → List ℕ → ℕ → Option Lying
 sought_at m n area address =
     let base = number 4 (index_in m area) 4 in
     let k = (address - base) / m.size in
     let place = (address - base) % m.size in
-    pick (ltb address base) Nowhere
-    (pick (leb n k) Nowhere (lying_of ((k + 1) * m.size + place) (started_of (starting_at place 0 (records_in (data_in m area k))))))
+    pick (ltb address base) None
+    (pick (leb n k) None (lying_of ((k + 1) * m.size + place) (started_of (starting_at place 0 (records_in (data_in m area k))))))
 
 -- it ends within the area
-abbrev pub Inside : ℕ → Lying → Type 0
-Inside bytes (Here from len) = from + len ≤ bytes
-Inside bytes Nowhere = Unit {0}
+abbrev pub Inside : ℕ → Option Lying → Type 0
+Inside bytes (Some l) = l.from + l.length ≤ bytes
+Inside bytes None = Unit {0}

@@ -5,7 +5,8 @@ ghost use Rattle.std.specs.Prelude.{◌+◌, ◌≡◌, length};
 ghost use Rattle.measures.specs.Judgement.{Fits};
 ghost use Rattle.area_find.specs.AidSought.{Whole, Sought, sought_at, Inside};
 
-use interval::{Found, Started};
+use area::Lying;
+use interval::Found;
 use measures::Measures;
 
 // Where a key belongs: the entry that it leads to, that entry's interval, and the key's place among the records there.
@@ -34,16 +35,9 @@ pub fn find(area: &[u8], m: Measures, n: usize, key: &[u8]) -> KeyPlace
     }
 }
 
-// A record that lies in the area: where it begins, and how long it is.
-#[derive(Clone, Copy)]
-pub enum Lying {
-    Here { from: usize, length: usize },
-    Nowhere,
-}
-
-// The record at an address. An address is the base, then the interval's number times its size, then the place in it;
+// The record at an address, if one begins there. An address is the base, then the interval's number times its size, then the place in it;
 // it is compared in full, so that no large number is taken for a smaller one.
-pub fn record_at(area: &[u8], m: Measures, n: usize, address: u64) -> Lying
+pub fn record_at(area: &[u8], m: Measures, n: usize, address: u64) -> Option<Lying>
     requires { Fits m n (length area.now) × Whole m n area.now }
     ensures is { result ≡ sought_at m n area.now address }
     ensures inside { Inside (length area.now) result }
@@ -52,20 +46,20 @@ pub fn record_at(area: &[u8], m: Measures, n: usize, address: u64) -> Lying
     let base = index_read::base_of(&area[..size]);
     let wanted = address as usize;
     if wanted < base {
-        return Lying::Nowhere;
+        return None;
     }
     let number = (wanted - base) / size;
     let place = (wanted - base) % size;
     if n <= number {
-        return Lying::Nowhere;
+        return None;
     }
     let a = (number + 1) * size;
     let e = a + size;
-    let Started::Here { length } = interval_find::record_at(&area[a..e], m, place) else {
-        return Lying::Nowhere;
+    let Some(length) = interval_find::record_at(&area[a..e], m, place) else {
+        return None;
     };
-    Lying::Here {
+    Some(Lying {
         from: a + place,
         length,
-    }
+    })
 }

@@ -18,9 +18,9 @@ use Rattle.interval.specs.Reading.{records_in, sound, Checkable}
 use Rattle.interval.specs.Role.{sound_used}
 use Rattle.interval.proofs.Readable.{fits-checkable, checked-readable, records-few}
 use Rattle.interval_read.specs.Verdict.{last_start}
-use Rattle.interval_read.specs.AidOpened.{opened_of}
+use Rattle.interval_read.specs.AidOpened.{opened, opened_of}
+use Rattle.std.specs.Prelude.{Option, Some, None, is_some, unwrap_or}
 use Rattle.interval_read.specs.declared.Opened.{Opened}
-use Rattle.interval_read.specs.declared.Opened.TheVariants as opened
 use Rattle.index.specs.Bounds.{bound}
 use Rattle.index.specs.Meaning.{Entry}
 use Rattle.index.specs.Rules.{bound_before}
@@ -35,24 +35,28 @@ use Rattle.area.specs.Content.{data_in, fill, records_of}
 use Rattle.area.specs.Soundness.{unsound_used, lowest}
 use Rattle.area.proofs.Places.{length-data}
 use Rattle.area_read.specs.AidEntries.{Closed, Counted}
-use Rattle.area_read.specs.declared.Seen.{Seen}
 use Rattle.area_read.proofs.Lows.{lowest-met}
 
 -- ---- one interval
 
 module _ (m : Measures) (ci low high : List ℕ) (lent : Checkable m ci) where
-  by-bound : (b : Bool) (o : Opened) → both (sound m ci) (above low (keys_of m (records_in ci))) ≡ b
-      → o ≡ pick b (opened.Sound (length (records_in ci)) (last_start (map length (records_in ci)))) opened.Bad → (r : Seen) → Closed m ci high o r
-      → (r.ok ≡ sound_used m low high ci) × ((r.ok ≡ true → r.count ≡ length (records_in ci)) × (r.count ≤ 32768))
+  judged : (t : Bool) (count : ℕ) → count ≤ 32768 → (r : Option ℕ) → r ≡ pick t (Some count) None
+      → (is_some r ≡ t) × ((is_some r ≡ true → unwrap_or r 0 ≡ count) × (unwrap_or r 0 ≤ 32768))
+  judged true count f r e = rw e (refl, ((λ _. refl), f))
+  judged false count f r e = rw e (refl, ((λ (z : false ≡ true). absurd (false-true z)), omega arith))
+
+  by-bound : (b : Bool) (o : Option Opened) → both (sound m ci) (above low (keys_of m (records_in ci))) ≡ b
+      → o ≡ pick b (Some (opened (length (records_in ci)) (last_start (map length (records_in ci))))) None → (r : Option ℕ) → Closed m ci high o r
+      → (is_some r ≡ sound_used m low high ci) × ((is_some r ≡ true → unwrap_or r 0 ≡ length (records_in ci)) × (unwrap_or r 0 ≤ 32768))
   unfolding sound_used
   by-bound true o h e r k =
       let s = both-split (sound m ci) (above low (keys_of m (records_in ci))) h in
-      let c : Closed m ci high (opened.Sound (length (records_in ci)) (last_start (map length (records_in ci)))) r = rw e at k in
+      let c : Closed m ci high (Some (opened (length (records_in ci)) (last_start (map length (records_in ci))))) r = rw e at k in
       let f = records-few m ci (checked-readable lent s.0) in
-      (rw (s.0, s.1) c.0, ((λ (z : r.ok ≡ true). c.1), omega (arith, c.1, f)))
+      rw (s.0, s.1) (judged (up_to high (keys_of m (records_in ci))) (length (records_in ci)) (omega (arith, f)) r c)
   by-bound false o h e r k =
-      let c : Closed m ci high opened.Bad r = rw e at k in
-      (c.0 ∙ sym (go (sound m ci) (above low (keys_of m (records_in ci))) h), ((λ (z : r.ok ≡ true). absurd (false-true (sym c.0 ∙ z))), omega (arith, c.1)))
+      let c : Closed m ci high None r = rw e at k in
+      rw (c, go (sound m ci) (above low (keys_of m (records_in ci))) h) (refl, ((λ (z : false ≡ true). absurd (false-true z)), omega arith))
     where
       go : (x y : Bool) → both x y ≡ false → both x (both y (up_to high (keys_of m (records_in ci)))) ≡ false
       go true true z = absurd (false-true (sym z))
@@ -60,8 +64,8 @@ module _ (m : Measures) (ci low high : List ℕ) (lent : Checkable m ci) where
       go false y z = refl
 
   -- what opening and closing say together
-  pub seen-is : (o : Opened) → o ≡ opened_of m low ci → (r : Seen) → Closed m ci high o r
-      → (r.ok ≡ sound_used m low high ci) × ((r.ok ≡ true → r.count ≡ length (records_in ci)) × (r.count ≤ 32768))
+  pub seen-is : (o : Option Opened) → o ≡ opened_of m low ci → (r : Option ℕ) → Closed m ci high o r
+      → (is_some r ≡ sound_used m low high ci) × ((is_some r ≡ true → unwrap_or r 0 ≡ length (records_in ci)) × (unwrap_or r 0 ≤ 32768))
   unfolding opened_of
   seen-is o e r k = by-bound (both (sound m ci) (above low (keys_of m (records_in ci)))) o refl e r k
 
@@ -197,33 +201,33 @@ module _ (m : Measures) (n : ℕ) (area ib : List ℕ) (worst : ℕ) where
         own-short = omega (arith, ap length on.ref, step.fits)
 
         -- its interval was judged by both bounds
-        module _ (f : Fits m n (length area)) (o : Opened) (r : Seen)
+        module _ (f : Fits m n (length area)) (o : Option Opened) (r : Option ℕ)
             (opens : o ≡ opened_of m (pick (eqb i 0) [] (bound m.key (take p.len buf))) (data_in m area s.number))
             (closes : Closed m (data_in m area s.number) (bound m.key (take q.len buf')) o r) where
-          seen : (r.ok ≡ sound_used m (bound_before m.key [] (take i es)) (bound m.key sep) (data_in m area num))
-              × ((r.ok ≡ true → r.count ≡ length (records_in (data_in m area num))) × (r.count ≤ 32768))
+          seen : (is_some r ≡ sound_used m (bound_before m.key [] (take i es)) (bound m.key sep) (data_in m area num))
+              × ((is_some r ≡ true → unwrap_or r 0 ≡ length (records_in (data_in m area num))) × (unwrap_or r 0 ≤ 32768))
           seen =
               let z = length-data m n area f num step.within in
               seen-is m (data_in m area num) (bound_before m.key [] (take i es)) (bound m.key sep)
               (fits-checkable f (data_in m area num) z) o (rw (low_held, num-is) at opens) r (rw (on.ref, num-is) at closes)
 
-          pub seen_few : r.count ≤ 32768
+          pub seen_few : unwrap_or r 0 ≤ 32768
           seen_few = seen.1.1
 
           split : unsound_used m area (bound_before m.key [] (take i es)) (drop i es)
-              ≡ pick r.ok (unsound_used m area (bound m.key sep) (drop (suc i) es)) (num ∷ unsound_used m area (bound m.key sep) (drop (suc i) es))
+              ≡ pick (is_some r) (unsound_used m area (bound m.key sep) (drop (suc i) es)) (num ∷ unsound_used m area (bound m.key sep) (drop (suc i) es))
           split = rw (step.here, seen.0) (used-cons m area (bound_before m.key [] (take i es)) (entry_here w ib h) (drop (suc i) es))
 
           bounds : bound_before m.key [] (take (suc i) es) ≡ bound m.key sep
           bounds = step.next.low ∙ rw (ne_eqb (suc i) 0 (omega arith))
 
-          none : unsound_used m area [] es ≡ [] → (r.ok ≡ true) × (unsound_used m area (bound m.key sep) (drop (suc i) es) ≡ [])
-          none z = pick-none r.ok num (unsound_used m area (bound m.key sep) (drop (suc i) es)) (sym split ∙ g.clean z)
+          none : unsound_used m area [] es ≡ [] → (is_some r ≡ true) × (unsound_used m area (bound m.key sep) (drop (suc i) es) ≡ [])
+          none z = pick-none (is_some r) num (unsound_used m area (bound m.key sep) (drop (suc i) es)) (sym split ∙ g.clean z)
 
           one_more : 32768 * suc i ≡ 32768 * i + 32768
           one_more = omega arith
 
-          pub onward : length high' ≡ 263 → Going m n area ib worst buf' high' q (i + 1) (pick r.ok low (min s.number low)) (records + r.count)
+          pub onward : length high' ≡ 263 → Going m n area ib worst buf' high' q (i + 1) (pick (is_some r) low (min s.number low)) (records + unwrap_or r 0)
           onward wh' =
               rw (num-is, add-one i)
               (record {
@@ -232,7 +236,7 @@ module _ (m : Measures) (n : ℕ) (area ib : List ℕ) (worst : ℕ) where
                 held = on;
                 whole = wh;
                 whole' = wh';
-                lowers = g.lowers ∙ rw split (lowest-pick r.ok low num (unsound_used m area (bound m.key sep) (drop (suc i) es)) ∙ rw bounds);
+                lowers = g.lowers ∙ rw split (lowest-pick (is_some r) low num (unsound_used m area (bound m.key sep) (drop (suc i) es)) ∙ rw bounds);
                 clean = λ (z : unsound_used m area [] es ≡ []). rw bounds (none z).1;
                 counts = λ (z : unsound_used m area [] es ≡ []). g.counts z ∙ rw step.here (omega (arith, records-cons m area (entry_here w ib h) (drop (suc i) es), seen.1.0 (none z).0));
                 few = omega (arith, g.few, one_more, seen_few);

@@ -24,9 +24,9 @@ use Rattle.area.specs.Content.{index_in, data_in}
 use Rattle.area.specs.Soundness.{unsound_free, unsound_used, unsound_data, lowest}
 use Rattle.area.specs.Reading.{read_area}
 use Rattle.area.specs.Checked.{checked_of}
-use Rattle.area.specs.declared.Checked.TheVariants.{Intact, Damaged}
 use Rattle.area_read.specs.AidEntries.{Counted}
 use Rattle.area_read.proofs.Lows.{lowest-append, none-low}
+use Rattle.area.specs.Checked.{sound_with, damaged_at}
 
 -- the numbers of a sound record are below n
 module _ (w K n : ℕ) (ib : List ℕ) (h : sound_index w K n [] [] ib ≡ true) where
@@ -66,7 +66,7 @@ module _ (m : Measures) (n : ℕ) (area : List ℕ) where
   ix = read_index (width_for n) n (index_in m area)
 
   -- the index record is unsound
-  pub index-damaged : sound_index (width_for n) m.key n [] [] (index_in m area) ≡ false → Damaged 0 ≡ checked_of (read_area m n area)
+  pub index-damaged : sound_index (width_for n) m.key n [] [] (index_in m area) ≡ false → damaged_at 0 ≡ checked_of (read_area m n area)
   unfolding read_area
   index-damaged e = rw e
 
@@ -77,12 +77,12 @@ module _ (m : Measures) (n : ℕ) (area : List ℕ) where
     low-is = lowest-append n (unsound_free m area ix.free) (unsound_used m area [] ix.entries) ∙ sym is
 
     -- some data interval is
-    pub data-damaged : low < n → Damaged (low + 1) ≡ checked_of (read_area m n area)
+    pub data-damaged : low < n → damaged_at (low + 1) ≡ checked_of (read_area m n area)
     unfolding read_area
     data-damaged l = rw (h, low-is, lt-ltb low n l)
 
     -- none is
-    pub intact : n ≤ low → Counted m area [] ix.entries records → (free : ℕ) → free ≡ length ix.free → Intact records free ≡ checked_of (read_area m n area)
+    pub intact : n ≤ low → Counted m area [] ix.entries records → (free : ℕ) → free ≡ length ix.free → sound_with records free ≡ checked_of (read_area m n area)
     unfolding read_area
     intact l c free f =
         let b : below n (unsound_used m area [] ix.entries) ≡ true = unsound-below m area [] n ix.entries (numbers-below (width_for n) m.key n (index_in m area) h).1 in

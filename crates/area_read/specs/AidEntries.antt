@@ -1,21 +1,20 @@
 -- Aids to the check of an area, entry by entry. Contracts of this crate's inner functions cite them.
-use Rattle.std.specs.Prelude.{ℕ, ◌≡◌, false, true, List, [], length}
+use Rattle.std.specs.Prelude.{ℕ, ◌≡◌, true, Option, Some, None, List, [], length}
 use Rattle.measures.specs.Judgement.{Fits, width_for}
 use Rattle.measures.specs.declared.Measures.{Measures}
 use Rattle.interval.specs.Records.{keys_of, up_to}
 use Rattle.interval.specs.Reading.{records_in}
 use Rattle.interval_read.specs.declared.Opened.{Opened}
-use Rattle.interval_read.specs.declared.Opened.TheVariants as opened
 use Rattle.index.specs.Meaning.{Entry}
 use Rattle.sections.specs.Reading.{read_index, sound_index}
 use Rattle.area.specs.Content.{fill, records_of}
 use Rattle.area.specs.Soundness.{unsound_used}
-use Rattle.area_read.specs.declared.Seen.{Seen}
+use Rattle.fields.specs.Choice.{pick}
 
--- an aid: an interval that opened well is judged by its own bound
-abbrev pub Closed : Measures → List ℕ → List ℕ → Opened → Seen → Type 0
-Closed m ci high (opened.Sound count last) r = (r.ok ≡ up_to high (keys_of m (records_in ci))) × (r.count ≡ length (records_in ci))
-Closed m ci high opened.Bad r = (r.ok ≡ false) × (r.count ≡ 0)
+-- an aid: an interval that opened well is judged by its own bound; its records are counted where it is sound in its role
+abbrev pub Closed : Measures → List ℕ → List ℕ → Option Opened → Option ℕ → Type 0
+Closed m ci high (Some o) r = r ≡ pick (up_to high (keys_of m (records_in ci))) (Some (length (records_in ci))) None
+Closed m ci high None r = r ≡ None
 
 -- an aid: records counted, where every interval was sound
 abbrev pub Counted : Measures → List ℕ → List ℕ → List Entry → ℕ → Type 0

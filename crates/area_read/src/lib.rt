@@ -15,34 +15,23 @@ ghost use Rattle.area.specs.Reading.{read_area};
 ghost use Rattle.area.specs.Checked.{checked_of};
 ghost use Rattle.area_read.specs.AidEntries.{Closed, Counted, EntriesSound};
 
-use area::Checked;
-use index_read::Index;
+use area::{Damage, Intact};
 use index_step::BUFFER;
 use interval_read::Opened;
 use measures::Measures;
 
-// An entry's interval as it was seen: sound in its role or not, and how many records it has.
-#[derive(Clone, Copy)]
-pub struct Seen {
-    pub ok: bool,
-    pub count: usize,
-}
-
 // The lowest unsound number so far, and how many records were counted.
 #[derive(Clone, Copy)]
-pub struct Tally {
-    pub worst: usize,
-    pub records: usize,
+pub(crate) struct Tally {
+    pub(crate) worst: usize,
+    pub(crate) records: usize,
 }
 
 // The lowest number met, when one more was seen.
 pub(crate) fn noted(worst: usize, number: usize, ok: bool) -> usize
     ensures { result ≡ pick ok worst (min number worst) }
 {
-    if ok {
-        return worst;
-    }
-    if number < worst { number } else { worst }
+    if ok { worst } else { worst.min(number) }
 }
 
 // The lowest of the free intervals that are not empty and sound, or n.
@@ -52,34 +41,22 @@ pub(crate) fn free_worst(area: &[u8], ib: &[u8], m: Measures, n: usize, free: us
 {
     let w = measures::width_for(n);
     let mut worst = n;
-    let mut at = 24;
-    let mut left = free;
-    while 0 < left {
-        let k = fields::read_pointer(ib, at, w);
+    for i in 0..free {
+        let k = fields::read_pointer(ib, 24 + w * i, w);
         let a = (k + 1) * m.size;
         let e = a + m.size;
         worst = noted(worst, k, interval_read::free_sound(&area[a..e], m));
-        at += w;
-        left -= 1;
     }
     worst
 }
 
-// The second half of an entry's judgement: its own bound.
-pub(crate) fn closed(ci: &[u8], m: Measures, opened: Opened, high: &[u8]) -> Seen
+// The second half of an entry's judgement: its own bound. How many records it has; none where it is unsound in its role.
+pub(crate) fn closed(ci: &[u8], m: Measures, opened: Option<Opened>, high: &[u8]) -> Option<usize>
     requires { Checkable m ci.now × Inside m ci.now opened × (length high.now ≤ m.key) }
     ensures { Closed m ci.now (bound m.key high.now) opened result }
 {
-    match opened {
-        Opened::Sound { count, last } => Seen {
-            ok: interval_read::closes(ci, m, count, last, high),
-            count,
-        },
-        Opened::Bad => Seen {
-            ok: false,
-            count: 0,
-        },
-    }
+    let Opened { count, last } = opened?;
+    interval_read::closes(ci, m, count, last, high).then_some(count)
 }
 
 // The lowest of the intervals in use that are unsound in their role, or `worst` where that is lower; and the records counted.
@@ -101,10 +78,9 @@ pub(crate) fn used_worst(
     let mut buf = [0u8; BUFFER];
     let mut high = [0u8; BUFFER];
     let mut p = index_step::start(ib);
-    let mut i: usize = 0;
     let mut lowest = worst;
     let mut records: usize = 0;
-    while i < entries {
+    for i in 0..entries {
         let s = index_step::entry_at(ib, w, p);
         let a = (s.number + 1) * m.size;
         let e = a + m.size;
@@ -114,9 +90,8 @@ pub(crate) fn used_worst(
         p = index_step::past(ib, s, p);
         let len = p.len;
         let seen = closed(&area[a..e], m, opened, &buf[..len]);
-        lowest = noted(lowest, s.number, seen.ok);
-        records = records + seen.count;
-        i += 1;
+        lowest = noted(lowest, s.number, seen.is_some());
+        records += seen.unwrap_or(0);
     }
     Tally {
         worst: lowest,
@@ -125,23 +100,23 @@ pub(crate) fn used_worst(
 }
 
 // The whole area: the index record first; data intervals are not looked at where it is unsound.
-pub fn check(area: &[u8], m: Measures, n: usize) -> Checked
+pub fn check(area: &[u8], m: Measures, n: usize) -> Result<Intact, Damage>
     requires { Fits m n (length area.now) }
     ensures { result ≡ checked_of (read_area m n area.now) }
 {
     let size = m.size;
-    let Index::Sound { free, entries } = index_read::check(&area[..size], m.key, n) else {
-        return Checked::Damaged { place: 0 };
+    let Some(index) = index_read::check(&area[..size], m.key, n) else {
+        return Err(Damage { place: 0 });
     };
-    let worst = free_worst(area, &area[..size], m, n, free);
-    let tally = used_worst(area, &area[..size], m, n, worst, entries);
+    let worst = free_worst(area, &area[..size], m, n, index.free);
+    let tally = used_worst(area, &area[..size], m, n, worst, index.entries);
     if tally.worst < n {
-        return Checked::Damaged {
+        return Err(Damage {
             place: tally.worst + 1,
-        };
+        });
     }
-    Checked::Intact {
+    Ok(Intact {
         records: tally.records,
-        free,
-    }
+        free: index.free,
+    })
 }

@@ -1,4 +1,5 @@
 -- From what the index record tells of a key to the answer: the interval's judgement between two separators, the bound before an entry, and the ways out.
+use Rattle.std.specs.Prelude.{Ok, None}
 use Prim.Native.Nat.{ℕ, zero, suc, ◌+◌, ◌*◌, ◌≤◌, ◌<◌}
 use mathlib.Core.Path.{◌≡◌, refl, ◌∙◌, sym, ap}
 use mathlib.Core.Bool.{Bool, true, false}
@@ -20,51 +21,50 @@ use Rattle.interval.specs.declared.Found.{Found}
 use Rattle.interval.specs.declared.Found.TheVariants.{At, Gap}
 use Rattle.interval.proofs.Readable.{fits-checkable, checked-readable, readable-rdfs}
 use Rattle.interval_read.specs.Verdict.{last_start}
-use Rattle.interval_read.specs.AidOpened.{opened_of, Inside as Told}
+use Rattle.interval_read.specs.AidOpened.{opened, opened_of, Inside as Told}
+use Rattle.std.specs.Prelude.{Option, Some, None}
 use Rattle.interval_read.specs.declared.Opened.{Opened}
-use Rattle.interval_read.specs.declared.Opened.TheVariants as opened
 use Rattle.index.specs.Bounds.{bound}
 use Rattle.index.specs.Meaning.{Entry, separator_before}
 use Rattle.index.specs.Rules.{bound_before}
 use Rattle.index.specs.Search.{leads_to, entry_for}
+use Rattle.std.specs.Prelude.{Option, Some}
 use Rattle.index_read.specs.Check.{sound_with, LeadWithin}
 use Rattle.index_read.specs.declared.Lead.{Lead}
-use Rattle.index_read.specs.declared.Sought.{Sought}
-use Rattle.index_read.specs.declared.Sought.TheVariants as sought
 use Rattle.index_read.proofs.Answers.{Led}
 use Rattle.area.specs.Content.{index_in, data_in}
 use Rattle.area.specs.Leads.{index_sound, entries_for, number_for, interval_for, sound_for}
 use Rattle.area.proofs.Intervals.{used-apart}
 use Rattle.area.proofs.Places.{length-data, data-ends}
 use Rattle.area_seek.specs.AidLooked.{looked_at, looked_of}
-use Rattle.area_seek.specs.declared.Looked.TheVariants.{Here, Nowhere, Damaged}
+use Rattle.area.specs.Checked.{damaged_at, lies_at}
 
 -- ---- an interval between two bounds
 
 -- what opening told of an interval that opened well
-pub opened-told : (m : Measures) (ci : List ℕ) (o : Opened) (count last : ℕ) → o ≡ opened.Sound count last → Told m ci o → Told m ci (opened.Sound count last)
+pub opened-told : (m : Measures) (ci : List ℕ) (o : Option Opened) (count last : ℕ) → o ≡ Some (opened count last) → Told m ci o → Told m ci (Some (opened count last))
 opened-told m ci o count last e t = rw e at t
 
-sound-bad : (count last : ℕ) → opened.Bad ≡ opened.Sound count last → ⊥
+sound-bad : (count last : ℕ) → None ≡ Some (opened count last) → ⊥
 sound-bad count last e = let z : ◌≡◌ {A = ℕ} 0 1 = cc in omega arith
 
 module _ (m : Measures) (low high ci : List ℕ) where
   -- Where it opened well, its own bound decides.
-  pub closes-well : (o : Opened) (count last : ℕ) → o ≡ opened.Sound count last → o ≡ opened_of m low ci → up_to high (keys_of m (records_in ci)) ≡ sound_used m low high ci
+  pub closes-well : (o : Option Opened) (count last : ℕ) → o ≡ Some (opened count last) → o ≡ opened_of m low ci → up_to high (keys_of m (records_in ci)) ≡ sound_used m low high ci
   unfolding opened_of sound_used
   closes-well o count last e is =
       let t = both (sound m ci) (above low (keys_of m (records_in ci))) in
-      let s = opened.Sound (length (records_in ci)) (last_start (map length (records_in ci))) in
-      let p = pick_true t s opened.Bad (opened.Sound count last) (sym is ∙ e) (sound-bad count last) in
+      let s = Some (opened (length (records_in ci)) (last_start (map length (records_in ci)))) in
+      let p = pick_true t s None (Some (opened count last)) (sym is ∙ e) (sound-bad count last) in
       let b = both-split (sound m ci) (above low (keys_of m (records_in ci))) p.0 in
       sym (rw (b.0, b.1))
 
   -- Where it did not, it is unsound.
-  pub opens-badly : (o : Opened) → o ≡ opened.Bad → o ≡ opened_of m low ci → false ≡ sound_used m low high ci
+  pub opens-badly : (o : Option Opened) → o ≡ None → o ≡ opened_of m low ci → false ≡ sound_used m low high ci
   unfolding opened_of sound_used
   opens-badly o e is =
-      let s = opened.Sound (length (records_in ci)) (last_start (map length (records_in ci))) in
-      sym (go (sound m ci) (above low (keys_of m (records_in ci))) (pick-false (both (sound m ci) (above low (keys_of m (records_in ci)))) s opened.Bad opened.Bad (sym is ∙ e) (λ z. sound-bad (length (records_in ci)) (last_start (map length (records_in ci))) (sym z))).0)
+      let s = Some (opened (length (records_in ci)) (last_start (map length (records_in ci)))) in
+      sym (go (sound m ci) (above low (keys_of m (records_in ci))) (pick-false (both (sound m ci) (above low (keys_of m (records_in ci)))) s None None (sym is ∙ e) (λ z. sound-bad (length (records_in ci)) (last_start (map length (records_in ci))) (sym z))).0)
     where
       go : (x y : Bool) → both x y ≡ false → both x (both y (up_to high (keys_of m (records_in ci)))) ≡ false
       go true true z = absurd (false-true (sym z))
@@ -97,11 +97,11 @@ leads-most key (e ∷ es) = go (less e.sep (take (length e.sep) key)) (leads-mos
 -- ---- what the index record told
 
 -- what was found lies within its limits
-pub spot-within : (n K : ℕ) (r : Sought) (spot : Lead) → r ≡ sought.At spot → LeadWithin n K r → (spot.number < n) × (spot.before ≤ K) × (spot.own ≤ K)
+pub spot-within : (n K : ℕ) (r : Option Lead) (spot : Lead) → r ≡ Some spot → LeadWithin n K r → (spot.number < n) × (spot.before ≤ K) × (spot.own ≤ K)
 spot-within n K r spot e w = rw e at w
 
 -- the index record is unsound
-pub way-unsound : (m : Measures) (n : ℕ) (area key : List ℕ) → length key ≡ m.key → sound_with n (index_in m area) key ≡ false → Damaged 0 ≡ looked_of m n area key
+pub way-unsound : (m : Measures) (n : ℕ) (area key : List ℕ) → length key ≡ m.key → sound_with n (index_in m area) key ≡ false → damaged_at 0 ≡ looked_of m n area key
 unfolding looked_of
 way-unsound m n area key long h = let t : index_sound m n area ≡ false = rw long at h in sym (rw t)
 
@@ -130,7 +130,7 @@ module _ (m : Measures) (n : ℕ) (area key : List ℕ) (spot : Lead) (before ow
 
 module _ (m : Measures) (n : ℕ) (area key : List ℕ) (h : index_sound m n area ≡ true) (k : ℕ) (number : k ≡ number_for m n area key) where
   -- that interval is unsound
-  pub way-damaged : sound_for m (entries_for m n area) key (interval_for m n area key) ≡ false → Damaged (k + 1) ≡ looked_of m n area key
+  pub way-damaged : sound_for m (entries_for m n area) key (interval_for m n area key) ≡ false → damaged_at (k + 1) ≡ looked_of m n area key
   unfolding looked_of
   way-damaged t = sym (rw (h, t, number))
 
@@ -140,10 +140,10 @@ module _ (m : Measures) (n : ℕ) (area key : List ℕ) (h : index_sound m n are
     unfolding looked_of
     there f is = rw (h, t, is, lent, number)
 
-    pub way-found : (f : Found) (i start len : ℕ) → f ≡ At i start len → f ≡ place_of m key (records_in ci) → Here ((k + 1) * m.size + start) len ≡ looked_of m n area key
+    pub way-found : (f : Found) (i start len : ℕ) → f ≡ At i start len → f ≡ place_of m key (records_in ci) → Ok (lies_at ((k + 1) * m.size + start) len) ≡ looked_of m n area key
     way-found f i start len e is = ap (looked_at ((k + 1) * m.size)) (sym e) ∙ there f is
 
-    pub way-absent : (f : Found) (i start : ℕ) → f ≡ Gap i start → f ≡ place_of m key (records_in ci) → Nowhere ≡ looked_of m n area key
+    pub way-absent : (f : Found) (i start : ℕ) → f ≡ Gap i start → f ≡ place_of m key (records_in ci) → (Ok None) ≡ looked_of m n area key
     way-absent f i start e is = ap (looked_at ((k + 1) * m.size)) (sym e) ∙ there f is
 
     module _ (o : Fits m n (length area)) (within : k < n) where

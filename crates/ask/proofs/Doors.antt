@@ -1,36 +1,33 @@
--- The doors: which request is asked for, what each arm makes, and what is left then.
+-- The doors: which request a number is, and what each arm makes.
+use Rattle.std.specs.Prelude.{Ok, Err, None}
 use Prim.Native.Nat.{ℕ, ◌<◌, ◌≤◌}
-use mathlib.Core.Path.{◌≡◌, refl, ap}
-use mathlib.Core.Bool.{Bool, true, false, not}
-use mathlib.Core.List.{List, [], ◌∷◌}
+use mathlib.Core.Path.{◌≡◌, refl}
+use mathlib.Core.Bool.{false}
+use mathlib.Core.List.{List}
 use lib.ListN.{length, get_or}
-use lib.Dec.{eqb, ltb}
-use native.Mathlib.Omega.{arith}
-use borrow.Author.Tests.{not-true, not-false, lt-ltb, le-ltb, ltb-false, le-leb, lt-leb, ne_eqb}
+use lib.Dec.{eqb}
+use borrow.Author.Tests.{le-leb, lt-leb, ne_eqb}
 use Rattle.fields.specs.Bytes.{splice}
 use Rattle.measures.specs.Judgement.{asked}
 use Rattle.measures.specs.declared.Numbers.{Numbers}
 use Rattle.requests.specs.Reading.{check_of, get_of, get_at_of, Gives}
 use Rattle.requests.specs.Changing.{insert_of, update_of, erase_of, Makes}
-use Rattle.requests.specs.declared.Answer.{Answer}
-use Rattle.requests.specs.declared.Answer.TheVariants.{Found, Short}
+use Rattle.requests.specs.Answers.{Answer}
+use Rattle.requests.specs.declared.Done.TheVariants.{Found}
+use Rattle.requests.specs.declared.Refusal.TheVariants.{Short}
 use Rattle.opening.specs.AidOpened.{opened_of}
 use Rattle.walk.specs.AidSteps.{next_of, record_of}
 use Rattle.walk.specs.AidStands.{ended_by, begun_from}
 use Rattle.walk.specs.declared.Place.{Place}
-use Rattle.walk.specs.declared.Begun.{Begun}
+use Rattle.walk.specs.AidGives.{Begun}
 use Rattle.ask.specs.declared.Told.{Told}
 use Rattle.ask.specs.declared.ReadKind.{ReadKind}
 use Rattle.ask.specs.declared.ReadKind.TheVariants.{Check, Get, GetAt, WalkFrom, WalkEnd, Step, Record}
 use Rattle.ask.specs.declared.ChangeKind.{ChangeKind}
 use Rattle.ask.specs.declared.ChangeKind.TheVariants.{Insert, Update, Erase}
-use Rattle.ask.specs.declared.Asked.{Asked}
-use Rattle.ask.specs.declared.Asked.TheVariants.{Reads, Changes, Nothing}
-use Rattle.ask.specs.declared.Row.{Row}
-use Rattle.ask.specs.contracts.Asked.{the_type}
-use Rattle.ask.specs.Told.{told_of, place_told, begun_told, listed}
-use Rattle.ask.specs.Kinds.{row, row_of, if_served}
-use Rattle.ask.specs.Asking.{Question, question, numbers_in, place_from, record_given, Made, made, read_made, change_made, Left, left, served, read_asked, ask_asked}
+use Rattle.ask.specs.Told.{told_of, place_told, begun_told}
+use Rattle.ask.specs.Kinds.{row, row_of}
+use Rattle.ask.specs.Asking.{question, numbers_in, place_from, record_given, made, read_made, change_made}
 
 -- ---- which request
 
@@ -38,7 +35,7 @@ use Rattle.ask.specs.Asking.{Question, question, numbers_in, place_from, record_
 abbrev pub NoneOf : ℕ → Type 0
 NoneOf k = ((((((((((Unit {0} × (k ≡ 1 → ⊥)) × (k ≡ 2 → ⊥)) × (k ≡ 3 → ⊥)) × (k ≡ 4 → ⊥)) × (k ≡ 5 → ⊥)) × (k ≡ 6 → ⊥)) × (k ≡ 7 → ⊥)) × (k ≡ 8 → ⊥)) × (k ≡ 9 → ⊥)) × (k ≡ 10 → ⊥))
 
-pub none_of : (k : ℕ) → NoneOf k → row Nothing 0 false ≡ row_of k
+pub none_of : (k : ℕ) → NoneOf k → row None 0 false ≡ row_of k
 none_of k h =
     rw (
       ne_eqb k 1 h.0.0.0.0.0.0.0.0.0.1,
@@ -53,71 +50,13 @@ none_of k h =
       ne_eqb k 10 h.1,
     )
 
-module _ (r : Row) (ns : List ℕ) (values : ℕ) where
-  pub asked-short : values < 8 → Nothing ≡ if_served r ns values
-  asked-short h = rw (lt-ltb values 8 h)
-
-  -- it has eight values or more
-  pub asked-long : (a : Asked) → if_served r ns values ≡ a → (Nothing ≡ a → ⊥) → 8 ≤ values
-  asked-long a e some = go (ltb values 8) refl
-    where
-      go : (t : Bool) → ltb values 8 ≡ t → 8 ≤ values
-      go true f = absurd (some (rw f at e))
-      go false f = ltb-false values 8 f
-
-  module _ (h : 8 ≤ values) where
-    pub asked-few : length ns < r.numbers → Nothing ≡ if_served r ns values
-    asked-few l = rw (le-ltb values 8 h, lt-ltb (length ns) r.numbers l)
-
-    module _ (l : r.numbers ≤ length ns) where
-      pub asked-plain : not r.directed ≡ true → r.asks ≡ if_served r ns values
-      asked-plain d = rw (le-ltb values 8 h, le-ltb (length ns) r.numbers l, not-true r.directed d)
-
-      module _ (v : ℕ) (e : v ≡ get_or ns 4 0) (d : not r.directed ≡ false) where
-        pub asked-astray : 1 < v → Nothing ≡ if_served r ns values
-        asked-astray m = let n : 1 < get_or ns 4 0 = rw e at m in rw (le-ltb values 8 h, le-ltb (length ns) r.numbers l, not-false r.directed d, lt-ltb 1 (get_or ns 4 0) n)
-
-        pub asked-directed : v ≤ 1 → r.asks ≡ if_served r ns values
-        asked-directed m = let n : get_or ns 4 0 ≤ 1 = rw e at m in rw (le-ltb values 8 h, le-ltb (length ns) r.numbers l, not-false r.directed d, le-ltb 1 (get_or ns 4 0) n)
-
-pub reads-not : (k : ReadKind) → Nothing ≡ Reads k → ⊥
-reads-not k e = let z : ◌≡◌ {A = ℕ} 0 1 = cc in omega arith
-
-pub changes-not : (k : ChangeKind) → Nothing ≡ Changes k → ⊥
-changes-not k e = let z : ◌≡◌ {A = ℕ} 0 1 = cc in omega arith
-
--- ---- what a door leaves
-
-module _ (q : Question) (values : List ℕ) where
-  -- the door that reads: not served where it does not read
-  pub read-not : (a : Asked) → ((k : ReadKind) → a ≡ Reads k → ⊥) → left 255 q.area q.second q.out values ≡ read_asked a q values
-  read-not (Reads k) h = absurd (h k refl)
-  read-not (Changes k) h = refl
-  read-not Nothing h = refl
-
-  -- the door for every request: what does not change is as at the other
-  pub ask-handed : (a : Asked) (l : Left) → ((k : ChangeKind) → a ≡ Changes k → ⊥) → l ≡ read_asked a q values → l ≡ ask_asked a q values
-  ask-handed (Reads k) l h e = e
-  ask-handed (Changes k) l h e = absurd (h k refl)
-  ask-handed Nothing l h e = e
-
-  module _ (a : Asked) (t : Told) (area second out after : List ℕ) (f : after ≡ splice values 0 (listed t)) where
-    left_is : (m : Made) → made t area second out ≡ m → left t.number area second out after ≡ served m values
-    left_is m e = rw f (ap (λ (x : Made). served x values) e)
-
-    pub read-served : (k : ReadKind) → a ≡ Reads k → made t area second out ≡ read_made k q → left t.number area second out after ≡ read_asked a q values
-    read-served k is e = rw is (left_is (read_made k q) e)
-
-    pub change-served : (k : ChangeKind) → a ≡ Changes k → made t area second out ≡ change_made k q → left t.number area second out after ≡ ask_asked a q values
-    change-served k is e = rw is (left_is (change_made k q) e)
-
 -- ---- the record at a place of a walk
 
 module _ (area : List ℕ) (p : Place) (out r : List ℕ) (is : r ≡ record_of area p) where
-  pub record-short : length out < length r → Gives (record_given area p out) (Short (length r)) out
+  pub record-short : length out < length r → Gives (record_given area p out) (Err (Short (length r))) out
   record-short h = rw (← is, lt-leb (length r) (length out) h) (record { answers = refl; outputs = refl })
 
-  pub record-fits : (after : List ℕ) → length r ≤ length out → after ≡ splice out 0 r → Gives (record_given area p out) (Found (length r)) after
+  pub record-fits : (after : List ℕ) → length r ≤ length out → after ≡ splice out 0 r → Gives (record_given area p out) (Ok (Found (length r))) after
   record-fits after h e = rw (← is, le-leb (length r) (length out) h) (record { answers = refl; outputs = e })
 
 -- ---- the arms that read

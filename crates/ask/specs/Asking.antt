@@ -1,12 +1,12 @@
 -- What each request, asked through the door, answers and leaves: its number, both areas, the output and the values.
-use Rattle.std.specs.Prelude.{ℕ, ◌+◌, Bool, List, [], ◌∷◌, length, get_or, eqb}
+use Rattle.std.specs.Prelude.{ℕ, ◌+◌, Bool, List, [], ◌∷◌, length, get_or, eqb, Err, Option, Some, None}
 use Rattle.fields.specs.Bytes.{splice}
 use Rattle.measures.specs.Judgement.{asked}
 use Rattle.measures.specs.declared.Measures.{Measures}
 use Rattle.measures.specs.declared.Numbers.{Numbers}
 use Rattle.requests.specs.Reading.{Given, hand_out, check_of, get_of, get_at_of}
 use Rattle.requests.specs.Changing.{Outcome, insert_of, update_of, erase_of}
-use Rattle.requests.specs.declared.Answer.TheVariants.{Absent}
+use Rattle.requests.specs.declared.Refusal.TheVariants.{Absent}
 use Rattle.opening.specs.AidOpened.{opened_of}
 use Rattle.walk.specs.AidSteps.{next_of, record_of}
 use Rattle.walk.specs.AidStands.{ended_by, begun_from}
@@ -17,7 +17,7 @@ use Rattle.ask.specs.declared.ReadKind.TheVariants.{Check, Get, GetAt, WalkFrom,
 use Rattle.ask.specs.declared.ChangeKind.{ChangeKind}
 use Rattle.ask.specs.declared.ChangeKind.TheVariants.{Insert, Update, Erase}
 use Rattle.ask.specs.declared.Asked.{Asked}
-use Rattle.ask.specs.declared.Asked.TheVariants.{Reads, Changes, Nothing}
+use Rattle.ask.specs.declared.Asked.TheVariants.{Reads, Changes}
 use Rattle.ask.specs.Told.{told_of, place_told, begun_told, listed}
 use Rattle.ask.specs.Kinds.{asked_of}
 
@@ -63,7 +63,7 @@ place_from ns i =
 
 -- the record at a place, handed out as a get does it: at the end, and at a place that does not lie in the area, 0 bytes
 abbrev pub record_given : List ℕ → Place → List ℕ → Given
-record_given area p out = hand_out Absent (record_of area p ∷ []) out
+record_given area p out = hand_out (Err Absent) (record_of area p ∷ []) out
 
 -- ---- what a request makes
 
@@ -121,19 +121,19 @@ abbrev pub served : Made → List ℕ → Left
 served m values = left m.told.number m.area m.second m.out (splice values 0 (listed m.told))
 
 -- the door for requests that only read
-abbrev pub read_asked : Asked → Question → List ℕ → Left
-read_asked (Reads k) q values = served (read_made k q) values
-read_asked (Changes k) q values = not_served q values
-read_asked Nothing q values = not_served q values
+abbrev pub read_asked : Option Asked → Question → List ℕ → Left
+read_asked (Some (Reads k)) q values = served (read_made k q) values
+read_asked (Some (Changes k)) q values = not_served q values
+read_asked None q values = not_served q values
 
 abbrev pub read_of : ℕ → Question → List ℕ → Left
 read_of kind q values = read_asked (asked_of kind q.numbers (length values)) q values
 
 -- the door for every request
-abbrev pub ask_asked : Asked → Question → List ℕ → Left
-ask_asked (Reads k) q values = served (read_made k q) values
-ask_asked (Changes k) q values = served (change_made k q) values
-ask_asked Nothing q values = not_served q values
+abbrev pub ask_asked : Option Asked → Question → List ℕ → Left
+ask_asked (Some (Reads k)) q values = served (read_made k q) values
+ask_asked (Some (Changes k)) q values = served (change_made k q) values
+ask_asked None q values = not_served q values
 
 abbrev pub ask_of : ℕ → Question → List ℕ → Left
 ask_of kind q values = ask_asked (asked_of kind q.numbers (length values)) q values

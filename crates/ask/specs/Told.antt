@@ -1,10 +1,8 @@
 -- An answer as a number and eight values: document 01, 'What each number tells the depot'.
-use Rattle.std.specs.Prelude.{ℕ, List, [], ◌∷◌, get_or}
-use Rattle.requests.specs.Answers.{number_of, values_of}
-use Rattle.requests.specs.declared.Answer.{Answer}
+use Rattle.std.specs.Prelude.{ℕ, List, [], ◌∷◌, get_or, Ok, Err}
+use Rattle.requests.specs.Answers.{number_of, values_of, Answer}
 use Rattle.walk.specs.declared.Place.{Place}
-use Rattle.walk.specs.declared.Begun.{Begun}
-use Rattle.walk.specs.declared.Begun.TheVariants.{At, Refused}
+use Rattle.walk.specs.AidGives.{Begun}
 use Rattle.ask.specs.declared.Told.{Told}
 
 abbrev pub eight : ℕ → ℕ → ℕ → ℕ → ℕ → ℕ → ℕ → ℕ → ℕ → Told
@@ -36,8 +34,8 @@ place_told p = eight 0 p.entry p.start p.length p.left p.at p.right p.end 0
 
 -- a walk that was begun: its place, or the refusal
 abbrev pub begun_told : Begun → Told
-begun_told (At p) = place_told p
-begun_told (Refused a) = told_of a
+begun_told (Ok p) = place_told p
+begun_told (Err refusal) = told_of (Err refusal)
 
 abbrev pub listed : Told → List ℕ
 listed t =

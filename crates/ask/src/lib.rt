@@ -14,7 +14,7 @@ ghost use Rattle.ask.specs.Asking.{question, numbers_in, place_from, record_give
 ghost use Rattle.ask.specs.Asking.{left, read_of, ask_of};
 
 use measures::Numbers;
-use requests::Answer;
+use requests::{Answer, Done, Refusal};
 use walk::{Begun, Place};
 
 // The requests that only read. A new one stands last.
@@ -37,18 +37,17 @@ pub enum ChangeKind {
     Erase,
 }
 
-// What is asked for; nothing where it is not there.
+// What is asked for.
 #[derive(Clone, Copy)]
 pub enum Asked {
     Reads(ReadKind),
     Changes(ChangeKind),
-    Nothing,
 }
 
-// What is said of a kind: which request it is, how many numbers it must have, and whether the fifth is a direction.
+// What is said of a kind: which request it is, if any, how many numbers it must have, and whether the fifth is a direction.
 #[derive(Clone, Copy)]
 pub struct Row {
-    pub asks: Asked,
+    pub asks: Option<Asked>,
     pub numbers: usize,
     pub directed: bool,
 }
@@ -100,7 +99,7 @@ pub(crate) fn tell(answer: Answer) -> Told
 {
     let number = requests::number(answer);
     match answer {
-        Answer::Done(written) => {
+        Ok(Done::Changed(written)) => {
             let count = written.count;
             let second = counted(count, 0, written.first);
             let third = counted(count, 1, written.second);
@@ -118,11 +117,11 @@ pub(crate) fn tell(answer: Answer) -> Told
                 eighth: 0,
             }
         }
-        Answer::Intact { records, free } => two(number, records, free),
-        Answer::Found(length) => two(number, length, 0),
-        Answer::Damaged(place) => two(number, place, 0),
-        Answer::Short(needed) => two(number, needed, 0),
-        _ => two(number, 0, 0),
+        Ok(Done::Intact { records, free }) => two(number, records, free),
+        Ok(Done::Found(length)) => two(number, length, 0),
+        Err(Refusal::Damaged(place)) => two(number, place, 0),
+        Err(Refusal::Short(needed)) => two(number, needed, 0),
+        Err(_) => two(number, 0, 0),
     }
 }
 
@@ -148,8 +147,8 @@ pub(crate) fn begun(b: Begun) -> Told
     ensures { result ≡ begun_told b }
 {
     match b {
-        Begun::At(place) => standing(place),
-        Begun::Refused(answer) => tell(answer),
+        Ok(place) => standing(place),
+        Err(refusal) => tell(Err(refusal)),
     }
 }
 
@@ -192,7 +191,7 @@ pub(crate) fn place_in(numbers: &[u64], from: usize) -> Place
 }
 
 // A row of the table.
-pub(crate) fn kind_row(asks: Asked, numbers: usize, directed: bool) -> Row
+pub(crate) fn kind_row(asks: Option<Asked>, numbers: usize, directed: bool) -> Row
     ensures { result ≡ row asks numbers directed }
 {
     Row {
@@ -207,36 +206,36 @@ pub(crate) fn row_of(kind: u64) -> Row
     ensures { result ≡ row_of kind }
 {
     match kind {
-        1 => kind_row(Asked::Reads(ReadKind::Check), 4, false),
-        2 => kind_row(Asked::Reads(ReadKind::Get), 4, false),
-        3 => kind_row(Asked::Reads(ReadKind::GetAt), 5, false),
-        4 => kind_row(Asked::Changes(ChangeKind::Insert), 4, false),
-        5 => kind_row(Asked::Changes(ChangeKind::Update), 4, false),
-        6 => kind_row(Asked::Changes(ChangeKind::Erase), 4, false),
-        7 => kind_row(Asked::Reads(ReadKind::WalkFrom), 5, true),
-        8 => kind_row(Asked::Reads(ReadKind::WalkEnd), 5, true),
-        9 => kind_row(Asked::Reads(ReadKind::Step), 12, true),
-        10 => kind_row(Asked::Reads(ReadKind::Record), 11, false),
-        _ => kind_row(Asked::Nothing, 0, false),
+        1 => kind_row(Some(Asked::Reads(ReadKind::Check)), 4, false),
+        2 => kind_row(Some(Asked::Reads(ReadKind::Get)), 4, false),
+        3 => kind_row(Some(Asked::Reads(ReadKind::GetAt)), 5, false),
+        4 => kind_row(Some(Asked::Changes(ChangeKind::Insert)), 4, false),
+        5 => kind_row(Some(Asked::Changes(ChangeKind::Update)), 4, false),
+        6 => kind_row(Some(Asked::Changes(ChangeKind::Erase)), 4, false),
+        7 => kind_row(Some(Asked::Reads(ReadKind::WalkFrom)), 5, true),
+        8 => kind_row(Some(Asked::Reads(ReadKind::WalkEnd)), 5, true),
+        9 => kind_row(Some(Asked::Reads(ReadKind::Step)), 12, true),
+        10 => kind_row(Some(Asked::Reads(ReadKind::Record)), 11, false),
+        _ => kind_row(None, 0, false),
     }
 }
 
 // What is asked for; nothing where there are too few values or numbers, or a direction is neither 0 nor 1.
-pub(crate) fn asked_of(kind: u64, numbers: &[u64], values: usize) -> Asked
+pub(crate) fn asked_of(kind: u64, numbers: &[u64], values: usize) -> Option<Asked>
     ensures { result ≡ asked_of kind numbers.now values }
 {
     if values < 8 {
-        return Asked::Nothing;
+        return None;
     }
     let row = row_of(kind);
     if numbers.len() < row.numbers {
-        return Asked::Nothing;
+        return None;
     }
     if !row.directed {
         return row.asks;
     }
     if 1 < at(numbers, 4) {
-        return Asked::Nothing;
+        return None;
     }
     row.asks
 }
@@ -248,10 +247,10 @@ pub(crate) fn show(area: &[u8], p: Place, out: &mut [u8]) -> Answer
     let r = walk::walk_record(area, p);
     let long = r.len();
     if out.len() < long {
-        return Answer::Short(long);
+        return Err(Refusal::Short(long));
     }
     fields::copy(out, 0, r);
-    Answer::Found(long)
+    Ok(Done::Found(long))
 }
 
 // A request that only reads, on its numbers, and its answer told. One arm for each kind: so it grows with the kinds. None
@@ -339,7 +338,7 @@ pub extern "C" fn belquita_read(
         ≡ read_of kind (question numbers.now area.now second.now
         given.now out.old) values.old }
 {
-    let Asked::Reads(k) = asked_of(kind, numbers, values.len()) else {
+    let Some(Asked::Reads(k)) = asked_of(kind, numbers, values.len()) else {
         return 255;
     };
     let t = read(k, numbers, area, second, given, out);
@@ -362,7 +361,7 @@ pub extern "C" fn belquita_ask(
         ≡ ask_of kind (question numbers.now area.old second.old
         given.now out.old) values.old }
 {
-    let Asked::Changes(k) = asked_of(kind, numbers, values.len()) else {
+    let Some(Asked::Changes(k)) = asked_of(kind, numbers, values.len()) else {
         return belquita_read(kind, numbers, area, second, given, out, values);
     };
     let t = change(k, numbers, area, second, given, out);

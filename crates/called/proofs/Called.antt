@@ -4,7 +4,7 @@ use mathlib.Core.List.{List, []}
 use Rattle.fields.specs.Bytes.{Octets}
 use Rattle.measures.specs.Judgement.{measures}
 use Rattle.measures.specs.declared.Measures.{Measures}
-use Rattle.requests.specs.declared.Answer.{Answer}
+use Rattle.requests.specs.Answers.{Answer}
 use Rattle.requests.specs.Model as model
 use Rattle.requests.specs.Allowed.{Request, Allowed, changes}
 use Rattle.requests.specs.Allowed as asked

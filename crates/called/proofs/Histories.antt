@@ -1,4 +1,5 @@
 -- The promises of requests one after another, said of what callers of the register's functions learn at each of them.
+use Rattle.std.specs.Prelude.{Err}
 use Prim.Native.Nat.{ℕ, ◌+◌, ◌<◌, ◌≤◌}
 use mathlib.Core.Path.{◌≡◌}
 use mathlib.Core.List.{List, [], ◌∷◌, ◌++◌}
@@ -10,8 +11,8 @@ use Rattle.area.specs.Reading.{whole, read_area}
 use Rattle.requests.specs.Model.{make_all, total, lost_all, gained_all}
 use Rattle.requests.specs.Finding.{Keyed, Lies, Finds}
 use Rattle.requests.specs.Allowed.{get, get_at}
-use Rattle.requests.specs.declared.Answer.{Answer}
-use Rattle.requests.specs.declared.Answer.TheVariants.{Absent, NoRecord}
+use Rattle.requests.specs.Answers.{Answer}
+use Rattle.requests.specs.declared.Refusal.TheVariants.{Absent, NoRecord}
 use Rattle.promises.specs.Trace.{Step, Trace, area_after, accepted_in, Sound, Stands}
 use Rattle.promises.specs.Alike.{requests_in, answers_in, areas_in, outputs_in}
 use Rattle.promises.proofs.History.{history, history-throughout, total-bytes, named-once, get-finds, get-at-finds}
@@ -52,14 +53,14 @@ module _ (m : Measures) where
     module _ (ss rest : List Step) (a : Answer) (after out lent : List ℕ) where
       pub get-finds-called : (wanted : List ℕ) → length wanted ≡ m.key
           → Calls area (ss ++ (record { request = get wanted lent; answer = a; area = after; output = out } ∷ rest))
-          → Finds (Keyed m wanted (make_all m (accepted_in ss) (records_of c.filled))) Absent lent (record { answer = a; output = out })
+          → Finds (Keyed m wanted (make_all m (accepted_in ss) (records_of c.filled))) (Err Absent) lent (record { answer = a; output = out })
       get-finds-called wanted l t =
           get-finds m n area c s ss rest a after out lent wanted l
           (calls-trace (ss ++ (record { request = get wanted lent; answer = a; area = after; output = out } ∷ rest)) area t)
 
       pub get-at-finds-called : (address : ℕ)
           → Calls area (ss ++ (record { request = get_at address lent; answer = a; area = after; output = out } ∷ rest))
-          → (d : Content) → read_area m n (area_after area ss) ≡ whole d → Finds (Lies m (base_of d) address d.filled) NoRecord lent (record { answer = a; output = out })
+          → (d : Content) → read_area m n (area_after area ss) ≡ whole d → Finds (Lies m (base_of d) address d.filled) (Err NoRecord) lent (record { answer = a; output = out })
       get-at-finds-called address t =
           get-at-finds m n area c s ss rest a after out lent address
           (calls-trace (ss ++ (record { request = get_at address lent; answer = a; area = after; output = out } ∷ rest)) area t)

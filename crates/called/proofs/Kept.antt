@@ -1,4 +1,5 @@
 -- The promises of one request, said of what a caller of the register's function learns: each is the promise of that name, through `allowed`.
+use Rattle.std.specs.Prelude.{Ok, Err}
 use Prim.Native.Nat.{ℕ, ◌+◌}
 use mathlib.Core.Path.{◌≡◌, refl}
 use mathlib.Core.List.{List}
@@ -11,12 +12,12 @@ use Rattle.index.specs.Meaning.{Meaning}
 use Rattle.area.specs.Content.{Content, index_in, records_of}
 use Rattle.area.specs.Layout.{Lent, IndexInterval}
 use Rattle.area.specs.Reading.{whole, read_area}
-use Rattle.requests.specs.Answers.{number_of}
+use Rattle.requests.specs.Answers.{Answer, number_of}
 use Rattle.requests.specs.Finding.{Keyed, Finds}
 use Rattle.requests.specs.Model.{Change, insert, update, erase, Legal}
 use Rattle.requests.specs.Allowed.{Request, check, get, get_at, changes, Allowed}
-use Rattle.requests.specs.declared.Answer.{Answer}
-use Rattle.requests.specs.declared.Answer.TheVariants.{Intact, Damaged, Absent}
+use Rattle.requests.specs.declared.Done.TheVariants.{Intact}
+use Rattle.requests.specs.declared.Refusal.TheVariants.{Damaged, Absent}
 use Rattle.promises.specs.Harmless.{Refusal}
 use Rattle.promises.specs.Alike.{handed_back}
 use Rattle.promises.specs.Wrong.{lent_by}
@@ -64,7 +65,7 @@ module _ (m : Measures) (area : List ℕ) where
   refused-harmless-called q a after out k n = spared q a after out (allowed m area q a after out k) n
 
   pub check-true-called : (n : ℕ) (c : Content) → Sound m n area c → (a : Answer) (after out : List ℕ)
-      → Called m area check a after out → a ≡ Intact (length (records_of c.filled)) (length c.free)
+      → Called m area check a after out → a ≡ Ok (Intact (length (records_of c.filled)) (length c.free))
   check-true-called n c s a after out k = check-true m n area c s a (allowed m area check a after out k).1
 
   -- ---- get by key
@@ -77,15 +78,15 @@ module _ (m : Measures) (area : List ℕ) where
 
   pub get-damage-placed-called : Lent m (count_of m.size (length area)) area → (wanted : List ℕ) → Octets wanted
       → (lent : List ℕ) (a : Answer) (after out : List ℕ) → Called m area (get wanted lent) a after out
-      → ((a ≡ Damaged 0) ↔ ((ix : Meaning) → IndexInterval m (count_of m.size (length area)) ix (index_in m area) → ⊥))
-      × ((k : ℕ) → (a ≡ Damaged (k + 1)) ↔ DamagedHome m (count_of m.size (length area)) area wanted k)
+      → ((a ≡ Err (Damaged 0)) ↔ ((ix : Meaning) → IndexInterval m (count_of m.size (length area)) ix (index_in m area) → ⊥))
+      × ((k : ℕ) → (a ≡ Err (Damaged (k + 1))) ↔ DamagedHome m (count_of m.size (length area)) area wanted k)
   get-damage-placed-called l wanted b lent a after out k =
       get-damage-placed m area l wanted b lent a after out (allowed m area (get wanted lent) a after out k)
 
   pub get-there-finds-called : Lent m (count_of m.size (length area)) area → (wanted : List ℕ) → Octets wanted
       → (rs : List (List ℕ)) → FineHome m (count_of m.size (length area)) area wanted rs
       → (lent : List ℕ) (a : Answer) (after out : List ℕ) → Called m area (get wanted lent) a after out
-      → Finds (Keyed m wanted rs) Absent lent (record { answer = a; output = out })
+      → Finds (Keyed m wanted rs) (Err Absent) lent (record { answer = a; output = out })
   get-there-finds-called l wanted b rs f lent a after out k =
       get-there-finds m area l wanted b rs f lent a after out (allowed m area (get wanted lent) a after out k)
 

@@ -7,6 +7,7 @@ use lib.ListN.{length, get_or, take, drop, length-drop}
 use lib.Seq.{length-take-le, get_or-take}
 use native.Mathlib.Omega.{arith}
 use borrow.Author.Tests.{eqb-true, eqb-false, lt-ltb}
+use Rattle.std.specs.Prelude.{Ok, Err}
 use Rattle.fields.specs.Choice.{pick}
 use Rattle.fields.proofs.Choices.{false-true}
 use Rattle.measures.specs.Judgement.{width_for}
@@ -19,6 +20,7 @@ use Rattle.area.specs.Content.{Content, width_in}
 use Rattle.area.specs.Reading.{read_area, whole}
 use Rattle.change.specs.Parts.{Edit, divided, taken}
 use Rattle.change.specs.Plan.{Plan, index_after}
+use Rattle.change.specs.declared.Full.TheVariants.{NoInterval, NoRoom}
 use Rattle.change.proofs.Planning.{refuse-interval, refuse-room, make-stores}
 use Rattle.index_write.specs.AidStream.{CutsLie, cuts_in}
 use Rattle.index_write.specs.AidDivided.{Divisible, new_record}
@@ -27,7 +29,6 @@ use Rattle.change_plan.specs.AidEdited.{Entered}
 use Rattle.change_plan.specs.AidParts.{stretch, parts_at, three_of, CutInside, left_key_at, separator_at, left_keys, cuts_at}
 use Rattle.change_plan.specs.AidPlanned.{parts_for, spread_for, planned_as, FreeCounted, EnoughFree, TakenAt, PlannedDivided}
 use Rattle.change_plan.specs.declared.Parts.{Parts}
-use Rattle.change_plan.specs.declared.Planned.TheVariants.{Ready, NoInterval, NoRoom}
 use Rattle.change_plan.specs.declared.Spread.{Spread}
 use Rattle.change_plan.proofs.Cutting.{cuts-lie, cuts-in}
 use Rattle.change_plan.proofs.Dividing.{many-three, divided-many, cuts_are, size_is, divisible}
@@ -58,7 +59,7 @@ pub data Second (m : Measures) (n : ℕ) (area : List ℕ) (three : Bool) (b : �
 
 module _ (m : Measures) (n : ℕ) (area : List ℕ) (site : Site) (rs : List (List ℕ)) (p : Parts) (i : CutInside p (length rs)) where
   -- 6
-  pub planned-none : (k : ℕ) → FreeCounted m n area k → k < p.many - 1 → PlannedDivided m n area site rs p NoInterval
+  pub planned-none : (k : ℕ) → FreeCounted m n area k → k < p.many - 1 → PlannedDivided m n area site rs p (Err NoInterval)
   planned-none k f h c e r a q =
       sym (ap (λ (x : Plan). planned_as x (spread_for m c site e)) (refuse-interval m c e (omega (arith, f c r, divided-many m rs p i c.filled e q))))
 
@@ -79,7 +80,7 @@ module _ (m : Measures) (n : ℕ) (area : List ℕ) (site : Site) (rs : List (Li
           ∙ size_is m n area c r e site.entry a (cuts (three_of p) (separator_at m rs p.first) (separator_at m rs p.second)) (cuts_are m rs p i c.filled e q)
 
     -- 7
-    pub planned-room : m.size - 7 < needed → PlannedDivided m n area site rs p NoRoom
+    pub planned-room : m.size - 7 < needed → PlannedDivided m n area site rs p (Err NoRoom)
     planned-room h c e r a q =
         sym (ap (λ (x : Plan). planned_as x (spread_for m c site e))
         (refuse-room m c e (omega (arith, enough c r, many c e r a q), omega (arith, i.two, many c e r a q), omega (arith, h, needed-is c e r a q))))
@@ -120,12 +121,12 @@ module _ (m : Measures) (n : ℕ) (area : List ℕ) (site : Site) (rs : List (Li
             parts_same : length (take p.first rs) ≡ p.first → p.many ≡ 2 → parts_for (parts_at false p.first p.second rs) ≡ p
             parts_same f l = rw f (two-parts p l (i.one l))
 
-      pub planned-ready : PlannedDivided m n area site rs p (Ready made)
+      pub planned-ready : PlannedDivided m n area site rs p (Ok made)
       planned-ready c e r at q =
           let k = many c e r at q in
           let w = needed-is c e r at q in
           sym (ap (λ (x : Plan). planned_as x (spread_for m c site e)) (make-stores m c e (omega (arith, enough c r, k), λ (l : 1 < length (divided m c.filled e)). omega (arith, room, w)))
-          ∙ ap Ready (by_three c e r second (three_of p) refl q w))
+          ∙ ap Ok (by_three c e r second (three_of p) refl q w))
 
 -- ---- what sizing the index record asks, and what it tells
 

@@ -3,11 +3,11 @@ use Prim.Native.Nat.{ℕ, zero, suc, ◌+◌, ◌-◌, ◌*◌, ◌≤◌, ◌<�
 use mathlib.Core.Path.{◌≡◌, refl, ◌∙◌, sym, ap}
 use mathlib.Core.Bool.{true, false}
 use mathlib.Core.List.{List, [], ◌∷◌, map}
-use mathlib.Core.Logic.{⊎_elim}
 use lib.ListN.{length, take, drop, length-map, length-drop}
 use lib.Seq.{take_all, drop-drop}
 use native.Mathlib.Omega.{arith}
 use native.Mathlib.Nat.{mul-le-mul}
+use Rattle.std.specs.Prelude.{Result, Ok}
 use Rattle.fields.specs.Lists.{swap}
 use Rattle.fields.proofs.Lists.{map-take, map-drop}
 use Rattle.measures.specs.Judgement.{limit}
@@ -25,7 +25,6 @@ use Rattle.interval_edit.specs.declared.Site.{Site}
 use Rattle.division.specs.Division.{division_of, counts, parts, pieces}
 use Rattle.division.specs.Fewest.{AllHeld}
 use Rattle.division.specs.declared.Division.{Division}
-use Rattle.division.specs.contracts.Division.{the_type}
 use Rattle.division.specs.declared.Division.TheVariants.{Stays, Two, Three}
 use Rattle.division.proofs.Answers.{is-stays, is-two, two-fit}
 use Rattle.division.proofs.Spreads.{pieces-2}
@@ -36,6 +35,7 @@ use Rattle.area.proofs.Filled.{length-fill}
 use Rattle.area.proofs.Sounding.{sound-apart, sound-filled, same-content}
 use Rattle.area.proofs.Places.{data-ends}
 use Rattle.area_find.proofs.Readables.{readable}
+use Rattle.change.specs.declared.Full.{Full}
 use Rattle.change.specs.Parts.{Edit, entry_at, edited, divided, taken}
 use Rattle.change.specs.Plan.{Plan}
 use Rattle.change.proofs.Parting.{CutsFilled, stays-parting}
@@ -45,8 +45,6 @@ use Rattle.change_plan.specs.AidEdited.{edit_at, edited_records, Told, Seen}
 use Rattle.change_plan.specs.AidParts.{stretch, parts_at, CutInside}
 use Rattle.change_plan.specs.AidPlanned.{spread_for, planned_as, PlannedAs, PlannedDivided}
 use Rattle.change_plan.specs.declared.Parts.{Parts}
-use Rattle.change_plan.specs.declared.Planned.{Planned}
-use Rattle.change_plan.specs.declared.Planned.TheVariants.{Ready}
 use Rattle.change_plan.specs.declared.Spread.{Spread}
 
 -- ---- an entry holds what its interval holds
@@ -212,19 +210,19 @@ module _ (m : Measures) (n : ℕ) (area : List ℕ) (site : Site) (new lens : Li
   same : (d : Content) → read_area m n area ≡ whole d → d ≡ c
   same d w = same-content m n area d c w t.edits.entered.reads
 
-  pub planned-stays : division_of m.size lens ≡ Stays → PlannedAs m n area site e (Ready (one_spread site (length lens)))
+  pub planned-stays : division_of m.size lens ≡ Stays → PlannedAs m n area site e (Ok (one_spread site (length lens)))
   unfolding taken
   planned-stays d k w =
       let q : divided m k.filled e ≡ rs ∷ [] = rw (same k w) (parts_stay d) in
       let l : length (divided m k.filled e) ≡ 1 = ap length q in
       let p = make-stores m k e (omega (arith, l), λ (g : 1 < length (divided m k.filled e)). absurd (omega (arith, l))) in
-      sym (ap (λ (x : Plan). planned_as x (spread_for m k site e)) p ∙ ap Ready (one-part k q))
+      sym (ap (λ (x : Plan). planned_as x (spread_for m k site e)) p ∙ ap Ok (one-part k q))
     where
       one-part : (k : Content) → divided m k.filled e ≡ rs ∷ [] → spread_for m k site e ≡ one_spread site (length lens)
       one-part k q = rw (q, many-told) refl
 
-  pub planned-two : (k : ℕ) → division_of m.size lens ≡ Two k → (r : Planned) → PlannedDivided m n area site rs (two_at k) r → PlannedAs m n area site e r
+  pub planned-two : (k : ℕ) → division_of m.size lens ≡ Two k → (r : Result Spread Full) → PlannedDivided m n area site rs (two_at k) r → PlannedAs m n area site e r
   planned-two k d r p x w = p x e w refl (rw (same x w) (parts-two k d))
 
-  pub planned-three : division_of m.size lens ≡ Three → (r : Planned) → PlannedDivided m n area site rs (three_at site.ordinal) r → PlannedAs m n area site e r
+  pub planned-three : division_of m.size lens ≡ Three → (r : Result Spread Full) → PlannedDivided m n area site rs (three_at site.ordinal) r → PlannedAs m n area site e r
   planned-three d r p x w = p x e w refl (rw (same x w) (parts-three d))

@@ -1,5 +1,5 @@
 -- Aids: parts of a list, and the separators of the cuts between them.
-use Rattle.std.specs.Prelude.{ℕ, ◌+◌, ◌-◌, ◌≤◌, ◌<◌, ◌≡◌, Bool, List, [], ◌∷◌, ◌++◌, length, get_or, take, drop, eqb}
+use Rattle.std.specs.Prelude.{ℕ, ◌+◌, ◌-◌, ◌≤◌, ◌<◌, ◌≡◌, Bool, Some, None, List, [], ◌∷◌, ◌++◌, length, get_or, take, drop, eqb}
 use Rattle.fields.specs.Choice.{pick}
 use Rattle.fields.specs.Bytes.{part}
 use Rattle.measures.specs.declared.Measures.{Measures}
@@ -43,9 +43,6 @@ left_keys m rs p = left_key_at m rs p.first ++ left_key_at m rs p.second
 abbrev pub cuts_at : Measures → List (List ℕ) → Parts → Cuts
 cuts_at m rs p =
     record {
-      three = three_of p;
-      from = 0;
-      to = length (separator_at m rs p.first);
-      from2 = m.key;
-      to2 = m.key + length (separator_at m rs p.second);
+      first = record { from = 0; to = length (separator_at m rs p.first) };
+      second = pick (three_of p) (Some (record { from = m.key; to = m.key + length (separator_at m rs p.second) })) None;
     }

@@ -1,5 +1,5 @@
 -- Aids: how an edit is spread, by value, as it stands for the definition's plan, which is a list of stores.
-use Rattle.std.specs.Prelude.{ℕ, ◌+◌, ◌-◌, ◌≤◌, ◌<◌, ◌≡◌, List, [], length, get_or, ltb}
+use Rattle.std.specs.Prelude.{ℕ, ◌+◌, ◌-◌, ◌≤◌, ◌<◌, ◌≡◌, List, [], length, get_or, ltb, Result, Ok, Err}
 use Rattle.fields.specs.Choice.{pick}
 use Rattle.measures.specs.declared.Measures.{Measures}
 use Rattle.sections.specs.Form.{index_size}
@@ -8,10 +8,10 @@ use Rattle.area.specs.Content.{Content, width_in}
 use Rattle.area.specs.Reading.{whole, read_area}
 use Rattle.change.specs.Parts.{Edit, divided, taken}
 use Rattle.change.specs.Plan.{Plan, no_interval, no_room, stores, plan_of, index_after}
+use Rattle.change.specs.declared.Full.{Full}
+use Rattle.change.specs.declared.Full.TheVariants.{NoInterval, NoRoom}
 use Rattle.change_plan.specs.AidParts.{parts_at, three_of}
 use Rattle.change_plan.specs.declared.Parts.{Parts}
-use Rattle.change_plan.specs.declared.Planned.{Planned}
-use Rattle.change_plan.specs.declared.Planned.TheVariants.{Ready, NoInterval, NoRoom}
 use Rattle.change_plan.specs.declared.Spread.{Spread}
 
 -- how many parts, and where they are cut; where there are fewer than three, the second cut is the first
@@ -33,12 +33,12 @@ spread_for m c site e =
       index = pick (ltb 1 (length ps)) (index_size (width_in c) (index_after m c e)) 0;
     }
 
-abbrev pub planned_as : Plan → Spread → Planned
-planned_as no_interval p = NoInterval
-planned_as no_room p = NoRoom
-planned_as (stores ss) p = Ready p
+abbrev pub planned_as : Plan → Spread → Result Spread Full
+planned_as no_interval p = Err NoInterval
+planned_as no_room p = Err NoRoom
+planned_as (stores ss) p = Ok p
 
-abbrev pub planned_of : Measures → Content → Site → Edit → Planned
+abbrev pub planned_of : Measures → Content → Site → Edit → Result Spread Full
 planned_of m c site e = planned_as (plan_of m c e) (spread_for m c site e)
 
 -- What the functions say is said of the content that the area reads as: there is one at most.
@@ -54,11 +54,11 @@ abbrev pub TakenAt : Measures → ℕ → List ℕ → ℕ → ℕ → Type 0
 TakenAt m n area k r = (c : Content) → read_area m n area ≡ whole c → (r ≡ get_or c.free (length c.free - (k + 1)) 0) × (r < n)
 
 -- that edit is planned so
-abbrev pub PlannedAs : Measures → ℕ → List ℕ → Site → Edit → Planned → Type 0
+abbrev pub PlannedAs : Measures → ℕ → List ℕ → Site → Edit → Result Spread Full → Type 0
 PlannedAs m n area site e r = (c : Content) → read_area m n area ≡ whole c → r ≡ planned_of m c site e
 
 -- an edit of the site's entry that divides these records so is planned so
-abbrev pub PlannedDivided : Measures → ℕ → List ℕ → Site → List (List ℕ) → Parts → Planned → Type 0
+abbrev pub PlannedDivided : Measures → ℕ → List ℕ → Site → List (List ℕ) → Parts → Result Spread Full → Type 0
 PlannedDivided m n area site rs p r =
     (c : Content) (e : Edit) → read_area m n area ≡ whole c → e.entry ≡ site.entry
     → divided m c.filled e ≡ parts_at (three_of p) p.first p.second rs → r ≡ planned_of m c site e

@@ -11,8 +11,9 @@ ghost use Rattle.change_plan.specs.AidEdited.{Entered, edit_at, edited_records, 
 ghost use Rattle.change_plan.specs.AidParts.{CutInside, left_key_at, separator_at, left_keys, cuts_at};
 ghost use Rattle.change_plan.specs.AidPlanned.{FreeCounted, EnoughFree, TakenAt, PlannedAs, PlannedDivided};
 
+use change::Full;
 use division::Division;
-use index_write::Cuts;
+use index_write::{Cut, Cuts};
 use interval_edit::Site;
 use measures::Measures;
 
@@ -32,14 +33,6 @@ pub struct Spread {
     pub a: usize,
     pub b: usize,
     pub index: usize,
-}
-
-// A plan; or 6, too few intervals are free; or 7, the index record has no room.
-#[derive(Clone, Copy)]
-pub enum Planned {
-    Ready { spread: Spread },
-    NoInterval,
-    NoRoom,
 }
 
 // Bytes of the edited records from place x on, as many as the buffer has: they lie before what goes, or in what comes, or behind.
@@ -108,12 +101,19 @@ pub fn cuts_out(
     let key = m.key;
     let to = cut_out(area, m, site, new, lens, parts.first, &mut keys[..key]);
     let n = cut_out(area, m, site, new, lens, parts.second, &mut keys[key..]);
+    let first = Cut { from: 0, to };
+    if parts.many != 3 {
+        return Cuts {
+            first,
+            second: None,
+        };
+    }
     Cuts {
-        three: parts.many == 3,
-        from: 0,
-        to,
-        from2: key,
-        to2: key + n,
+        first,
+        second: Some(Cut {
+            from: key,
+            to: key + n,
+        }),
     }
 }
 
@@ -144,20 +144,20 @@ pub(crate) fn plan_divided(
     new: &[u8],
     lens: &[u16],
     parts: Parts,
-) -> Planned
+) -> Result<Spread, Full>
     requires { Entered m n area.now site.entry site.number × Seen m area.now site new.now lens.now × CutInside parts (length lens.now) }
     ensures { PlannedDivided m n area.now site (edited_records m area.now site new.now) parts result }
 {
     let size = m.size;
     if free_count(area, m, n) < parts.many - 1 {
-        return Planned::NoInterval;
+        return Err(Full::NoInterval);
     }
     let two = 2 * m.key;
     let mut keys = [0u8; 510];
     let cuts = cuts_out(area, m, site, new, lens, parts, &mut keys[..two]);
     let index = index_write::size_divided(&area[..size], n, site.entry, &keys[..two], cuts);
     if size - 7 < index {
-        return Planned::NoRoom;
+        return Err(Full::NoRoom);
     }
     let a = taken_at(area, m, n, 0);
     let b = if parts.many == 3 {
@@ -165,37 +165,40 @@ pub(crate) fn plan_divided(
     } else {
         0
     };
-    Planned::Ready {
-        spread: Spread {
-            site,
-            parts,
-            a,
-            b,
-            index,
-        },
-    }
+    Ok(Spread {
+        site,
+        parts,
+        a,
+        b,
+        index,
+    })
 }
 
 // What an edit comes to, once it is made in records of these lengths: it reads, and stores nothing.
-pub fn plan(area: &[u8], m: Measures, n: usize, site: Site, new: &[u8], lens: &[u16]) -> Planned
+pub fn plan(
+    area: &[u8],
+    m: Measures,
+    n: usize,
+    site: Site,
+    new: &[u8],
+    lens: &[u16],
+) -> Result<Spread, Full>
     requires { Told m n area.now site new.now lens.now }
     ensures { PlannedAs m n area.now site (edit_at site (fresh_in new.now)) result }
 {
     let division = division::divide(lens, m.size);
     if let Division::Stays = division {
-        return Planned::Ready {
-            spread: Spread {
-                site,
-                parts: Parts {
-                    many: 1,
-                    first: lens.len(),
-                    second: lens.len(),
-                },
-                a: 0,
-                b: 0,
-                index: 0,
+        return Ok(Spread {
+            site,
+            parts: Parts {
+                many: 1,
+                first: lens.len(),
+                second: lens.len(),
             },
-        };
+            a: 0,
+            b: 0,
+            index: 0,
+        });
     }
     let Division::Two { cut } = division else {
         let three = Parts {

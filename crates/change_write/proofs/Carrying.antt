@@ -7,6 +7,7 @@ use lib.ListN.{length, get_or, take, drop, length-drop}
 use lib.Seq.{length-take-le, take-length, take_all}
 use native.Mathlib.Omega.{arith}
 use borrow.Author.Tests.{eqb-true, eqb-false, eq-eqb}
+use Rattle.std.specs.Prelude.{Ok}
 use Rattle.fields.specs.Bytes.{splice}
 use Rattle.measures.specs.Judgement.{width_for}
 use Rattle.measures.specs.declared.Measures.{Measures}
@@ -39,14 +40,12 @@ use Rattle.change_plan.specs.AidEdited.{edit_at, edited_records, Told}
 use Rattle.change_plan.specs.AidParts.{stretch, parts_at, three_of, CutInside, separator_at}
 use Rattle.change_plan.specs.AidPlanned.{parts_for, spread_for, planned_as, PlannedAs}
 use Rattle.change_plan.specs.declared.Parts.{Parts}
-use Rattle.change_plan.specs.declared.Planned.TheVariants.{Ready}
 use Rattle.change_plan.specs.declared.Spread.{Spread}
 use Rattle.change_plan.proofs.Dividing.{divided-many, cuts_are, index-new, width_is, size_is}
 use Rattle.change_plan.proofs.Planning.{taken-one, taken-two}
 use Rattle.change_plan.proofs.Telling.{two_at, three_at, many-told, told-seen, parts_stay, parts-two, parts-three, two-inside, three-inside, stays-fits, two_fits, three-fits}
 use Rattle.change_write.specs.AidStored.{AllFit, Takes, taken_left, index_left, Parted, parts_left}
 use Rattle.change_write.specs.AidCarried.{Carries, Applied, SpreadApart, numbers_for, written_for}
-use Rattle.change_write.specs.declared.Made.TheVariants.{Done}
 use Rattle.change_write.proofs.Naming.{free_other, free-below, free-apart}
 
 -- What is ready was planned, as stores.
@@ -55,7 +54,7 @@ pub record IsReady (q : Plan) (x s : Spread) : Type 0 where
   pub stores-are : q ≡ stores ss
   pub is : s ≡ x
 
-pub is-ready : (q : Plan) (x s : Spread) → Ready s ≡ planned_as q x → IsReady q x s
+pub is-ready : (q : Plan) (x s : Spread) → Ok s ≡ planned_as q x → IsReady q x s
 is-ready no_interval x s e = absurd (let z : ◌≡◌ {A = ℕ} 0 1 = cc in omega arith)
 is-ready no_room x s e = absurd (let z : ◌≡◌ {A = ℕ} 0 1 = cc in omega arith)
 is-ready (stores ss) x s e = record { ss = ss; stores-are = refl; is = cc }
@@ -87,7 +86,7 @@ module _ (s : Spread) (k : ℕ) where
 
 -- ---- a ready plan, seen by its division
 module _ (m : Measures) (n : ℕ) (area new lens : List ℕ) (s : Spread) (t : Told m n area s.site new lens)
-    (p : PlannedAs m n area s.site (edit_at s.site (fresh_in new)) (Ready s)) where
+    (p : PlannedAs m n area s.site (edit_at s.site (fresh_in new)) (Ok s)) where
   abbrev site : Site
   site = s.site
 
@@ -164,7 +163,7 @@ module _ (m : Measures) (n : ℕ) (area new lens : List ℕ) (s : Spread) (t : T
       let x : plan_of m c e ≡ stores (stores_of m c e (rs ∷ [])) =
       ready.stores-are ∙ ap stores (planned m c e ready.ss ready.stores-are).1 ∙ ap (λ (ps : List (List (List ℕ))). stores (stores_of m c e ps)) q in
       let l : take (length lens) rs ≡ rs = take_all (length lens) rs (omega (arith, many-told m n area site new lens t)) in
-      rw (same d v, x) (record { answers = ap Done (b ∙ ap (λ (ks : List ℕ). carrying (in_order ks)) (numbers-one s _ h t.edits.entered.is)); leaves = rw (← t.edits.entered.is) (a ∙ rw l) })
+      rw (same d v, x) (record { answers = ap Ok (b ∙ ap (λ (ks : List ℕ). carrying (in_order ks)) (numbers-one s _ h t.edits.entered.is)); leaves = rw (← t.edits.entered.is) (a ∙ rw l) })
 
   -- ---- several parts
 
@@ -259,7 +258,7 @@ module _ (m : Measures) (n : ℕ) (area new lens : List ℕ) (s : Spread) (t : T
     all_left : (x y : List (List ℕ)) (ys : List (List (List ℕ))) → divided m c.filled e ≡ x ∷ y ∷ ys
         → taken_left m.size area s rs ≡ stored m.size area (taken_stores m.size (taken (length (y ∷ ys)) c.free) (y ∷ ys)) → take s.parts.first rs ≡ x
         → numbers_for s ≡ nexts (taken (length (y ∷ ys)) c.free) ++ (0 ∷ ((entry_at c.filled e.entry).num + 1) ∷ [])
-        → Carries m area (plan_of m c e) (Done (written_for s)) (parts_left m n area s rs)
+        → Carries m area (plan_of m c e) (Ok (written_for s)) (parts_left m n area s rs)
     unfolding stored
     all_left x y ys d h f g =
         let xs : List Store = taken_stores m.size (taken (length (y ∷ ys)) c.free) (y ∷ ys) in
@@ -272,11 +271,11 @@ module _ (m : Measures) (n : ℕ) (area new lens : List ℕ) (s : Spread) (t : T
         g ∙ rw (places-append xs (u ∷ v ∷ []), taken_places m.size (taken (length (y ∷ ys)) c.free) (y ∷ ys) (length_taken (length (y ∷ ys)) c.free)) in
         let left : parts_left m n area s rs ≡ stored m.size area (xs ++ (u ∷ v ∷ [])) =
         left_as m.size h index_is t.edits.entered.is f ∙ sym (stored-append m.size area xs (u ∷ v ∷ []) ∙ rw z) in
-        record { answers = rw plan (ap (λ (ks : List ℕ). Done (carrying (in_order ks))) numbers); leaves = rw plan left }
+        record { answers = rw plan (ap (λ (ks : List ℕ). Ok (carrying (in_order ks))) numbers); leaves = rw plan left }
 
     -- by how many parts there are
     left_by : (b : Bool) → three_of s.parts ≡ b → divided m c.filled e ≡ parts_at b s.parts.first s.parts.second rs
-        → Carries m area (plan_of m c e) (Done (written_for s)) (parts_left m n area s rs)
+        → Carries m area (plan_of m c e) (Ok (written_for s)) (parts_left m n area s rs)
     unfolding stored taken_stores
     left_by true h d =
         let l : s.parts.many ≡ 3 = eqb-true s.parts.many 3 h in

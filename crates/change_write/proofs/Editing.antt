@@ -1,11 +1,11 @@
 -- An edit from its lengths to what is made of it: the interval can be read, the lengths told there are the edited records', and what the plan refuses or makes is
 -- the edit refused or made.
 use Prim.Native.Nat.{ℕ, ◌+◌, ◌-◌, ◌*◌, ◌≤◌}
-use mathlib.Core.Path.{◌≡◌, refl, ◌∙◌, sym, ap, subst}
-use mathlib.Core.List.{List, [], ◌∷◌, map}
-use mathlib.Core.Logic.{⊎_elim}
+use mathlib.Core.Path.{◌≡◌, refl, ◌∙◌, sym, ap}
+use mathlib.Core.List.{List, map}
 use lib.ListN.{length, take, drop}
 use native.Mathlib.Omega.{arith}
+use Rattle.std.specs.Prelude.{Result, Ok, Err}
 use Rattle.fields.specs.Bytes.{splice}
 use Rattle.fields.proofs.Splices.{take-front}
 use Rattle.measures.specs.Judgement.{limit}
@@ -19,47 +19,21 @@ use Rattle.interval_edit.proofs.Edits.{swapped-lens}
 use Rattle.area.specs.Content.{Content, data_in}
 use Rattle.area.proofs.Places.{data-ends, data-small, lent-data}
 use Rattle.change.specs.Parts.{Edit}
-use Rattle.change.specs.Plan.{Plan, no_interval, no_room, stores, plan_of}
+use Rattle.change.specs.Plan.{plan_of}
 use Rattle.change_plan.specs.AidEdited.{edit_at, Edits, edited_records, Told, Seen}
-use Rattle.change_plan.specs.AidPlanned.{spread_for, planned_as, PlannedAs}
-use Rattle.change_plan.specs.declared.Planned.{Planned}
-use Rattle.change_plan.specs.declared.Planned.TheVariants as planned
+use Rattle.change_plan.specs.AidPlanned.{spread_for, PlannedAs}
 use Rattle.change_plan.specs.declared.Spread.{Spread}
-use Rattle.change_plan.specs.contracts.Planned.{the_type}
 use Rattle.change_plan.proofs.Telling.{told-seen}
 use Rattle.change_write.specs.AidStored.{Countable}
-use Rattle.change_write.specs.AidCarried.{Applied, MadeEdit}
-use Rattle.change_write.specs.declared.Made.TheVariants.{NoInterval, NoRoom, Done}
-use Rattle.change.specs.declared.Written.{Written}
+use Rattle.change.specs.declared.Full.{Full}
+use Rattle.change.specs.declared.Full.TheVariants.{NoInterval, NoRoom}
 use Rattle.change_write.proofs.Carrying.{is-ready}
 
--- ---- what is left of a plan when `let .. else` has ruled the others out
-
-pub is_none : (r : Planned) → ((s : Spread) → r ≡ planned.Ready s → ⊥) → (r ≡ planned.NoRoom → ⊥) → r ≡ planned.NoInterval
-is_none (planned.Ready s) h g = absurd (h s refl)
-is_none planned.NoInterval h g = refl
-is_none planned.NoRoom h g = absurd (g refl)
-
-none-planned : (q : Plan) (x : Spread) → planned.NoInterval ≡ planned_as q x → q ≡ no_interval
-none-planned no_interval x e = refl
-none-planned no_room x e = absurd (let z : ◌≡◌ {A = ℕ} 0 1 = cc in omega arith)
-none-planned (stores ss) x e = absurd (let z : ◌≡◌ {A = ℕ} 0 1 = cc in omega arith)
-
-room-planned : (q : Plan) (x : Spread) → planned.NoRoom ≡ planned_as q x → q ≡ no_room
-room-planned no_interval x e = absurd (let z : ◌≡◌ {A = ℕ} 0 1 = cc in omega arith)
-room-planned no_room x e = refl
-room-planned (stores ss) x e = absurd (let z : ◌≡◌ {A = ℕ} 0 1 = cc in omega arith)
-
-module _ (m : Measures) (n : ℕ) (area : List ℕ) (site : Site) (e : Edit) where
-  pub refused-interval : (r : Planned) → PlannedAs m n area site e r → r ≡ planned.NoInterval → MadeEdit m n area e NoInterval area
-  refused-interval r p q c w =
-      let k : plan_of m c e ≡ no_interval = none-planned (plan_of m c e) (spread_for m c site e) (sym q ∙ p c w) in
-      record { answers = rw k; leaves = rw k }
-
-  pub refused-room : (r : Planned) → PlannedAs m n area site e r → r ≡ planned.NoRoom → MadeEdit m n area e NoRoom area
-  refused-room r p q c w =
-      let k : plan_of m c e ≡ no_room = room-planned (plan_of m c e) (spread_for m c site e) (sym q ∙ p c w) in
-      record { answers = rw k; leaves = rw k }
+-- what is left of a plan when the others are ruled out
+pub is_none : (r : Result Spread Full) → ((s : Spread) → r ≡ Ok s → ⊥) → (r ≡ Err NoRoom → ⊥) → r ≡ Err NoInterval
+is_none (Ok s) h g = absurd (h s refl)
+is_none (Err NoInterval) h g = refl
+is_none (Err NoRoom) h g = absurd (g refl)
 
 module _ (m : Measures) (n : ℕ) (area : List ℕ) (site : Site) (new : List ℕ) (d : Edits m n area site (fresh_in new)) where
   abbrev a : ℕ
@@ -116,7 +90,7 @@ module _ (m : Measures) (n : ℕ) (area : List ℕ) (site : Site) (new : List �
 
   -- ---- made at the site that the plan names
 
-  module _ (lens : List ℕ) (t : Told m n area site new lens) (s : Spread) (r : Planned) (p : PlannedAs m n area site (edit_at site (fresh_in new)) r) (q : r ≡ planned.Ready s) where
+  module _ (lens : List ℕ) (t : Told m n area site new lens) (s : Spread) (r : Result Spread Full) (p : PlannedAs m n area site (edit_at site (fresh_in new)) r) (q : r ≡ Ok s) where
     site-is : s.site ≡ site
     site-is =
         let c : Content = d.entered.content in
@@ -125,9 +99,3 @@ module _ (m : Measures) (n : ℕ) (area : List ℕ) (site : Site) (new : List �
 
     pub at_told : Told m n area s.site new lens
     at_told = rw site-is t
-
-    pub at-planned : PlannedAs m n area s.site (edit_at s.site (fresh_in new)) (planned.Ready s)
-    at-planned = subst (λ (x : Site). PlannedAs m n area x (edit_at x (fresh_in new)) (planned.Ready s)) (sym site-is) (λ c w. sym q ∙ p c w)
-
-    pub made_at : (k : Written) (after : List ℕ) → Applied m n area (edit_at s.site (fresh_in new)) k after → MadeEdit m n area (edit_at site (fresh_in new)) (Done k) after
-    made_at k after x = subst (λ (y : Site). Applied m n area (edit_at y (fresh_in new)) k after) site-is x

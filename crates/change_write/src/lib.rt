@@ -2,7 +2,7 @@
 // moved within it.
 #![tactic(auto)]
 
-ghost use Rattle.std.specs.Prelude.{◌+◌, ◌≤◌, ◌<◌, ◌≡◌, [], length, take};
+ghost use Rattle.std.specs.Prelude.{◌+◌, ◌≤◌, ◌<◌, ◌≡◌, [], Ok, length, take};
 ghost use Rattle.room.specs.Room.{need};
 ghost use Rattle.interval.specs.Reading.{records_in};
 ghost use Rattle.interval_edit.specs.AidChanged.{fresh_in};
@@ -10,23 +10,14 @@ ghost use Rattle.area.specs.Content.{data_in};
 ghost use Rattle.change.specs.Written.{among, carrying};
 ghost use Rattle.change_plan.specs.AidEdited.{edit_at, Edits, edited_records, Told, Seen};
 ghost use Rattle.change_plan.specs.AidPlanned.{PlannedAs};
-ghost use Rattle.change_plan.specs.declared.Planned.TheVariants.{Ready};
 ghost use Rattle.change_write.specs.AidStored.{Layable, laid_at, Rewritable, rewritten, Storable, stored_at};
 ghost use Rattle.change_write.specs.AidStored.{own_stored, Countable, Takes, taken_left, Parted, parts_left};
 ghost use Rattle.change_write.specs.AidCarried.{SpreadApart, written_for, Applied, MadeEdit};
 
-use change::Written;
-use change_plan::{Planned, Spread};
+use change::{Full, Written};
+use change_plan::Spread;
 use interval_edit::Site;
 use measures::Measures;
-
-// Which intervals were written; or why none was: too few are free, or the index record has no room.
-#[derive(Clone, Copy)]
-pub enum Made {
-    Done(Written),
-    NoInterval,
-    NoRoom,
-}
 
 // Some bytes of the edited records.
 #[derive(Clone, Copy)]
@@ -127,7 +118,7 @@ pub(crate) fn records_below(area: &[u8], m: Measures, number: usize) -> usize
     ensures { length (records_in (data_in m area.now number)) + 1 ≤ result }
 {
     let e = (number + 2) * m.size;
-    fields::read_two(area, e - 4) / m.least + 1
+    fields::read::<2>(area, e - 4) / m.least + 1
 }
 
 // Stores the later parts in the intervals that they take.
@@ -185,8 +176,8 @@ pub(crate) fn two_written(x: usize, y: usize) -> Written
     requires { (0 < x) × (0 < y) × (x ≡ y → ⊥) }
     ensures { result ≡ carrying (among x (among 0 (among y []))) }
 {
-    let low = if x < y { x } else { y };
-    let high = if x < y { y } else { x };
+    let low = x.min(y);
+    let high = x.max(y);
     Written {
         count: 3,
         first: 0,
@@ -201,19 +192,14 @@ pub(crate) fn three_written(x: usize, y: usize, z: usize) -> Written
     requires { (0 < x) × (0 < y) × (0 < z) × (x ≡ y → ⊥) × (x ≡ z → ⊥) × (y ≡ z → ⊥) }
     ensures { result ≡ carrying (among x (among y (among 0 (among z [])))) }
 {
-    let two = two_written(y, z);
-    let low = two.second;
-    let high = two.third;
-    let second = if x < low { x } else { low };
-    let rest = if x < low { low } else { x };
-    let third = if rest < high { rest } else { high };
-    let fourth = if rest < high { high } else { rest };
+    let low = y.min(z);
+    let high = y.max(z);
     Written {
         count: 4,
         first: 0,
-        second,
-        third,
-        fourth,
+        second: x.min(low),
+        third: x.max(low).min(high),
+        fourth: x.max(high),
     }
 }
 
@@ -248,7 +234,7 @@ pub fn apply(
     spread: Spread,
 ) -> Written
     requires told { Told m n area.old spread.site new.now lens.now }
-    requires planned { PlannedAs m n area.old spread.site (edit_at spread.site (fresh_in new.now)) (Ready spread) }
+    requires planned { PlannedAs m n area.old spread.site (edit_at spread.site (fresh_in new.now)) (Ok spread) }
     ensures { Applied m n area.old (edit_at spread.site (fresh_in new.now)) result area.new }
 {
     let parts = spread.parts;
@@ -268,59 +254,52 @@ pub(crate) fn change_by(
     site: Site,
     new: &[u8],
     lens: &mut [u16],
-) -> Made
+) -> Result<Written, Full>
     requires { Edits m n area.old site (fresh_in new.now) × (length (records_in (data_in m area.old site.number)) + 1 ≤ length lens.old) }
     ensures { MadeEdit m n area.old (edit_at site (fresh_in new.now)) result area.new }
 {
     let a = (site.number + 1) * m.size;
     let e = a + m.size;
     let count = interval_edit::lengths(&area[a..e], m, site, new.len(), lens);
-    let planned = change_plan::plan(area, m, n, site, new, &lens[..count]);
-    let Planned::Ready { spread } = planned else {
-        let Planned::NoRoom = planned else {
-            return Made::NoInterval;
-        };
-        return Made::NoRoom;
-    };
-    Made::Done(apply(area, m, n, new, &lens[..count], spread))
+    let spread = change_plan::plan(area, m, n, site, new, &lens[..count])?;
+    Ok(apply(area, m, n, new, &lens[..count], spread))
 }
 
-pub(crate) fn change_few(area: &mut [u8], m: Measures, n: usize, site: Site, new: &[u8]) -> Made
-    requires { Edits m n area.old site (fresh_in new.now) × (length (records_in (data_in m area.old site.number)) + 1 ≤ 256) }
+// Out of line, so that a caller's frame has no room for the buffers that other intervals ask for.
+#[inline(never)]
+fn change_sized<const N: usize>(
+    area: &mut [u8],
+    m: Measures,
+    n: usize,
+    site: Site,
+    new: &[u8],
+) -> Result<Written, Full>
+    requires edits { Edits m n area.old site (fresh_in new.now) }
+    requires long { (length (records_in (data_in m area.old site.number)) + 1 ≤ N) × (N ≤ 32768) }
     ensures { MadeEdit m n area.old (edit_at site (fresh_in new.now)) result area.new }
 {
-    let mut lens = [0u16; 256];
-    change_by(area, m, n, site, new, &mut lens)
-}
-
-pub(crate) fn change_some(area: &mut [u8], m: Measures, n: usize, site: Site, new: &[u8]) -> Made
-    requires { Edits m n area.old site (fresh_in new.now) × (length (records_in (data_in m area.old site.number)) + 1 ≤ 4096) }
-    ensures { MadeEdit m n area.old (edit_at site (fresh_in new.now)) result area.new }
-{
-    let mut lens = [0u16; 4096];
-    change_by(area, m, n, site, new, &mut lens)
-}
-
-pub(crate) fn change_many(area: &mut [u8], m: Measures, n: usize, site: Site, new: &[u8]) -> Made
-    requires { Edits m n area.old site (fresh_in new.now) }
-    ensures { MadeEdit m n area.old (edit_at site (fresh_in new.now)) result area.new }
-{
-    let mut lens = [0u16; 32768];
+    let mut lens = [0u16; N];
     change_by(area, m, n, site, new, &mut lens)
 }
 
 // The records that go at a site make way for the new one, or for none where no bytes are handed over. The buffer for the lengths is as long as
 // the interval's bytes ask for.
-pub fn change(area: &mut [u8], m: Measures, n: usize, site: Site, new: &[u8]) -> Made
+pub fn change(
+    area: &mut [u8],
+    m: Measures,
+    n: usize,
+    site: Site,
+    new: &[u8],
+) -> Result<Written, Full>
     requires { Edits m n area.old site (fresh_in new.now) }
     ensures { MadeEdit m n area.old (edit_at site (fresh_in new.now)) result area.new }
 {
     let many = records_below(area, m, site.number);
     if many <= 256 {
-        return change_few(area, m, n, site, new);
+        return change_sized::<256>(area, m, n, site, new);
     }
     if many <= 4096 {
-        return change_some(area, m, n, site, new);
+        return change_sized::<4096>(area, m, n, site, new);
     }
-    change_many(area, m, n, site, new)
+    change_sized::<32768>(area, m, n, site, new)
 }

@@ -9,7 +9,7 @@ mod serve;
 ghost use Rattle.lines_history.specs.Day.{Leads};
 
 use depot_io::End;
-use requests::Answer;
+use requests::{Answer, Done};
 use std::rt::Files;
 
 // How the depot's areas are measured: intervals of 512 bytes, keys of 8 bytes at the front of records of at most 60.
@@ -21,7 +21,7 @@ fn check(area: &[u8]) -> Answer {
 // area whose lines could not all be printed is not stored: nobody would know what was accepted.
 fn close(rt: &(impl Print + Files), area: &[u8], served: End) -> End {
     match check(area) {
-        Answer::Intact { records, free } => {
+        Ok(Done::Intact { records, free }) => {
             if let Err(error) = print::closing(rt, records, free) {
                 return depot_io::failed(b"standard output", error);
             }
@@ -49,10 +49,12 @@ fn open(rt: &(impl Print + Files), area: &mut [u8]) -> End
     ensures { Leads area.old area.new }
 {
     match check(area) {
-        Answer::Intact {
-            records: _,
-            free: _,
-        } => day(rt, area),
+        Ok(
+            Done::Intact {
+                records: _,
+                free: _,
+            },
+        ) => day(rt, area),
         other => depot_io::refused(rt, other),
     }
 }

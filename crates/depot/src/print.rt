@@ -1,7 +1,6 @@
 // The lines that the depot reads. Each function gives the error where not all of it was written.
 use depot_io::{number, words};
-use lines::Line;
-use requests::Answer;
+use requests::{Answer, Done};
 use std::io::{Error, Result};
 
 pub(crate) fn closing(rt: &impl Print, records: usize, free: usize) -> Result<()> {
@@ -14,7 +13,7 @@ pub(crate) fn closing(rt: &impl Print, records: usize, free: usize) -> Result<()
 
 // Where a get found its record, a blank and the record's bytes in hexadecimal; nothing for any other answer.
 fn found(rt: &impl Print, answer: Answer, out: &[u8]) -> Result<()> {
-    let Answer::Found(length) = answer else {
+    let Ok(Done::Found(length)) = answer else {
         return Ok(());
     };
     if out.len() < length {
@@ -24,15 +23,15 @@ fn found(rt: &impl Print, answer: Answer, out: &[u8]) -> Result<()> {
     depot_io::hex(rt, &out[..length])
 }
 
-fn after(rt: &impl Print, told: Line, out: &[u8]) -> Result<()> {
-    let Line::Told(answer) = told else {
+fn after(rt: &impl Print, told: Option<Answer>, out: &[u8]) -> Result<()> {
+    let Some(answer) = told else {
         return Ok(());
     };
     found(rt, answer, out)
 }
 
 // The line for one request: its place, its number, and the record that it found.
-pub(crate) fn line(rt: &impl Print, place: u64, told: Line, out: &[u8]) -> Result<()> {
+pub(crate) fn line(rt: &impl Print, place: u64, told: Option<Answer>, out: &[u8]) -> Result<()> {
     number(rt, place)?;
     words(rt, b" ")?;
     number(rt, lines::number(told) as u64)?;

@@ -3,7 +3,7 @@ ghost use Rattle.lines_history.specs.Day.{Leads};
 
 use crate::print;
 use depot_io::End;
-use lines::Line;
+use requests::Answer;
 use std::fs;
 use std::io::{ErrorKind, Read};
 use std::rt::Files;
@@ -19,7 +19,7 @@ enum Turn {
 }
 
 // Which lines a file holds cannot be said here; that the area went from each to the next by lines served is all that is.
-fn served(area: &mut [u8], request: &[u8], out: &mut [u8]) -> Line
+fn served(area: &mut [u8], request: &[u8], out: &mut [u8]) -> Option<Answer>
     ensures { Leads area.old area.new }
 {
     lines::step(area, request, out)
@@ -56,16 +56,14 @@ fn one(rt: &impl Print, file: &mut impl Read, area: &mut [u8], place: u64) -> Tu
 fn all(rt: &impl Print, file: &mut impl Read, area: &mut [u8]) -> End
     ensures { Leads area.old area.new }
 {
-    let mut place = 1;
     let mut end = End::Whole;
-    while place < u64::MAX {
+    for place in 1..u64::MAX {
         match one(rt, file, area, place) {
             Turn::Done => {}
             Turn::Refused => end = End::Partly,
             Turn::Ended => return end,
             Turn::Failed => return End::Failed,
         }
-        place += 1;
     }
     End::Failed
 }

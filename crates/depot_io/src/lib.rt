@@ -4,7 +4,7 @@
 
 ghost use Rattle.io.specs.Counts.{IsPrefixLen};
 
-use requests::Answer;
+use requests::{Answer, Refusal};
 use std::fs;
 use std::io::{Cursor, Error, Read, Result, Write};
 use std::rt::Files;
@@ -140,7 +140,7 @@ fn refusal(rt: &impl Print, answer: Answer) -> Result<()> {
 }
 
 fn place(rt: &impl Print, answer: Answer) -> Result<()> {
-    let Answer::Damaged(place) = answer else {
+    let Err(Refusal::Damaged(place)) = answer else {
         return Ok(());
     };
     words(rt, b" ")?;

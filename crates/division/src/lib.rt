@@ -3,8 +3,8 @@
 
 ghost use Rattle.std.specs.Prelude.{◌+◌, ◌*◌, ◌≤◌, ◌<◌, ◌≡◌, length};
 ghost use Rattle.room.specs.AidSteps.{room_of};
-ghost use Rattle.division.specs.Division.{distance, best_cut, division_of};
-ghost use Rattle.division.specs.AidChoose.{weighed};
+ghost use Rattle.division.specs.Division.{best_cut, division_of};
+ghost use Rattle.division.specs.AidChoose.{cut_of, weighed};
 
 use room::Room;
 
@@ -17,33 +17,23 @@ pub enum Division {
     Three,
 }
 
-// The best cut so far, 0 for none yet, and what the record bytes of its parts differ in.
+// The best cut so far, and what the record bytes of its parts differ in.
 #[derive(Clone, Copy)]
 pub(crate) struct Chosen {
     pub(crate) cut: usize,
     pub(crate) difference: usize,
 }
 
-// What two numbers differ in.
-pub(crate) fn apart(a: usize, b: usize) -> usize
-    ensures { result ≡ distance a b }
-{
-    if a < b {
-        return b - a;
-    }
-    a - b
-}
-
 // Rule 2, for one cut more: the better of the best so far and this one. The records left of it take `left`; those right of it have
 // `bytes` bytes and need `need`.
 pub(crate) fn weigh(
-    best: Chosen,
+    best: Option<Chosen>,
     cut: usize,
     left: Room,
     bytes: usize,
     need: usize,
     s: usize,
-) -> Chosen
+) -> Option<Chosen>
     requires { (left.bytes < 4294967296) × (left.rdfs < 4294967296) }
     ensures { result ≡ weighed best cut left.bytes (left.bytes + 3 * left.rdfs + 4) bytes need s }
 {
@@ -54,28 +44,19 @@ pub(crate) fn weigh(
     if s < need {
         return best;
     }
-    let difference = apart(left.bytes, bytes);
-    if best.cut == 0 {
-        return Chosen {
-            cut: cut,
-            difference: difference,
-        };
+    let difference = left.bytes.abs_diff(bytes);
+    match best {
+        // On a tie the earlier cut stays: it has the smaller left part.
+        Some(earlier) if earlier.difference <= difference => best,
+        _ => Some(Chosen { cut, difference }),
     }
-    // On a tie the earlier cut stays: it has the smaller left part.
-    if difference < best.difference {
-        return Chosen {
-            cut: cut,
-            difference: difference,
-        };
-    }
-    best
 }
 
-// Rule 2: the fitting cut whose parts differ least, or 0 where no cut into two parts fits. Each record goes over from the right part
+// Rule 2: the fitting cut whose parts differ least, or none where no cut into two parts fits. Each record goes over from the right part
 // to the left one, so that no cut is summed up anew.
-pub(crate) fn best_cut(lens: &[u16], s: usize, whole: Room) -> usize
+pub(crate) fn best_cut(lens: &[u16], s: usize, whole: Room) -> Option<usize>
     requires { (whole ≡ room_of lens.now) × (whole.bytes < 4294967296) × (whole.rdfs < 4294967296) × (length lens.now ≤ 32768) }
-    ensures { result ≡ best_cut s lens.now }
+    ensures { result ≡ cut_of (best_cut s lens.now) }
 {
     let mut left = Room {
         bytes: 0,
@@ -85,21 +66,16 @@ pub(crate) fn best_cut(lens: &[u16], s: usize, whole: Room) -> usize
     };
     let mut bytes = whole.bytes;
     let mut need = room::need_of(whole);
-    let mut best = Chosen {
-        cut: 0,
-        difference: whole.bytes,
-    };
-    let mut i = 0;
-    while i + 1 < lens.len() {
+    let mut best: Option<Chosen> = None;
+    for i in 0..lens.len().saturating_sub(1) {
         let a = room::ahead_at(lens, i);
         let l = lens[i];
         left = room::add(left, l);
         bytes = bytes - l as usize;
         need = need - (l as usize + a);
-        i += 1;
-        best = weigh(best, i, left, bytes, need, s);
+        best = weigh(best, i + 1, left, bytes, need, s);
     }
-    best.cut
+    Some(best?.cut)
 }
 
 // The division of records of these lengths, the change made, over intervals of s bytes.
@@ -112,11 +88,10 @@ pub fn divide(lens: &[u16], s: usize) -> Division
     if room::need_of(whole) <= s {
         return Division::Stays;
     }
-    let cut = best_cut(lens, s, whole);
     // Rule 3, only where no cut fits.
-    if cut == 0 {
+    let Some(cut) = best_cut(lens, s, whole) else {
         return Division::Three;
-    }
+    };
     // Rule 2.
-    Division::Two { cut: cut }
+    Division::Two { cut }
 }

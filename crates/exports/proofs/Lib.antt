@@ -1,4 +1,3 @@
-pub mod Telling
 pub mod Unique
 pub mod Adding
 pub mod UniqueWalks

@@ -1,11 +1,11 @@
 -- For each function that walks: any two results that its contract allows are equal, the places that it stores too. `Learnt` is the contract as a caller reads it.
+use Rattle.std.specs.Prelude.{Ok, Err}
 use Rattle.std.proofs.Common.{◌≡◌, ℕ, length, sym, ap, ◌∙◌, subst}
 use Rattle.fields.proofs.Choices.{agree}
 use Rattle.measures.specs.Judgement.{measures}
 use Rattle.walk.specs.AidSteps.{record_of}
 use Rattle.walk.specs.declared.Place.{Place}
-use Rattle.walk.specs.declared.Begun.{Begun}
-use Rattle.walk.specs.declared.Begun.TheVariants.{At, Refused}
+use Rattle.walk.specs.AidGives.{Begun}
 use Rattle.walk.proofs.Walking.{from-same}
 use Rattle.exports.specs.Walks.{place, Tells, all_of}
 use Rattle.exports.proofs.walks.belquita_walk_from.Reads as walk_from
@@ -18,8 +18,8 @@ told-once : (b d : Begun) (r s : ℕ) (p q : Place) → b ≡ d → Tells b r p 
 told-once b d r s p q e x y = go b x (subst (λ (z : Begun). Tells z s q) (sym e) y)
   where
     go : (z : Begun) → Tells z r p → Tells z s q → (r ≡ s) × (p ≡ q)
-    go (At _) v w = (agree v.0 w.0, agree v.1 w.1)
-    go (Refused _) v w = (agree v.0 w.0, agree v.1 w.1)
+    go (Ok _) v w = (agree v.0 w.0, agree v.1 w.1)
+    go (Err _) v w = (agree v.0 w.0, agree v.1 w.1)
 
 pub unique-belquita-walk-from : (κs : _) (args : _) (r s : ℕ) (e f : _) → walk_from.Learnt κs args r e → walk_from.Learnt κs args s f
     → let x = e.1.1.1.1.1.1.1 in

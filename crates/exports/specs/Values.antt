@@ -1,16 +1,14 @@
 -- An answer as a program in C reads it, a number and up to five values: document 01, 'What each number tells the depot'; document 02, L9.
-use Rattle.std.specs.Prelude.{◌≡◌, ℕ, List, length, slice_index}
+use Rattle.std.specs.Prelude.{◌≡◌, ℕ, Option, Some, None, List, length, slice_index}
 use Rattle.measures.specs.Judgement.{measures}
 use Rattle.interval.specs.Reading.{records_in}
 use Rattle.interval.specs.Search.{place_of}
 use Rattle.interval.specs.declared.Found.{Found}
 use Rattle.interval.specs.declared.Found.TheVariants.{At, Gap}
 use Rattle.index_read.specs.declared.Index.{Index}
-use Rattle.index_read.specs.declared.Index.TheVariants.{Sound, Unsound}
-use Rattle.requests.specs.Answers.{number_of, values_of}
+use Rattle.requests.specs.Answers.{number_of, values_of, Answer}
 use Rattle.requests.specs.Reading as reading
 use Rattle.requests.specs.Changing.{Outcome}
-use Rattle.requests.specs.declared.Answer.{Answer}
 use Rattle.exports.specs.declared.Values.{Values}
 
 -- a number and two values
@@ -55,6 +53,6 @@ abbrev pub place_in : List ℕ → ℕ → ℕ → ℕ → List ℕ → Values
 place_in ci offset key most wanted = place_told (place_of (measures (length ci) offset key most) wanted (records_in ci))
 
 -- a record's verdict: 1 with its free numbers and entries, or 0
-abbrev pub index_told : Index → Values
-index_told (Sound free entries) = values 1 free entries
-index_told Unsound = values 0 0 0
+abbrev pub index_told : Option Index → Values
+index_told (Some i) = values 1 i.free i.entries
+index_told None = values 0 0 0

@@ -14,10 +14,9 @@ ghost use Rattle.requests.specs.Reading.{check_of, get_of, get_at_of};
 ghost use Rattle.requests.specs.Changing.{insert_of, update_of, erase_of};
 ghost use Rattle.exports.specs.Values.{values, values_told, index_told, Told, Given, Made, place_in};
 
-use index_read::Index;
 use interval::Found;
 use measures::Measures;
-use requests::Answer;
+use requests::{Answer, Done, Refusal};
 
 // An answer as C reads it: its number, and the values that come with it, 0 where there are fewer.
 #[derive(Clone, Copy)]
@@ -35,7 +34,7 @@ pub(crate) fn told(answer: Answer) -> Values
 {
     let number = requests::number(answer);
     match answer {
-        Answer::Done(written) => {
+        Ok(Done::Changed(written)) => {
             let count = written.count;
             let second = counted(count, 0, written.first);
             let third = counted(count, 1, written.second);
@@ -50,8 +49,8 @@ pub(crate) fn told(answer: Answer) -> Values
                 fifth,
             }
         }
-        Answer::Found(length) => one(number, length),
-        Answer::Intact { records, free } => Values {
+        Ok(Done::Found(length)) => one(number, length),
+        Ok(Done::Intact { records, free }) => Values {
             number,
             first: records,
             second: free,
@@ -59,15 +58,9 @@ pub(crate) fn told(answer: Answer) -> Values
             fourth: 0,
             fifth: 0,
         },
-        Answer::Damaged(place) => one(number, place),
-        Answer::Short(needed) => one(number, needed),
-        Answer::Outside => one(number, 0),
-        Answer::WrongLength => one(number, 0),
-        Answer::Present => one(number, 0),
-        Answer::Absent => one(number, 0),
-        Answer::NoInterval => one(number, 0),
-        Answer::NoRoom => one(number, 0),
-        Answer::NoRecord => one(number, 0),
+        Err(Refusal::Damaged(place)) => one(number, place),
+        Err(Refusal::Short(needed)) => one(number, needed),
+        Err(_) => one(number, 0),
     }
 }
 
@@ -295,17 +288,13 @@ pub extern "C" fn belquita_index(
     requires { (31 ≤ length ib.now) × (length ib.now ≤ 32768) × (1 ≤ key) × (key ≤ 255) × (n ≤ limit) }
     ensures { values result free.new entries.new ≡ index_told (index_of key n ib.now) }
 {
-    let Index::Sound {
-        free: f,
-        entries: e,
-    } = index_read::check(ib, key, n)
-    else {
+    let Some(index) = index_read::check(ib, key, n) else {
         *free = 0;
         *entries = 0;
         return 0;
     };
-    *free = f;
-    *entries = e;
+    *free = index.free;
+    *entries = index.entries;
     1
 }
 

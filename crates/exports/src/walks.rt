@@ -4,7 +4,7 @@ ghost use Rattle.measures.specs.Judgement.{measures};
 ghost use Rattle.exports.specs.Walks.{place, Denies, Tells, Starts, Opens, Steps, lengths_from, Adds};
 
 use measures::Numbers;
-use requests::Answer;
+use requests::Refusal;
 use walk::{Begun, Place};
 
 // What a walk begins with, as C reads it: 0 and the place; or a refusal's number and, in the place of an entry, the place of damage.
@@ -14,10 +14,10 @@ pub(crate) struct Start {
     pub place: Place,
 }
 
-pub(crate) fn refused(answer: Answer) -> Start
-    ensures { Denies answer result.number result.place }
+pub(crate) fn refused(refusal: Refusal) -> Start
+    ensures { Denies refusal result.number result.place }
 {
-    let v = crate::told(answer);
+    let v = crate::told(Err(refusal));
     let place = Place {
         entry: v.first,
         start: 0,
@@ -37,8 +37,8 @@ pub(crate) fn started(begun: Begun) -> Start
     ensures { Tells begun result.number result.place }
 {
     match begun {
-        Begun::At(place) => Start { number: 0, place },
-        Begun::Refused(answer) => refused(answer),
+        Ok(place) => Start { number: 0, place },
+        Err(refusal) => refused(refusal),
     }
 }
 
@@ -193,7 +193,7 @@ pub extern "C" fn belquita_walk(
         key,
         most,
     };
-    let Begun::At(p) = walk::walk_end(area, numbers, forward) else {
+    let Ok(p) = walk::walk_end(area, numbers, forward) else {
         return 0;
     };
     added(area, size, forward, p)

@@ -2,11 +2,11 @@
 use mathlib.Core.Path.{◌≡◌, refl}
 use mathlib.Core.Bool.{false}
 use Rattle.fields.specs.Order.{is_less}
-use Rattle.fields.specs.declared.Order.{Order}
-use Rattle.fields.specs.declared.Order.TheVariants.{Less, Same, Greater}
+use Rattle.std.specs.declared.cmp.Ordering.{Ordering}
+use Rattle.std.specs.declared.cmp.Ordering.TheVariants.{Less, Equal, Greater}
 
 -- not less: the same or greater
-pub not-less : (r : Order) → (r ≡ Less → ⊥) → is_less r ≡ false
+pub not-less : (r : Ordering) → (r ≡ Less → ⊥) → is_less r ≡ false
 not-less Less h = absurd (h refl)
-not-less Same h = refl
+not-less Equal h = refl
 not-less Greater h = refl

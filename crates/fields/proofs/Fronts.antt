@@ -13,7 +13,7 @@ use native.Mathlib.Numerals.{add-one}
 use borrow.Author.Tests.{eqb-true, eqb-false, eq-eqb, ne_eqb, le-ltb, lt-ltb}
 use Rattle.fields.specs.Choice.{pick}
 use Rattle.fields.specs.Order.{order_of, common}
-use Rattle.fields.specs.declared.Order.TheVariants.{Less, Same, Greater}
+use Rattle.std.specs.declared.cmp.Ordering.TheVariants.{Less, Equal, Greater}
 use Rattle.fields.proofs.Orders.{order-self}
 
 pub common-left : (a b : List ℕ) → common a b ≤ length a
@@ -99,7 +99,7 @@ module _ (a b : List ℕ) (i : ℕ) (front : i ≡ common a b) where
   ordered : order_of a b ≡ order_of (drop i a) (drop i b)
   ordered = rw front (order-common a b)
 
-  pub order-ends : length a ≤ i → length b ≤ i → order_of a b ≡ Same
+  pub order-ends : length a ≤ i → length b ≤ i → order_of a b ≡ Equal
   unfolding order_of
   order-ends h k = ordered ∙ rw (drop_of_length-le a, drop_of_length-le b)
 

@@ -5,10 +5,11 @@ use mathlib.Core.List.{List, [], ◌∷◌, ◌++◌, append_assoc, append-nil}
 use lib.ListN.{length, get_or, drop, set, length-append, length-drop}
 use lib.Seq.{get_or-append_seam, take_at, drop_at, take-suc, get_or-drop}
 use native.Mathlib.Omega.{arith}
-use native.Mathlib.Nat.{div-add-mod', mod-eq_of_lt, mul-suc, pow-suc, mul_assoc}
+use native.Mathlib.Nat.{div-add-mod', mul-suc, pow-suc, mul_assoc}
 use native.Mathlib.Numerals.{add-one}
+use Rattle.std.proofs.Math.Nat.{pow-le-pow_right}
 use Rattle.fields.specs.Bytes.{Octets, part, number, digits, splice}
-use Rattle.fields.proofs.Splices.{sets-splice, splice-nil, set-splice, length-splice}
+use Rattle.fields.proofs.Splices.{splice-nil, set-splice, length-splice}
 
 pub length_digits : (w x : ℕ) → length (digits w x) ≡ w
 unfolding digits
@@ -36,6 +37,10 @@ number-seam (suc w) b xs ys x i l e h =
 pub number_digits : (w x : ℕ) → x < 256 ^ w → number w (digits w x) 0 ≡ x
 number_digits w x h = number-seam w (digits w x) [] [] x 0 h (sym (append-nil (digits w x))) refl
 
+pub number-byte : (b : List ℕ) (a : ℕ) → number 1 b a ≡ get_or b a 0
+unfolding number
+number-byte b a = let e : a + 0 ≡ a = omega arith in rw e (omega arith)
+
 -- w bytes hold less than 256 ^ w
 pub number-below : (w : ℕ) (b : List ℕ) (a : ℕ) → Octets b → number w b a < 256 ^ w
 unfolding number
@@ -53,29 +58,9 @@ digits_number (suc w) b a o h =
     let s : part b a (suc w) ≡ part b a w ++ (get_or b (a + w) 0 ∷ []) = take-suc (drop a b) w 0 l ∙ rw get_or-drop in
     rw (q, r, s, digits_number w b a o (omega arith))
 
-pub number-1 : (b : List ℕ) (i : ℕ) → number 1 b i ≡ get_or b i 0
-unfolding number
-number-1 b i = let e : i + 0 ≡ i = omega arith in rw e (omega arith)
-
 pub number-2 : (b : List ℕ) (i : ℕ) → number 2 b i ≡ get_or b i 0 * 256 + get_or b (i + 1) 0
 unfolding number
 number-2 b i = let e : i + 0 ≡ i = omega arith in rw e (omega arith)
-
-pub digits_1 : (x : ℕ) → x < 256 → digits 1 x ≡ x ∷ []
-unfolding digits
-digits_1 x h = rw (mod-eq_of_lt h)
-
-pub digits_2 : (x : ℕ) → x < 65536 → digits 2 x ≡ x / 256 ∷ x % 256 ∷ []
-unfolding digits
-digits_2 x h =
-    let e : x / 256 % 256 ≡ x / 256 = mod-eq_of_lt (omega arith) in
-    rw e
-
-pub number-4 : (b : List ℕ) (i : ℕ) → number 4 b i ≡ get_or b i 0 * 16777216 + get_or b (i + 1) 0 * 65536 + get_or b (i + 2) 0 * 256 + get_or b (i + 3) 0
-unfolding number
-number-4 b i =
-    let p : i + 0 ≡ i = omega arith in
-    rw p (omega arith)
 
 -- the number of two stretches, one after the other
 pub number-add : (v w : ℕ) (b : List ℕ) (a : ℕ) → number (v + w) b a ≡ number v b a * 256 ^ w + number w b (a + v)
@@ -101,17 +86,9 @@ pub number_more : (i : ℕ) (b : List ℕ) (a : ℕ) → number (i + 1) b a ≡ 
 unfolding number
 number_more i b a = rw add-one
 
-pub number-byte : (b : List ℕ) (a : ℕ) → number 1 b a ≡ get_or b a 0
-unfolding number
-number-byte b a = let e : a + 0 ≡ a = omega arith in rw e (omega arith)
-
--- up to three bytes leave room for one more
-pub number_small : (i : ℕ) (b : List ℕ) (a : ℕ) → Octets b → i ≤ 3 → number i b a < 16777216
-number_small zero b a o h = omega (arith, number-below 0 b a o)
-number_small (suc zero) b a o h = omega (arith, number-below 1 b a o)
-number_small (suc (suc zero)) b a o h = omega (arith, number-below 2 b a o)
-number_small (suc (suc (suc zero))) b a o h = omega (arith, number-below 3 b a o)
-number_small (suc (suc (suc (suc i)))) b a o h = absurd (omega arith)
+-- up to seven bytes leave room for one more
+pub number_small : (i : ℕ) (b : List ℕ) (a : ℕ) → Octets b → i ≤ 7 → number i b a < 72057594037927936
+number_small i b a o h = omega (arith, number-below i b a o, pow-le-pow_right {n = 256} (omega arith) {i = i} {j = 7} h)
 
 -- how far a number has been stored, the last byte first
 pub record Stored (w x a : ℕ) (b₀ b : List ℕ) (left i : ℕ) : Type 0 where
@@ -143,13 +120,6 @@ module _ (w x a : ℕ) (b₀ b : List ℕ) (left i : ℕ) (s : Stored w x a b₀
   pub stored-all : i ≡ 0 → b ≡ splice b₀ a (digits w x)
   unfolding digits
   stored-all h = let e : a + 0 ≡ a = omega arith in s.bytes ∙ rw (h, e, s.split, h)
-
--- two bytes read, and two bytes stored
-pub two_is : (b : List ℕ) (i x y : ℕ) → x ≡ get_or b i 0 → y ≡ get_or b (i + 1) 0 → x * 256 + y ≡ number 2 b i
-two_is b i x y e f = rw (e, f) (sym (number-2 b i))
-
-pub two-stored : (b : List ℕ) (a x : ℕ) → a + 2 ≤ length b → x < 65536 → set (set b a (x / 256)) (a + 1) (x % 256) ≡ splice b a (digits 2 x)
-two-stored b a x h l = rw (digits_2 x l, add-one) (sets-splice (x / 256 ∷ x % 256 ∷ []) b a h)
 
 -- so many equal parts: one, and the others
 pub one_less : (w c : ℕ) → 0 < c → w * c ≡ w + w * (c - 1)

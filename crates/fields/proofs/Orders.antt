@@ -1,24 +1,40 @@
 -- Laws of the order of byte lists.
 use Prim.Native.Nat.{ℕ, ◌<◌}
 use mathlib.Core.Path.{◌≡◌, refl, ◌∙◌, sym, ap}
-use mathlib.Core.Bool.{Bool, true, false}
+use mathlib.Core.Bool.{Bool, true, false, cond}
 use mathlib.Core.List.{List, [], ◌∷◌, ◌++◌}
 use mathlib.Core.Logic.{◌⊎◌, inl, inr, ⊎_elim}
 use lib.ListN.{length}
-use lib.Dec.{ltb}
+use lib.Dec.{ltb, eqb}
 use native.Mathlib.Omega.{arith}
-use borrow.Author.Tests.{ltb-true, ltb-false, lt-ltb, le-ltb}
+use borrow.Author.Tests.{ltb-true, ltb-false, lt-ltb, le-ltb, eqb-true, eqb-false}
+use Rattle.std.specs.declared.cmp.Ordering.{Ordering}
+use Rattle.std.specs.declared.cmp.Ordering.TheVariants.{Less, Equal, Greater}
+use Rattle.std.specs.Ordering.{ordering_then, nat_cmp}
+use Rattle.std.specs.Cmp.Lexicographic.{slice_cmp}
 use Rattle.fields.specs.Choice.{pick}
 use Rattle.fields.specs.Order.{order_of, is_less, less, flip}
-use Rattle.fields.specs.declared.Order.{Order}
-use Rattle.fields.specs.declared.Order.TheVariants.{Less, Same, Greater}
 use Rattle.fields.proofs.Choices.{false-true, off}
 
 -- the first difference decides: the order of two lists, then that of what follows them
-abbrev pub and_then : Order → Order → Order
-and_then Less o = Less
-and_then Same o = o
-and_then Greater o = Greater
+abbrev pub and_then : Ordering → Ordering → Ordering
+and_then o p = ordering_then o p
+
+-- the order of byte lists is that of the library's slices
+pub order-slices : (a b : List ℕ) → order_of a b ≡ slice_cmp nat_cmp a b
+unfolding order_of
+order-slices [] [] = refl
+order-slices [] (y ∷ b) = refl
+order-slices (x ∷ a) [] = refl
+order-slices (x ∷ a) (y ∷ b) = go (ltb x y) (ltb y x) (eqb x y) refl refl refl (order-slices a b)
+  where
+    go : (s t u : Bool) → ltb x y ≡ s → ltb y x ≡ t → eqb x y ≡ u → order_of a b ≡ slice_cmp nat_cmp a b
+        → pick s Less (pick t Greater (order_of a b)) ≡ ordering_then (cond s Less (cond u Equal Greater)) (slice_cmp nat_cmp a b)
+    go true t u d e f i = refl
+    go false true true d e f i = absurd (omega (arith, ltb-true y x e, eqb-true x y f))
+    go false true false d e f i = refl
+    go false false true d e f i = i
+    go false false false d e f i = absurd (eqb-false x y f (omega (arith, ltb-false x y d, ltb-false y x e)))
 
 pub order-self : (x : ℕ) (a b : List ℕ) → order_of (x ∷ a) (x ∷ b) ≡ order_of a b
 unfolding order_of
@@ -28,7 +44,7 @@ pub order-prefix : (xs a b : List ℕ) → order_of (xs ++ a) (xs ++ b) ≡ orde
 order-prefix [] a b = refl
 order-prefix (x ∷ xs) a b = order-self x (xs ++ a) (xs ++ b) ∙ order-prefix xs a b
 
-pub order-refl : (a : List ℕ) → order_of a a ≡ Same
+pub order-refl : (a : List ℕ) → order_of a a ≡ Equal
 unfolding order_of
 order-refl [] = refl
 order-refl (x ∷ a) = order-self x a a ∙ order-refl a
@@ -61,14 +77,14 @@ order_flip (x ∷ a) (y ∷ b) = go (ltb x y) (ltb y x) refl refl (order_flip a 
     go false false e f i = i
 
 -- total: neither is below the other only where they are the same list
-pub order_same : (a b : List ℕ) → order_of a b ≡ Same → a ≡ b
+pub order_same : (a b : List ℕ) → order_of a b ≡ Equal → a ≡ b
 unfolding order_of
 order_same [] [] h = refl
 order_same [] (y ∷ b) h = absurd (let z : ◌≡◌ {A = ℕ} 0 1 = cc in omega arith)
 order_same (x ∷ a) [] h = absurd (let z : ◌≡◌ {A = ℕ} 0 1 = cc in omega arith)
 order_same (x ∷ a) (y ∷ b) h = go (ltb x y) (ltb y x) refl refl (λ k. order_same a b k) h
   where
-    go : (s t : Bool) → ltb x y ≡ s → ltb y x ≡ t → (order_of a b ≡ Same → a ≡ b) → pick s Less (pick t Greater (order_of a b)) ≡ Same → x ∷ a ≡ y ∷ b
+    go : (s t : Bool) → ltb x y ≡ s → ltb y x ≡ t → (order_of a b ≡ Equal → a ≡ b) → pick s Less (pick t Greater (order_of a b)) ≡ Equal → x ∷ a ≡ y ∷ b
     go true t e f i k = absurd (let z : ◌≡◌ {A = ℕ} 0 1 = cc in omega arith)
     go false true e f i k = absurd (let z : ◌≡◌ {A = ℕ} 0 1 = cc in omega arith)
     go false false e f i k =
@@ -76,17 +92,17 @@ order_same (x ∷ a) (y ∷ b) h = go (ltb x y) (ltb y x) refl refl (λ k. order
         let r : a ≡ b = i k in
         cc
 
-less-flip : (o : Order) → is_less o ≡ true → is_less (flip o) ≡ false
+less-flip : (o : Ordering) → is_less o ≡ true → is_less (flip o) ≡ false
 less-flip Less h = refl
-less-flip Same h = refl
+less-flip Equal h = refl
 less-flip Greater h = absurd (false-true h)
 
 pub less-asym : (a b : List ℕ) → less a b ≡ true → less b a ≡ false
 less-asym a b h = ap is_less (order_flip a b) ∙ less-flip (order_of a b) h
 
-not-either : (o : Order) → is_less o ≡ false → is_less (flip o) ≡ false → o ≡ Same
+not-either : (o : Ordering) → is_less o ≡ false → is_less (flip o) ≡ false → o ≡ Equal
 not-either Less h k = absurd (false-true (sym h))
-not-either Same h k = refl
+not-either Equal h k = refl
 not-either Greater h k = absurd (false-true (sym k))
 
 pub less-total : (a b : List ℕ) → less a b ≡ false → less b a ≡ false → a ≡ b
@@ -95,9 +111,9 @@ less-total a b h k = order_same a b (not-either (order_of a b) h (sym (ap is_les
 pub less-irrefl : (a : List ℕ) → less a a ≡ false
 less-irrefl a = ap is_less (order-refl a)
 
-pub less-order : (o : Order) → is_less o ≡ true → o ≡ Less
+pub less-order : (o : Ordering) → is_less o ≡ true → o ≡ Less
 less-order Less h = refl
-less-order Same h = absurd (false-true h)
+less-order Equal h = absurd (false-true h)
 less-order Greater h = absurd (false-true h)
 
 -- one byte more: less, and not less

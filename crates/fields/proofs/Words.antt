@@ -2,27 +2,28 @@
 -- these are equal as what follows them.
 use Prim.Native.Nat.{ℕ, zero, suc, ◌+◌, ◌*◌, ◌≤◌, ◌<◌}
 use mathlib.Core.Path.{◌≡◌, refl, ◌∙◌, ap}
-use mathlib.Core.Bool.{Bool, true, false}
+use mathlib.Core.Bool.{Bool, true, false, cond}
 use mathlib.Core.List.{List}
 use lib.ListN.{length, get_or, drop, length-drop}
 use lib.Seq.{drop-cons, get_or-take, get_or-drop, length-take-le}
-use lib.Dec.{ltb}
+use lib.Dec.{ltb, eqb}
 use native.Mathlib.Omega.{arith}
 use native.Mathlib.Numerals.{add-one}
-use borrow.Author.Tests.{lt-ltb, le-ltb, ltb-true, ltb-false}
+use borrow.Author.Tests.{lt-ltb, le-ltb, ltb-true, ltb-false, ne_eqb}
 use Rattle.fields.specs.Choice.{pick}
 use Rattle.fields.specs.Bytes.{Octets, part, number}
 use Rattle.fields.specs.Order.{order_of, is_less, less}
-use Rattle.fields.specs.declared.Order.{Order}
-use Rattle.fields.specs.declared.Order.TheVariants.{Less, Greater}
+use Rattle.std.specs.declared.cmp.Ordering.{Ordering}
+use Rattle.std.specs.declared.cmp.Ordering.TheVariants.{Less, Equal, Greater}
+use Rattle.std.specs.Ordering.{nat_cmp}
 use Rattle.fields.proofs.Octets.{octets-part}
 
 -- two numbers decide, or what comes after them
-abbrev pub by_numbers : ℕ → ℕ → Order → Order
+abbrev pub by_numbers : ℕ → ℕ → Ordering → Ordering
 by_numbers x y o = pick (ltb x y) Less (pick (ltb y x) Greater o)
 
 -- a number and one byte more decide as the number first and the byte then
-join : (X Y x y : ℕ) (o : Order) → x < 256 → y < 256 → by_numbers X Y (by_numbers x y o) ≡ by_numbers (X * 256 + x) (Y * 256 + y) o
+join : (X Y x y : ℕ) (o : Ordering) → x < 256 → y < 256 → by_numbers X Y (by_numbers x y o) ≡ by_numbers (X * 256 + x) (Y * 256 + y) o
 join X Y x y o h k = go (ltb X Y) (ltb Y X) refl refl
   where
     go : (t u : Bool) → ltb X Y ≡ t → ltb Y X ≡ u → pick t Less (pick u Greater (by_numbers x y o)) ≡ by_numbers (X * 256 + x) (Y * 256 + y) o
@@ -34,7 +35,7 @@ join X Y x y o h k = go (ltb X Y) (ltb Y X) refl refl
         let e : X ≡ Y = omega (arith, ltb-false X Y p, ltb-false Y X q) in
         rw e (low Y x y o)
       where
-        low : (Z x y : ℕ) (o : Order) → by_numbers x y o ≡ by_numbers (Z * 256 + x) (Z * 256 + y) o
+        low : (Z x y : ℕ) (o : Ordering) → by_numbers x y o ≡ by_numbers (Z * 256 + x) (Z * 256 + y) o
         low Z x y o = both (ltb x y) (ltb y x) refl refl
           where
             both : (t u : Bool) → ltb x y ≡ t → ltb y x ≡ u → pick t Less (pick u Greater o) ≡ by_numbers (Z * 256 + x) (Z * 256 + y) o
@@ -67,7 +68,7 @@ word-order (suc w) i a b p q h k =
     ∙ join (number w a i) (number w b i) (get_or a (i + w) 0) (get_or b (i + w) 0) (order_of (drop (i + w + 1) a) (drop (i + w + 1) b)) (p (i + w)) (q (i + w))
     ∙ rw e
 
--- the three ways that words decide
+-- the ways that words decide
 module _ (i : ℕ) (a b : List ℕ) (p : Octets a) (q : Octets b) (h : i + 8 ≤ length a) (k : i + 8 ≤ length b) where
   pub word-less : number 8 a i < number 8 b i → order_of (drop i a) (drop i b) ≡ Less
   word-less l = word-order 8 i a b p q h k ∙ rw (lt-ltb (number 8 a i) (number 8 b i) l)
@@ -75,8 +76,21 @@ module _ (i : ℕ) (a b : List ℕ) (p : Octets a) (q : Octets b) (h : i + 8 ≤
   pub word-greater : number 8 b i < number 8 a i → order_of (drop i a) (drop i b) ≡ Greater
   word-greater l = word-order 8 i a b p q h k ∙ rw (le-ltb (number 8 a i) (number 8 b i) (omega arith), lt-ltb (number 8 b i) (number 8 a i) l)
 
-  pub word_same : number 8 b i ≤ number 8 a i → number 8 a i ≤ number 8 b i → order_of (drop i a) (drop i b) ≡ order_of (drop (i + 8) a) (drop (i + 8) b)
-  word_same l m = word-order 8 i a b p q h k ∙ rw (le-ltb (number 8 a i) (number 8 b i) l, le-ltb (number 8 b i) (number 8 a i) m)
+  pub word_same : number 8 a i ≡ number 8 b i → order_of (drop i a) (drop i b) ≡ order_of (drop (i + 8) a) (drop (i + 8) b)
+  word_same e =
+      word-order 8 i a b p q h k
+      ∙ rw (le-ltb (number 8 a i) (number 8 b i) (omega (arith, e)), le-ltb (number 8 b i) (number 8 a i) (omega (arith, e)))
+
+  pub word-differs : (number 8 a i ≡ number 8 b i → ⊥) → order_of (drop i a) (drop i b) ≡ nat_cmp (number 8 a i) (number 8 b i)
+  word-differs n = word-order 8 i a b p q h k ∙ go (number 8 a i) (number 8 b i) (order_of (drop (i + 8) a) (drop (i + 8) b)) n
+    where
+      go : (x y : ℕ) (o : Ordering) → (x ≡ y → ⊥) → by_numbers x y o ≡ nat_cmp x y
+      go x y o n = both (ltb x y) (ltb y x) refl refl
+        where
+          both : (t u : Bool) → ltb x y ≡ t → ltb y x ≡ u → pick t Less (pick u Greater o) ≡ cond t Less (cond (eqb x y) Equal Greater)
+          both true u p q = refl
+          both false true p q = rw (ne_eqb x y n)
+          both false false p q = absurd (n (omega (arith, ltb-false x y p, ltb-false y x q)))
 
 -- ---- two parts of one list, by their first eight bytes
 

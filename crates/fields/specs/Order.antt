@@ -1,20 +1,19 @@
 -- The order of byte lists, and what two of them begin with alike: document 01, 'The area we lend'. A byte counts as a number from 0 to 255.
-use Rattle.std.specs.Prelude.{ℕ, suc, Bool, true, false, List, [], ◌∷◌, ltb, eqb}
+use Rattle.std.specs.Prelude.{ℕ, suc, Bool, List, [], ◌∷◌, ltb, eqb}
+use Rattle.std.specs.declared.cmp.Ordering.{Ordering}
+use Rattle.std.specs.declared.cmp.Ordering.TheVariants.{Less, Equal, Greater}
+use Rattle.std.specs.Ordering.{is_lt, ordering_reverse}
 use Rattle.fields.specs.Choice.{pick}
-use Rattle.fields.specs.declared.Order.{Order}
-use Rattle.fields.specs.declared.Order.TheVariants.{Less, Same, Greater}
 
 -- byte by byte; a list that the other one begins with is below it
-unfoldable pub order_of : List ℕ → List ℕ → Order
-order_of [] [] = Same
+unfoldable pub order_of : List ℕ → List ℕ → Ordering
+order_of [] [] = Equal
 order_of [] (y ∷ ys) = Less
 order_of (x ∷ xs) [] = Greater
 order_of (x ∷ xs) (y ∷ ys) = pick (ltb x y) Less (pick (ltb y x) Greater (order_of xs ys))
 
-abbrev pub is_less : Order → Bool
-is_less Less = true
-is_less Same = false
-is_less Greater = false
+abbrev pub is_less : Ordering → Bool
+is_less o = is_lt o
 
 abbrev pub less : List ℕ → List ℕ → Bool
 less a b = is_less (order_of a b)
@@ -26,7 +25,5 @@ common (x ∷ xs) [] = 0
 common (x ∷ xs) (y ∷ ys) = pick (eqb x y) (suc (common xs ys)) 0
 
 -- the two ways round
-abbrev pub flip : Order → Order
-flip Less = Greater
-flip Same = Same
-flip Greater = Less
+abbrev pub flip : Ordering → Ordering
+flip o = ordering_reverse o

@@ -5,87 +5,52 @@ ghost use Rattle.std.specs.Prelude.{◌+◌, ◌-◌, ◌*◌, ◌^◌, ◌≤�
 ghost use Rattle.fields.specs.Bytes.{part, number, digits, splice};
 ghost use Rattle.fields.specs.Order.{order_of, common};
 
-// How one byte list stands to another.
-#[derive(Clone, Copy)]
-pub enum Order {
-    Less,
-    Same,
-    Greater,
-}
+use std::cmp::Ordering;
 
-// A byte as a number.
-pub fn wide(x: u8) -> usize
-    ensures { (result ≡ x) × (result < 256) }
+// The number in N bytes from a place on.
+pub fn read<const N: usize>(b: &[u8], at: usize) -> usize
+    requires { (N ≤ 8) × (at + N ≤ length b.now) }
+    ensures { (result ≡ number N b.now at) × (result < 256 ^ N) }
 {
-    x as usize
+    let mut x = 0;
+    for i in 0..N {
+        x = x * 256 + usize::from(b[at + i]);
+    }
+    x
 }
 
-// The number in two bytes.
-pub fn read_two(b: &[u8], at: usize) -> usize
-    requires { at + 2 ≤ length b.now }
-    ensures { (result ≡ number 2 b.now at) × (result < 65536) }
-{
-    let high = wide(b[at]);
-    let low = wide(b[at + 1]);
-    high * 256 + low
-}
-
-// The number in four bytes. Each byte is shifted to its place by itself: so the compiler makes one load of it, and one of eight.
-pub fn read_four(b: &[u8], at: usize) -> usize
-    requires { at + 4 ≤ length b.now }
-    ensures { (result ≡ number 4 b.now at) × (result < 4294967296) }
-{
-    let first = wide(b[at]) * 16777216;
-    let second = wide(b[at + 1]) * 65536;
-    let third = wide(b[at + 2]) * 256;
-    first + second + third + wide(b[at + 3])
-}
-
-// The number in eight bytes.
+// The same of eight bytes, half by half: the compiler makes one load of these, where it makes eight of a chain of eight bytes.
 pub fn read_eight(b: &[u8], at: usize) -> usize
     requires { at + 8 ≤ length b.now }
     ensures { result ≡ number 8 b.now at }
 {
-    read_four(b, at) * 4294967296 + read_four(b, at + 4)
+    read::<4>(b, at) * 4294967296 + read::<4>(b, at + 4)
 }
 
-// The number in `width` bytes: a pointer.
+// The number in `width` bytes: a pointer, which mostly has one.
 pub fn read_pointer(b: &[u8], at: usize, width: usize) -> usize
     requires { (width ≤ 4) × (at + width ≤ length b.now) }
     ensures { (result ≡ number width b.now at) × (result < 256 ^ width) }
 {
     if width == 1 {
-        return wide(b[at]);
+        return usize::from(b[at]);
     }
-    let mut x: usize = 0;
-    let mut i: usize = 0;
-    while i < width {
-        x = x * 256 + wide(b[at + i]);
-        i += 1;
+    let mut x = 0;
+    for byte in &b[at..at + width] {
+        x = x * 256 + usize::from(*byte);
     }
     x
 }
 
-// Stores a number in two bytes.
-pub fn write_two(b: &mut [u8], at: usize, x: usize)
-    requires { (at + 2 ≤ length b.old) × (x < 65536) }
-    ensures { b.new ≡ splice b.old at (digits 2 x) }
-{
-    b[at] = (x / 256) as u8;
-    b[at + 1] = (x % 256) as u8;
-}
-
-// Stores a number in `width` bytes, the last byte first: a pointer.
-pub fn write_pointer(b: &mut [u8], at: usize, width: usize, x: usize)
+// Stores a number in `width` bytes, the last byte first.
+pub fn write(b: &mut [u8], at: usize, width: usize, x: usize)
     requires { (width ≤ 4) × (at + width ≤ length b.old) }
     ensures { b.new ≡ splice b.old at (digits width x) }
 {
     let mut left = x;
-    let mut i = width;
-    while 0 < i {
-        i -= 1;
+    for i in (0..width).rev() {
         b[at + i] = (left % 256) as u8;
-        left = left / 256;
+        left /= 256;
     }
 }
 
@@ -93,72 +58,50 @@ pub fn write_pointer(b: &mut [u8], at: usize, width: usize, x: usize)
 pub fn common_front(a: &[u8], b: &[u8]) -> usize
     ensures { (result ≡ common a.now b.now) × (result ≤ length a.now) × (result ≤ length b.now) }
 {
-    let n = shorter(a.len(), b.len());
-    let mut i = 0;
-    while i < n {
+    let n = a.len().min(b.len());
+    for i in 0..n {
         if a[i] != b[i] {
             return i;
         }
-        i += 1;
     }
     n
 }
 
-pub(crate) fn shorter(a: usize, b: usize) -> usize
-    ensures { (result ≤ a) × (result ≤ b) × ((result ≡ a) ⊎ (result ≡ b)) }
-{
-    if a < b { a } else { b }
-}
-
-// How the part a stands to the part b, byte by byte: the first byte in which they differ decides. For parts of a few bytes.
-pub fn compare_bytes(a: &[u8], b: &[u8]) -> Order
+// How the part a stands to the part b, byte by byte: the first byte in which they differ decides. For parts of a few bytes: so small
+// that the compiler puts it into its callers, where the library's order of two slices is a call.
+pub fn compare_bytes(a: &[u8], b: &[u8]) -> Ordering
     ensures { result ≡ order_of a.now b.now }
 {
     let i = common_front(a, b);
     if a.len() <= i {
         if b.len() <= i {
-            return Order::Same;
+            return Ordering::Equal;
         }
-        return Order::Less;
+        return Ordering::Less;
     }
     if b.len() <= i {
-        return Order::Greater;
+        return Ordering::Greater;
     }
     if a[i] < b[i] {
-        return Order::Less;
+        return Ordering::Less;
     }
-    Order::Greater
+    Ordering::Greater
 }
 
-// The same by words: eight bytes at a time are one number each, the highest byte first, and the first numbers that differ decide;
-// what is left of either part is compared byte by byte.
-pub(crate) fn compare_words(a: &[u8], b: &[u8]) -> Order
+// The same for parts of any length. While both have eight bytes these are one number each, the
+// highest byte first, and the first numbers that differ decide; so keys of some words are told apart in fewer steps than the library takes.
+pub fn compare(a: &[u8], b: &[u8]) -> Ordering
     ensures { result ≡ order_of a.now b.now }
 {
-    let n = shorter(a.len(), b.len());
-    let mut i = 0;
-    while 8 <= n - i {
-        let x = read_eight(a, i);
-        let y = read_eight(b, i);
-        if x < y {
-            return Order::Less;
+    let words = a.len().min(b.len()) / 8;
+    for word in 0..words {
+        let x = read_eight(a, 8 * word);
+        let y = read_eight(b, 8 * word);
+        if x != y {
+            return x.cmp(&y);
         }
-        if y < x {
-            return Order::Greater;
-        }
-        i += 8;
     }
-    compare_bytes(&a[i..], &b[i..])
-}
-
-// How the part a stands to the part b: by words where it has one.
-pub fn compare(a: &[u8], b: &[u8]) -> Order
-    ensures { result ≡ order_of a.now b.now }
-{
-    if a.len() < 8 {
-        return compare_bytes(a, b);
-    }
-    compare_words(a, b)
+    compare_bytes(&a[8 * words..], &b[8 * words..])
 }
 
 // Stores a run of bytes from a place on.
@@ -166,11 +109,7 @@ pub fn copy(b: &mut [u8], at: usize, new: &[u8])
     requires { at + length new.now ≤ length b.old }
     ensures { b.new ≡ splice b.old at new.now }
 {
-    let mut i = new.len();
-    while 0 < i {
-        i -= 1;
-        b[at + i] = new[i];
-    }
+    b[at..at + new.len()].copy_from_slice(new);
 }
 
 // Stores eight bytes that stand at a place of another part, from a place on: at once, where a loop would cost more than a few bytes do.
@@ -178,14 +117,7 @@ pub fn copy_eight(b: &mut [u8], at: usize, new: &[u8], place: usize)
     requires { (at + 8 ≤ length b.old) × (place + 8 ≤ length new.now) }
     ensures { b.new ≡ splice b.old at (part new.now place 8) }
 {
-    b[at] = new[place];
-    b[at + 1] = new[place + 1];
-    b[at + 2] = new[place + 2];
-    b[at + 3] = new[place + 3];
-    b[at + 4] = new[place + 4];
-    b[at + 5] = new[place + 5];
-    b[at + 6] = new[place + 6];
-    b[at + 7] = new[place + 7];
+    b[at..at + 8].copy_from_slice(&new[place..place + 8]);
 }
 
 // Stores one byte from one place to another.
@@ -193,11 +125,7 @@ pub fn fill(b: &mut [u8], from: usize, to: usize, byte: u8)
     requires { (from ≤ to) × (to ≤ length b.old) }
     ensures { b.new ≡ splice b.old from (replicate (to - from) byte) }
 {
-    let mut i = to;
-    while from < i {
-        i -= 1;
-        b[i] = byte;
-    }
+    b[from..to].fill(byte);
 }
 
 // The most bytes that are moved at once.
@@ -211,7 +139,7 @@ pub(crate) fn move_left(b: &mut [u8], to: usize, from: usize, len: usize)
     let mut block = [0u8; BLOCK];
     let mut i = 0;
     while i < len {
-        let k = shorter(len - i, BLOCK);
+        let k = (len - i).min(BLOCK);
         let s = from + i;
         let e = s + k;
         copy(&mut block, 0, &b[s..e]);
@@ -228,7 +156,7 @@ pub(crate) fn move_right(b: &mut [u8], to: usize, from: usize, len: usize)
     let mut block = [0u8; BLOCK];
     let mut i = len;
     while 0 < i {
-        let k = shorter(i, BLOCK);
+        let k = i.min(BLOCK);
         i -= k;
         let s = from + i;
         let e = s + k;

@@ -9,7 +9,7 @@ use native.Mathlib.Numerals.{add-one}
 use Rattle.fields.specs.Choice.{pick}
 use Rattle.fields.specs.Bytes.{Octets, part, number, splice}
 use Rattle.fields.specs.Order.{order_of, is_less, less}
-use Rattle.fields.specs.declared.Order.{Order}
+use Rattle.std.specs.declared.cmp.Ordering.{Ordering}
 use Rattle.measures.specs.Judgement.{width_for}
 use Rattle.measures.proofs.Width.{width-most}
 use Rattle.index.specs.Meaning.{Entry, entry, numbers}
@@ -27,7 +27,7 @@ use Rattle.index_step.proofs.Stepping.{Standing, Stepped, standing-start, standi
 use Rattle.index_find.specs.AidLocate.{Searchable, Leads}
 
 -- the answer of a comparison
-pub below-is : (a b : List ℕ) (o : Order) (t : Bool) → o ≡ order_of a b → is_less o ≡ t → t ≡ less a b
+pub below-is : (a b : List ℕ) (o : Ordering) (t : Bool) → o ≡ order_of a b → is_less o ≡ t → t ≡ less a b
 below-is a b o t e h = sym (ap is_less (sym e) ∙ h)
 
 -- A key of one byte or more leads to one of the entries.

@@ -5,8 +5,8 @@ ghost use Rattle.std.specs.Prelude.{◌+◌, ◌≤◌, ◌<◌, ◌≡◌, leng
 ghost use Rattle.fields.specs.Order.{less};
 ghost use Rattle.index_find.specs.AidLocate.{Searchable, Leads};
 
-use fields::Order;
 use index_step::BUFFER;
+use std::cmp::Ordering;
 
 // The entry that a key leads to: its place among the entries, from 0, and the number of its interval.
 #[derive(Clone, Copy)]
@@ -20,7 +20,7 @@ pub(crate) fn is_below(buf: &[u8], key: &[u8], len: usize) -> bool
     requires { (len ≤ length buf.now) × (len ≤ length key.now) }
     ensures { result ≡ less (take len buf.now) (take len key.now) }
 {
-    let Order::Less = fields::compare_bytes(&buf[..len], &key[..len]) else {
+    let Ordering::Less = fields::compare_bytes(&buf[..len], &key[..len]) else {
         return false;
     };
     true
@@ -36,8 +36,7 @@ pub fn locate(ib: &[u8], n: usize, key: &[u8]) -> Located
     let mut buf = [0u8; BUFFER];
     let mut high = [0u8; BUFFER];
     let mut p = index_step::start(ib);
-    let mut i = 0;
-    while i < n {
+    for i in 0..n {
         let s = index_step::entry_at(ib, w, p);
         index_step::renew(&mut buf, &mut high, ib, s);
         if !is_below(&buf, key, s.front + s.len) {
@@ -47,7 +46,6 @@ pub fn locate(ib: &[u8], n: usize, key: &[u8]) -> Located
             };
         }
         p = index_step::past(ib, s, p);
-        i += 1;
     }
     Located {
         ordinal: 0,

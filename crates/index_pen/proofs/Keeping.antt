@@ -1,8 +1,8 @@
 -- What the pen holds is where the writer stands: the part that it puts is the writer's, and it stands where the writer does then.
-use Prim.Native.Nat.{ℕ, ◌+◌, ◌-◌, ◌≤◌, ◌<◌, min}
-use mathlib.Core.Path.{◌≡◌, refl, ◌∙◌, sym, ap}
+use Prim.Native.Nat.{ℕ, ◌+◌, ◌≤◌}
+use mathlib.Core.Path.{◌≡◌, refl, ◌∙◌, sym}
 use mathlib.Core.Bool.{Bool, true, false}
-use mathlib.Core.List.{List, [], ◌∷◌, ◌++◌}
+use mathlib.Core.List.{List}
 use lib.ListN.{length, take, drop, length-drop}
 use lib.Dec.{eqb, ltb}
 use native.Mathlib.Omega.{arith}
@@ -11,7 +11,7 @@ use Rattle.fields.specs.Bytes.{splice}
 use Rattle.fields.specs.Order.{common}
 use Rattle.fields.proofs.Fronts.{common-right}
 use Rattle.fields.proofs.Splices.{length-splice, take-front}
-use Rattle.index.specs.Meaning.{Entry, entry}
+use Rattle.index.specs.Meaning.{entry}
 use Rattle.sections.specs.Parts.{Part}
 use Rattle.index_pen.specs.declared.Pen.{Pen}
 use Rattle.index_pen.specs.AidPen.{part_after, part_at, pen_moved, pen_linked, control_at, pen_on, top_on}

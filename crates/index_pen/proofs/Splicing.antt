@@ -2,7 +2,7 @@
 use Prim.Native.Nat.{ℕ, suc, ◌+◌, ◌≤◌}
 use mathlib.Core.Path.{◌≡◌, refl, ◌∙◌, sym, ap}
 use mathlib.Core.List.{List, [], ◌∷◌, ◌++◌, append_assoc}
-use lib.ListN.{length, take, drop, length-append, length-take}
+use lib.ListN.{length, take, drop}
 use lib.Seq.{take-append-le, drop-append-le, drop_at, length-take-le}
 use native.Mathlib.Omega.{arith}
 use Rattle.fields.specs.Bytes.{splice}

@@ -1,5 +1,5 @@
 -- Aids: what the pen holds. Contracts of those who write with it cite them.
-use Rattle.std.specs.Prelude.{ℕ, ◌+◌, ◌-◌, ◌≤◌, ◌<◌, ◌≡◌, true, List, length, take}
+use Rattle.std.specs.Prelude.{ℕ, ◌+◌, ◌-◌, ◌≤◌, ◌<◌, ◌≡◌, List, length, take}
 use Rattle.fields.specs.Bytes.{splice}
 use Rattle.sections.specs.Parts.{Part, parts_size, sections_in}
 use Rattle.sections.specs.Layout.{ahead}

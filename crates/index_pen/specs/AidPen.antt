@@ -1,5 +1,5 @@
 -- Aids: what the pen does with one entry, and with entries one after another. `packed_all` and `parts_bytes` of crate sections are what is believed: document 02, L5.
-use Rattle.std.specs.Prelude.{ℕ, ◌+◌, ◌-◌, ◌≤◌, ◌<◌, min, ◌≡◌, Bool, true, false, List, [], ◌∷◌, length, take, drop, eqb, ltb}
+use Rattle.std.specs.Prelude.{ℕ, ◌+◌, ◌-◌, ◌≤◌, ◌<◌, min, ◌≡◌, Bool, List, length, take, drop, eqb, ltb}
 use Rattle.fields.specs.Choice.{pick}
 use Rattle.fields.specs.Bytes.{splice, digits}
 use Rattle.fields.specs.Order.{common}

@@ -2,7 +2,7 @@
 // the bytes that they take.
 #![tactic(auto)]
 
-ghost use Rattle.std.specs.Prelude.{◌+◌, ◌-◌, ◌≤◌, ◌<◌, min, ◌≡◌, true, false, length};
+ghost use Rattle.std.specs.Prelude.{◌+◌, ◌-◌, ◌≤◌, ◌<◌, ◌≡◌, true, false, length};
 ghost use Rattle.fields.specs.Bytes.{splice};
 ghost use Rattle.sections.specs.Form.{section_for};
 ghost use Rattle.index_pen.specs.AidPen.{pen_begun, piece_stored, Linkable, pen_linked, bytes_linked, Puts, part_at, pen_on, top_on, bytes_on, part_after};
@@ -28,17 +28,12 @@ pub fn section_for(count: usize) -> usize
     requires { count ≤ 65536 }
     ensures { (result ≡ section_for count) × (result ≤ 65536) }
 {
-    let mut c = 1;
-    while c * c < count {
-        c += 1;
+    for c in 1..256 {
+        if count <= c * c {
+            return c;
+        }
     }
-    c
-}
-
-pub(crate) fn fewer(a: usize, b: usize) -> usize
-    ensures { result ≡ min a b }
-{
-    if a < b { a } else { b }
+    256
 }
 
 // Before the first of so many entries.
@@ -50,7 +45,7 @@ pub fn begin(width: usize, count: usize) -> Pen
     Pen {
         width,
         most,
-        left: fewer(most, count),
+        left: most.min(count),
         rest: count,
         high: 0,
         size: 0,
@@ -78,7 +73,7 @@ pub(crate) fn put_piece(
     fields::copy(b, at, chars);
     b[z] = front as u8;
     b[z + 1] = l as u8;
-    fields::write_pointer(b, z + 2, width, number);
+    fields::write(b, z + 2, width, number);
 }
 
 // A section's highest was stored, with its control information at `at`, and begins two bytes right of all that is stored: its own field stays zero until the next
@@ -89,7 +84,7 @@ pub(crate) fn link(b: &mut [u8], pen: Pen, at: usize) -> Pen
     ensures bytes { b.new ≡ bytes_linked b.old pen at }
 {
     let edge = b.len() - 7 - pen.size;
-    fields::write_two(b, edge, 0);
+    fields::write(b, edge, 2, 0);
     let mut p = pen;
     p.field = edge;
     p.last = at;
@@ -97,7 +92,7 @@ pub(crate) fn link(b: &mut [u8], pen: Pen, at: usize) -> Pen
         p.first = at;
         return p;
     }
-    fields::write_two(b, pen.field, pen.last - at);
+    fields::write(b, pen.field, 2, pen.last - at);
     p
 }
 
@@ -131,7 +126,7 @@ pub(crate) fn put_top(b: &mut [u8], pen: Pen, front: usize, sep: &[u8], number: 
     let mut p = pen;
     p.size = pen.size + (w + 2 + (n - front) + 2);
     p.rest = pen.rest - 1;
-    p.left = fewer(pen.most, pen.rest - 1);
+    p.left = pen.most.min(pen.rest - 1);
     p.high = n;
     if b.len() <= 7 {
         return p;

@@ -9,6 +9,7 @@ use lib.Seq.{length-take-le, get_or-append-add, get_or-take, get_or-drop}
 use lib.Dec.{eqb, leb}
 use native.Mathlib.Omega.{arith}
 use borrow.Author.Tests.{le-leb, leb-true}
+use Rattle.std.specs.Prelude.{Some, None}
 use Rattle.fields.specs.Choice.{pick, both, no}
 use Rattle.fields.specs.Bytes.{part}
 use Rattle.fields.proofs.Choices.{both-split, off}
@@ -19,7 +20,6 @@ use Rattle.index_step.specs.AidStep.{front_at, step_at, joined_of, reach}
 use Rattle.index_step.proofs.Reaching.{reach-most}
 use Rattle.index_read.specs.AidParsing.{closes_at, parses, parsed_of}
 use Rattle.index_read.specs.declared.Limits.{Limits}
-use Rattle.index_read.specs.declared.Parsed.TheVariants.{Of, Bad}
 
 -- ---- an entry taken apart
 
@@ -31,10 +31,10 @@ pub record Good (ib : List ℕ) (p : PassPlace) (by : Limits) (s : Step) : Type 
   pub front : s.front ≤ pick s.closes p.high p.len
   pub fits : s.front + s.len ≤ by.key
 
-pub of-bad : {s : Step} → Of s ≡ Bad → ⊥
+pub of-bad : {s : Step} → Some s ≡ None → ⊥
 of-bad e = let z : ◌≡◌ {A = ℕ} 0 1 = cc in omega arith
 
-pub bad-of : {s : Step} → Bad ≡ Of s → ⊥
+pub bad-of : {s : Step} → None ≡ Some s → ⊥
 bad-of e = of-bad (sym e)
 
 module _ (ib : List ℕ) (p : PassPlace) (by : Limits) where
@@ -68,49 +68,49 @@ module _ (ib : List ℕ) (p : PassPlace) (by : Limits) where
   unfolding parses
   parses-joined h i j = rw (le-leb (by.edge + (w + 2 + L + field)) r h, le-leb F most i, le-leb (F + L) by.key j)
 
-  pub parsed-is : parses ib p by ≡ true → parsed_of ib p by ≡ Of (step_at w ib r p.end)
+  pub parsed-is : parses ib p by ≡ true → parsed_of ib p by ≡ Some (step_at w ib r p.end)
   unfolding parsed_of
   parsed-is h = rw h
 
-  parsed-off : (parses ib p by ≡ true → ⊥) → Bad ≡ parsed_of ib p by
+  parsed-off : (parses ib p by ≡ true → ⊥) → None ≡ parsed_of ib p by
   unfolding parsed_of
   parsed-off h = sym (rw (off (parses ib p by) h))
 
   -- the ways out
   module _ (closes : Bool) (which : closes_at w p ≡ closes) where
-    pub no_room : (l x : ℕ) → l ≡ L → x ≡ pick closes 2 0 → r < by.edge + (w + 2 + l + x) → Bad ≡ parsed_of ib p by
+    pub no_room : (l x : ℕ) → l ≡ L → x ≡ pick closes 2 0 → r < by.edge + (w + 2 + l + x) → None ≡ parsed_of ib p by
     no_room l x e q h =
         let q' : x ≡ field = q ∙ rw which in
         parsed-off (λ z. omega (arith, (parses-apart z).0, q'))
 
     module _ (s : Step) (e : s ≡ step_at w ib r p.end) where
-      pub no_front : (x : ℕ) → x ≡ pick closes p.high p.len → x < s.front → Bad ≡ parsed_of ib p by
+      pub no_front : (x : ℕ) → x ≡ pick closes p.high p.len → x < s.front → None ≡ parsed_of ib p by
       no_front x q h =
           let q' : x ≡ most = q ∙ rw which in
           let h' : x < F = rw e at h in
           parsed-off (λ z. omega (arith, (parses-apart z).1, q', h'))
 
-      pub no-fit : by.key < s.front + s.len → Bad ≡ parsed_of ib p by
+      pub no-fit : by.key < s.front + s.len → None ≡ parsed_of ib p by
       no-fit h =
           let h' : by.key < F + L = rw e at h in
           parsed-off (λ z. omega (arith, (parses-apart z).2, h'))
 
       -- and the way on
       pub parsed-on : (l x y : ℕ) → l ≡ L → x ≡ pick closes 2 0 → by.edge + (w + 2 + l + x) ≤ r → y ≡ pick closes p.high p.len → s.front ≤ y
-          → s.front + s.len ≤ by.key → Of s ≡ parsed_of ib p by
+          → s.front + s.len ≤ by.key → Some s ≡ parsed_of ib p by
       parsed-on l x y l-is x-is h y-is j k =
           let x' : x ≡ field = x-is ∙ rw which in
           let y' : y ≡ most = y-is ∙ rw which in
           let j' : F ≤ y = rw e at j in
           let k' : F + L ≤ by.key = rw e at k in
-          ap Of e ∙ sym (parsed-is (parses-joined (omega (arith, h, l-is, x')) (omega (arith, y', j')) k'))
+          ap Some e ∙ sym (parsed-is (parses-joined (omega (arith, h, l-is, x')) (omega (arith, y', j')) k'))
 
   -- what a good answer says
-  pub good : (s : Step) → parsed_of ib p by ≡ Of s → Good ib p by s
+  pub good : (s : Step) → parsed_of ib p by ≡ Some s → Good ib p by s
   unfolding parsed_of
   good s = go (parses ib p by) refl
     where
-      go : (t : Bool) → parses ib p by ≡ t → pick t (Of (step_at w ib r p.end)) Bad ≡ Of s → Good ib p by s
+      go : (t : Bool) → parses ib p by ≡ t → pick t (Some (step_at w ib r p.end)) None ≡ Some s → Good ib p by s
       go true q h =
           let e : step_at w ib r p.end ≡ s = cc in
           let a = parses-apart q in

@@ -8,6 +8,7 @@ use lib.ListN.{length, get_or, take, set, length-take}
 use lib.Dec.{eqb}
 use native.Mathlib.Omega.{arith}
 use borrow.Author.Tests.{eqb-false}
+use Rattle.std.specs.Prelude.{Some}
 use Rattle.fields.specs.Choice.{pick}
 use Rattle.fields.proofs.Choices.{false-true}
 use Rattle.index_step.specs.declared.PassPlace.{PassPlace}
@@ -20,7 +21,6 @@ use Rattle.index_read.specs.AidSeek.{aim_of, FoundBy}
 use Rattle.index_read.specs.AidStand.{Walkable, Stand, Paused}
 use Rattle.index_read.specs.declared.Leg.{Leg}
 use Rattle.index_read.specs.declared.Limits.{Limits}
-use Rattle.index_read.specs.declared.Parsed.TheVariants.{Of}
 use Rattle.index_read.specs.declared.Lead.{Lead}
 use Rattle.index_read.proofs.Reaching.{aim-top, Above, Aims, found_here}
 use Rattle.index_read.proofs.Walking.{too-big, again, passes-top, num-is, aims, held-past, turned, topped, unsought}
@@ -103,7 +103,7 @@ module _ (reach r : ℕ) (meets : Bool) (m : Meets reach r meets) where
 pub record Turn (ib : List ℕ) (by : Limits) (key old : List ℕ) (from : Leg) (seen buf high : List ℕ) (p : PassPlace) (left : ℕ) (s : Step) (buf' high' : List ℕ) : Type 0 where
   pub paused : Paused ib by key old from seen buf high p left
   pub walkable : Walkable ib by key
-  pub entry : entry_of ib p by (eqb left by.count) buf high ≡ Of s
+  pub entry : entry_of ib p by (eqb left by.count) buf high ≡ Some s
   pub renewed : Renewed ib s buf high buf' high'
   pub long : length buf' ≡ length buf
   pub long' : length high' ≡ length high

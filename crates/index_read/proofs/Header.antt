@@ -1,6 +1,6 @@
 -- Laws of the header: its values, the base RBA, and the displacements as far as they show before the walk.
 use Prim.Native.Nat.{ℕ, zero, suc, ◌+◌, ◌-◌, ◌*◌, ◌%◌, ◌^◌, ◌≤◌, ◌<◌}
-use mathlib.Core.Path.{◌≡◌, refl, ◌∙◌, sym}
+use mathlib.Core.Path.{◌≡◌, refl, ◌∙◌, sym, ap}
 use mathlib.Core.Bool.{Bool, true, false}
 use mathlib.Core.List.{List}
 use lib.ListN.{length, get_or, drop}
@@ -9,6 +9,7 @@ use lib.Dec.{eqb, leb, ltb}
 use native.Mathlib.Omega.{arith}
 use native.Mathlib.Nat.{mul-le-mul, mul-div-le}
 use borrow.Author.Tests.{eq-eqb, lt-ltb, le-leb, eqb-true, ltb-true, leb-true}
+use Rattle.std.specs.Prelude.{Option, Some, None}
 use Rattle.fields.specs.Choice.{pick}
 use Rattle.fields.specs.Bytes.{part, number}
 use Rattle.fields.proofs.Choices.{both-split, both-join, off}
@@ -17,7 +18,7 @@ use Rattle.index.specs.Rules.{base_fine}
 use Rattle.index.specs.Reading.{unused_at, last_at, section_at, free_count, frame}
 use Rattle.index.proofs.Sounding.{Framed, frame_apart}
 use Rattle.index_read.specs.AidWalk.{lies_well, places_of}
-use Rattle.index_read.specs.declared.Places.TheVariants.{At, Nowhere}
+use Rattle.index_read.specs.declared.Places.{Places}
 
 -- ---- header values, RDF and CIDF
 
@@ -116,7 +117,7 @@ lies_joined w n ib l =
     (both-join _ _ (le-leb (unused_at ib + 2) (last_at ib) l.order)
     (both-join _ _ (le-leb (last_at ib) (length ib - 7) l.inside) (single-joined w n ib l.single))))
 
-pub no_place : (w n : ℕ) (ib : List ℕ) → (LiesWell w n ib → ⊥) → Nowhere ≡ places_of w n ib
+pub no_place : (w n : ℕ) (ib : List ℕ) → (LiesWell w n ib → ⊥) → None ≡ places_of w n ib
 unfolding places_of
 no_place w n ib h = sym (rw (off (lies_well w n ib) (λ p. h (lies-apart w n ib p))))
 
@@ -126,27 +127,27 @@ count_small w ib f e = rw e (omega (arith, mul-div-le (unused_at ib - 24) w))
 
 -- the tests that fail, each by what it says of the fields
 module _ (w n : ℕ) (ib : List ℕ) (u e : ℕ) (u-is : u ≡ unused_at ib) (e-is : e ≡ last_at ib) where
-  pub no_header : u < 24 → Nowhere ≡ places_of w n ib
+  pub no_header : u < 24 → None ≡ places_of w n ib
   no_header h = no_place w n ib (λ l. omega (arith, l.unused))
 
-  pub no_number : (f : ℕ) → f ≡ free_count w ib → (24 + w * f ≡ u → ⊥) → Nowhere ≡ places_of w n ib
+  pub no_number : (f : ℕ) → f ≡ free_count w ib → (24 + w * f ≡ u → ⊥) → None ≡ places_of w n ib
   no_number f c-is h = no_place w n ib (λ l. h (rw c-is (l.unused ∙ sym u-is)))
 
-  pub no-entry : (f : ℕ) → f ≡ free_count w ib → n ≤ f → Nowhere ≡ places_of w n ib
+  pub no-entry : (f : ℕ) → f ≡ free_count w ib → n ≤ f → None ≡ places_of w n ib
   no-entry f c-is h = no_place w n ib (λ l. omega (arith, l.some, c-is))
 
-  pub no_gap : e < u + 2 → Nowhere ≡ places_of w n ib
+  pub no_gap : e < u + 2 → None ≡ places_of w n ib
   no_gap h = no_place w n ib (λ l. omega (arith, l.order))
 
-  pub no-space : length ib - 7 < e → Nowhere ≡ places_of w n ib
+  pub no-space : length ib - 7 < e → None ≡ places_of w n ib
   no-space h = no_place w n ib (λ l. omega (arith, l.inside))
 
   module _ (f : ℕ) (c-is : f ≡ free_count w ib) (x : ℕ) (x-is : x ≡ section_at ib) where
     -- a single section with three entries or more
-    pub no-spread : x ≡ e → 2 < n - f → Nowhere ≡ places_of w n ib
+    pub no-spread : x ≡ e → 2 < n - f → None ≡ places_of w n ib
     no-spread h k = no_place w n ib (λ l. omega (arith, l.single (sym x-is ∙ h ∙ e-is), c-is))
 
-    pub some-place : 24 + w * f ≡ u → f < n → u + 2 ≤ e → e ≤ length ib - 7 → (x ≡ e → n - f ≤ 2) → At f (e - 2) ≡ places_of w n ib
+    pub some-place : 24 + w * f ≡ u → f < n → u + 2 ≤ e → e ≤ length ib - 7 → (x ≡ e → n - f ≤ 2) → Some (record { free = f; edge = e - 2 }) ≡ places_of w n ib
     unfolding places_of
     some-place b c d g k =
         let l : LiesWell w n ib = record {
@@ -159,20 +160,21 @@ module _ (w n : ℕ) (ib : List ℕ) (u e : ℕ) (u-is : u ≡ unused_at ib) (e-
         sym (rw (lies_joined w n ib l, c-is, e-is))
 
 -- and what a good answer says
-pub place-good : (w n : ℕ) (ib : List ℕ) (c e : ℕ) → places_of w n ib ≡ At c e → LiesWell w n ib × (c ≡ free_count w ib) × (e ≡ last_at ib - 2)
+pub place-good : (w n : ℕ) (ib : List ℕ) (x : Places) → places_of w n ib ≡ Some x → LiesWell w n ib × (x.free ≡ free_count w ib) × (x.edge ≡ last_at ib - 2)
 unfolding places_of
-place-good w n ib c e = go (lies_well w n ib) refl
+place-good w n ib x = go (lies_well w n ib) refl
   where
-    go : (t : Bool) → lies_well w n ib ≡ t → pick t (At (free_count w ib) (last_at ib - 2)) Nowhere ≡ At c e → LiesWell w n ib × (c ≡ free_count w ib) × (e ≡ last_at ib - 2)
+    go : (t : Bool) → lies_well w n ib ≡ t → pick t (Some (record { free = free_count w ib; edge = last_at ib - 2 })) None ≡ Some x → LiesWell w n ib × (x.free ≡ free_count w ib) × (x.edge ≡ last_at ib - 2)
     go true p h =
-        let a1 : c ≡ free_count w ib = cc in
-        let a2 : e ≡ last_at ib - 2 = cc in
+        let k : x ≡ record { free = free_count w ib; edge = last_at ib - 2 } = cc in
+        let a1 : x.free ≡ free_count w ib = ap (λ (y : Places). y.free) k in
+        let a2 : x.edge ≡ last_at ib - 2 = ap (λ (y : Places). y.edge) k in
         (lies-apart w n ib p, a1, a2)
     go false p h = absurd (let z : ◌≡◌ {A = ℕ} 0 1 = cc in omega arith)
 
-pub place-bad : (w n : ℕ) (ib : List ℕ) → places_of w n ib ≡ Nowhere → LiesWell w n ib → ⊥
+pub place-bad : (w n : ℕ) (ib : List ℕ) → places_of w n ib ≡ None → LiesWell w n ib → ⊥
 unfolding places_of
 place-bad w n ib h l = go (rw (lies_joined w n ib l) at h)
   where
-    go : At (free_count w ib) (last_at ib - 2) ≡ Nowhere → ⊥
+    go : ◌≡◌ {A = Option Places} (Some (record { free = free_count w ib; edge = last_at ib - 2 })) None → ⊥
     go h = let z : ◌≡◌ {A = ℕ} 0 1 = cc in omega arith

@@ -6,6 +6,7 @@ use mathlib.Core.List.{List, [], ◌∷◌, ◌++◌}
 use lib.ListN.{length, replicate, length-append, length-map}
 use native.Mathlib.Omega.{arith}
 use borrow.Author.Tests.{eq-eqb, le-leb}
+use Rattle.std.specs.Prelude.{Some, None}
 use Rattle.fields.specs.Choice.{both}
 use Rattle.fields.specs.Bytes.{part, number}
 use Rattle.fields.proofs.Choices.{false-true, both-split, both-join, off}
@@ -28,8 +29,7 @@ use Rattle.index_read.specs.AidSeek.{FoundBy}
 use Rattle.index_read.specs.AidJudged.{JudgedAs}
 use Rattle.index_read.specs.declared.Limits.{Limits}
 use Rattle.index_read.specs.declared.Lead.{Lead}
-use Rattle.index_read.specs.declared.Verdict.TheVariants.{Sound as SoundWith}
-use Rattle.index_read.specs.declared.Places.TheVariants.{At, Nowhere}
+use Rattle.index_read.specs.declared.Places.{Places}
 use Rattle.index_read.proofs.Header.{LiesWell, place-good, place-bad}
 use Rattle.index_read.proofs.Ending.{closed-long, last-field, spread-apart, spread-joined}
 use Rattle.index_read.proofs.Chain.{Links, chain-apart, chain-joined, numbers-spelt}
@@ -226,18 +226,24 @@ module _ (w K n : ℕ) (ib : List ℕ) (is : w ≡ width_for n) where
   unfolding read_index
   no-base h = unsound (λ p. false-true (h ∙ (rules-apart (length ib) K n [] [] (read_index w n ib) (sound-apart w K n [] [] ib p).rules).base))
 
-  pub no-places : places_of w n ib ≡ Nowhere → Refused
+  pub no-places : places_of w n ib ≡ None → Refused
   no-places h = unsound (λ p. place-bad w n ib h (sound-lies w K n ib p))
 
-  module _ (f : true ≡ frame w ib) (b : true ≡ base_fine (length ib) n (part ib 4 12)) (big : n ≤ limit) (c e : ℕ) (at : places_of w n ib ≡ At c e) where
+  module _ (f : true ≡ frame w ib) (b : true ≡ base_fine (length ib) n (part ib 4 12)) (big : n ≤ limit) (x : Places) (at : places_of w n ib ≡ Some x) where
+    abbrev c : ℕ
+    c = x.free
+
+    abbrev e : ℕ
+    e = x.edge
+
     l : LiesWell w n ib
-    l = (place-good w n ib c e at).0
+    l = (place-good w n ib x at).0
 
     c-is : c ≡ free_count w ib
-    c-is = (place-good w n ib c e at).1
+    c-is = (place-good w n ib x at).1
 
     e-is : e ≡ last_at ib - 2
-    e-is = (place-good w n ib c e at).2
+    e-is = (place-good w n ib x at).2
 
     -- for the calls
     pub free-few : c ≤ n
@@ -283,11 +289,11 @@ module _ (w K n : ℕ) (ib : List ℕ) (is : w ≡ width_for n) where
       no_walk h = unsound (λ p. false-true (h ∙ ap (λ (m : List ℕ). walked_fine by ib m) em ∙ sym by-walk ∙ p))
 
       pub all-fine : true ≡ walked_fine by ib m₀ → (wanted before own : List ℕ) (spot : Lead) → (0 < length wanted → FoundBy w (n - c) ib wanted spot before own)
-          → (x y : ℕ) → x ≡ n - (n - c) → y ≡ n - c → JudgedAs K n ib wanted before own (SoundWith x y spot)
-      all-fine ok wanted before own spot found x y x-is y-is =
+          → JudgedAs K n ib wanted before own (Some (record { free = c; entries = n - c; spot = spot }))
+      all-fine ok wanted before own spot found =
           rw (← is) (
             by-walk ∙ ap (λ (m : List ℕ). walked_fine by ib m) (sym em) ∙ sym ok,
-            x-is ∙ free-long,
-            y-is ∙ entries-long,
+            omega (arith, free-few, free-long),
+            entries-long,
             λ (x : 0 < length wanted). rw (← entries-long) (found x),
           )

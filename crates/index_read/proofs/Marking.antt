@@ -22,6 +22,7 @@ use Rattle.index.proofs.Counting.{count_same, count-other}
 use Rattle.index.proofs.Naming.{all_named}
 use Rattle.index_read.specs.AidWalk.{marking, seen_after, fine_from, walked_fine}
 use Rattle.index_read.specs.declared.Limits.{Limits}
+use Rattle.index_read.specs.declared.Marks.{Marks}
 
 record Sane (m : List ℕ) : Type 0 where
   whole : length m ≡ limit
@@ -173,14 +174,21 @@ seen_end w seen ib at left h = sym (rw h)
 
 -- ---- the free numbers, and the entries past them
 
-module _ (by : Limits) (ib seen : List ℕ) where
+-- the two counts make up all numbers
+module _ (by : Limits) (ib : List ℕ) (m : Marks) (few : by.count ≤ by.n) (free-is : m.free ≡ by.n - by.count) (used-is : m.used ≡ by.count) where
+  all : m.free + m.used ≡ by.n
+  all = omega (arith, few, free-is, used-is)
+
   abbrev free : List ℕ
-  free = numbers_at by.width ib 24 (by.n - by.count)
+  free = numbers_at by.width ib 24 m.free
 
-  pub walked-wrong : false ≡ marking by.n seen free → false ≡ walked_fine by ib seen
+  pub walked-wrong : false ≡ marking (m.free + m.used) m.seen free → false ≡ walked_fine by ib m.seen
   unfolding walked_fine
-  walked-wrong h = rw (← h)
+  walked-wrong h = rw (← free-is, ← all, ← h)
 
-  pub walked_on : true ≡ marking by.n seen free → (seen' : List ℕ) → seen' ≡ seen_after seen free → (ok : Bool) → ok ≡ fine_from by ib seen' by.count → ok ≡ walked_fine by ib seen
+  pub walked_on : true ≡ marking (m.free + m.used) m.seen free → (seen' : List ℕ) → seen' ≡ seen_after m.seen free → (ok : Bool) → ok ≡ fine_from by ib seen' by.count
+      → ok ≡ walked_fine by ib m.seen
   unfolding walked_fine
-  walked_on h seen' is ok fine = rw (← h, ← is) fine
+  walked_on h seen' is ok fine =
+      let new : true ≡ marking by.n m.seen free = rw (← all) h in
+      rw (← free-is, ← new, ← is) fine

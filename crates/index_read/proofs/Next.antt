@@ -9,6 +9,7 @@ use lib.Seq.{length-take-le}
 use lib.Dec.{eqb, leb}
 use native.Mathlib.Omega.{arith}
 use borrow.Author.Tests.{le-leb, eq-eqb, ne_eqb, eqb-true, eqb-false}
+use Rattle.std.specs.Prelude.{Option, Some, None}
 use Rattle.fields.specs.Choice.{pick, both, no}
 use Rattle.fields.specs.Bytes.{part}
 use Rattle.fields.proofs.Choices.{false-true, both-split, both_false, no_true}
@@ -22,13 +23,11 @@ use Rattle.index_step.proofs.Reaching.{reach-most, extended-chars, extended-leng
 use Rattle.index_read.specs.AidParsing.{closes_at, parses, parsed_of}
 use Rattle.index_read.specs.AidWalk.{bound_rises, Ascends, TopAscends, Before, next_in, entry_of, Taken}
 use Rattle.index_read.specs.declared.Limits.{Limits}
-use Rattle.index_read.specs.declared.Parsed.{Parsed}
-use Rattle.index_read.specs.declared.Parsed.TheVariants.{Of, Bad}
 use Rattle.index_read.proofs.Entry.{Good, good, bad-of, no_front, no-fit, parsed-is, parsed-on, reaches}
 use Rattle.index_read.proofs.Marking.{le-or-lt}
 
 -- no test makes a bad answer good
-pick-bad : (t : Bool) → pick t Bad Bad ≡ Bad
+pick-bad : (t : Bool) → pick {A = Option Step} t None None ≡ None
 pick-bad true = refl
 pick-bad false = refl
 
@@ -37,7 +36,7 @@ abbrev pub sep_in : List ℕ → Step → List ℕ → List ℕ → List ℕ
 sep_in ib s buf high = joined_of s.front (pick s.closes high buf) ib s.at s.len
 
 -- whether the entry is the highest of its section, as the place tells
-pub closes-is : (ib : List ℕ) (p : PassPlace) (by : Limits) (s : Step) → parsed_of ib p by ≡ Of s → (t : Bool) → closes_at by.width p ≡ t → s.closes ≡ t
+pub closes-is : (ib : List ℕ) (p : PassPlace) (by : Limits) (s : Step) → parsed_of ib p by ≡ Some s → (t : Bool) → closes_at by.width p ≡ t → s.closes ≡ t
 closes-is ib p by s parsed t which = ap (λ (x : Step). x.closes) (good ib p by s parsed).is ∙ which
 
 -- What is known once its bound was judged: whether it rises, and what the buffers hold.
@@ -48,11 +47,11 @@ pub record Turned (ib : List ℕ) (p : PassPlace) (by : Limits) (first : Bool) (
   pub long' : length high' ≡ length high
 
 module _ (ib : List ℕ) (p : PassPlace) (by : Limits) (first : Bool) (buf high : List ℕ) where
-  pub entry-unparsed : parsed_of ib p by ≡ Bad → Bad ≡ entry_of ib p by first buf high
+  pub entry-unparsed : parsed_of ib p by ≡ None → None ≡ entry_of ib p by first buf high
   unfolding entry_of
   entry-unparsed h = sym (rw h (pick-bad (both (bound_rises first by.key (take p.len buf) (next_in ib p by buf high)) (separator by.key (next_in ib p by buf high)))))
 
-  module _ (s : Step) (parsed : parsed_of ib p by ≡ Of s) (b : Before ib p by buf) (tall : by.key + 8 ≤ length high) where
+  module _ (s : Step) (parsed : parsed_of ib p by ≡ Some s) (b : Before ib p by buf) (tall : by.key + 8 ≤ length high) where
     g : Good ib p by s
     g = good ib p by s parsed
 
@@ -119,25 +118,25 @@ module _ (ib : List ℕ) (p : PassPlace) (by : Limits) (first : Bool) (buf high 
             enough false = omega (arith, g.fits, b.whole)
 
     -- it doesn't rise
-    entry-low : bound_rises first by.key (take p.len buf) sep ≡ false → Bad ≡ entry_of ib p by first buf high
+    entry-low : bound_rises first by.key (take p.len buf) sep ≡ false → None ≡ entry_of ib p by first buf high
     unfolding entry_of
     entry-low z = sym (rw (next-is, z))
 
-    pub low-top : s.closes ≡ true → TopAscends first p.len buf high ib s false → Bad ≡ entry_of ib p by first buf high
+    pub low-top : s.closes ≡ true → TopAscends first p.len buf high ib s false → None ≡ entry_of ib p by first buf high
     low-top c r = entry-low (rw c (sym (r by.key b.short g.fits)))
 
-    pub low-inner : s.closes ≡ false → Ascends first s.front p.len buf ib s.at s.len false → Bad ≡ entry_of ib p by first buf high
+    pub low-inner : s.closes ≡ false → Ascends first s.front p.len buf ib s.at s.len false → None ≡ entry_of ib p by first buf high
     low-inner c r = entry-low (rw c (sym (r by.key b.short g.fits)))
 
     -- its last byte is X'FF'
-    sep-high : get_or sep (s.front + s.len - 1) 0 ≡ 255 → Bad ≡ entry_of ib p by first buf high
+    sep-high : get_or sep (s.front + s.len - 1) 0 ≡ 255 → None ≡ entry_of ib p by first buf high
     unfolding entry_of separator
     sep-high h =
         let z : get_or sep (length sep - 1) 0 ≡ 255 = ap (λ (n : ℕ). get_or sep (n - 1) 0) sep-length ∙ h in
         sym (rw (next-is, eq-eqb (get_or sep (length sep - 1) 0) 255 z, both_false (leb (length sep) by.key), both_false (bound_rises first by.key (take p.len buf) sep)))
 
     -- it keeps the rules
-    sep-fine : bound_rises first by.key (take p.len buf) sep ≡ true → (get_or sep (s.front + s.len - 1) 0 ≡ 255 → ⊥) → Of s ≡ entry_of ib p by first buf high
+    sep-fine : bound_rises first by.key (take p.len buf) sep ≡ true → (get_or sep (s.front + s.len - 1) 0 ≡ 255 → ⊥) → Some s ≡ entry_of ib p by first buf high
     unfolding entry_of separator
     sep-fine y n =
         let z : get_or sep (length sep - 1) 0 ≡ 255 → ⊥ = λ e. n (ap (λ (i : ℕ). get_or sep (i - 1) 0) (sym sep-length) ∙ e) in
@@ -173,37 +172,37 @@ module _ (ib : List ℕ) (p : PassPlace) (by : Limits) (first : Bool) (buf high 
       last-same : get_or (take (s.front + s.len) buf') (s.front + s.len - 1) 0 ≡ get_or sep (s.front + s.len - 1) 0
       last-same = ap (λ (x : List ℕ). get_or x (s.front + s.len - 1) 0) begins
 
-      pub entry-high : get_or (take (s.front + s.len) buf') (s.front + s.len - 1) 0 ≡ 255 → Bad ≡ entry_of ib p by first buf high
+      pub entry-high : get_or (take (s.front + s.len) buf') (s.front + s.len - 1) 0 ≡ 255 → None ≡ entry_of ib p by first buf high
       entry-high h = sep-high (sym last-same ∙ h)
 
-      pub entry-on : rises ≡ true → (get_or (take (s.front + s.len) buf') (s.front + s.len - 1) 0 ≡ 255 → ⊥) → Of s ≡ entry_of ib p by first buf high
+      pub entry-on : rises ≡ true → (get_or (take (s.front + s.len) buf') (s.front + s.len - 1) 0 ≡ 255 → ⊥) → Some s ≡ entry_of ib p by first buf high
       entry-on h n = sep-fine (sym told.rising ∙ h) (λ e. n (last-same ∙ e))
 
   -- what a good answer says, and a bad one
-  pub entry-good : (s : Step) → entry_of ib p by first buf high ≡ Of s
-      → (parsed_of ib p by ≡ Of s) × (bound_rises first by.key (take p.len buf) (next_in ib p by buf high) ≡ true) × (separator by.key (next_in ib p by buf high) ≡ true)
+  pub entry-good : (s : Step) → entry_of ib p by first buf high ≡ Some s
+      → (parsed_of ib p by ≡ Some s) × (bound_rises first by.key (take p.len buf) (next_in ib p by buf high) ≡ true) × (separator by.key (next_in ib p by buf high) ≡ true)
   unfolding entry_of
   entry-good s = go (both (bound_rises first by.key (take p.len buf) (next_in ib p by buf high)) (separator by.key (next_in ib p by buf high))) refl
     where
       go : (t : Bool) → both (bound_rises first by.key (take p.len buf) (next_in ib p by buf high)) (separator by.key (next_in ib p by buf high)) ≡ t
-          → pick t (parsed_of ib p by) Bad ≡ Of s
-          → (parsed_of ib p by ≡ Of s) × (bound_rises first by.key (take p.len buf) (next_in ib p by buf high) ≡ true) × (separator by.key (next_in ib p by buf high) ≡ true)
+          → pick t (parsed_of ib p by) None ≡ Some s
+          → (parsed_of ib p by ≡ Some s) × (bound_rises first by.key (take p.len buf) (next_in ib p by buf high) ≡ true) × (separator by.key (next_in ib p by buf high) ≡ true)
       go true q h =
           let a = both-split (bound_rises first by.key (take p.len buf) (next_in ib p by buf high)) (separator by.key (next_in ib p by buf high)) q in
           (h, a.0, a.1)
       go false q h = absurd (bad-of h)
 
-  pub entry-bad : entry_of ib p by first buf high ≡ Bad → parses ib p by ≡ true
+  pub entry-bad : entry_of ib p by first buf high ≡ None → parses ib p by ≡ true
       → both (bound_rises first by.key (take p.len buf) (next_in ib p by buf high)) (separator by.key (next_in ib p by buf high)) ≡ false
   unfolding entry_of
   entry-bad h q = go (both (bound_rises first by.key (take p.len buf) (next_in ib p by buf high)) (separator by.key (next_in ib p by buf high))) (rw (parsed-is ib p by q) at h)
     where
-      go : (t : Bool) → pick t (Of (step_at by.width ib p.right p.end)) Bad ≡ Bad → t ≡ false
+      go : (t : Bool) → pick t (Some (step_at by.width ib p.right p.end)) None ≡ None → t ≡ false
       go true h = absurd (bad-of (sym h))
       go false h = refl
 
 -- what the buffers hold after a good one
-pub taken_of : (ib buf high buf' high' : List ℕ) (x : Parsed) (s : Step) → x ≡ Of s → Taken ib buf high buf' high' x → Renewed ib s buf high buf' high'
+pub taken_of : (ib buf high buf' high' : List ℕ) (x : Option Step) (s : Step) → x ≡ Some s → Taken ib buf high buf' high' x → Renewed ib s buf high buf' high'
 taken_of ib buf high buf' high' x s e t = rw e at t
 
 -- the last byte, as the test for it tells
@@ -227,18 +226,18 @@ module _ (ib : List ℕ) (p : PassPlace) (by : Limits) (first : Bool) (buf : Lis
       let z : s.at + (by.width + 2 + s.len) ≡ p.right = rw is (omega (arith, lies)) in
       omega (arith, z, b.inside, reach-most s.len)
 
-  abbrev Answers : Parsed → Type 0
+  abbrev Answers : Option Step → Type 0
   Answers x = (high : List ℕ) → by.key + 8 ≤ length high → x ≡ entry_of ib p by first buf high
 
-  pub inner-long : by.key < s.front + s.len → Answers Bad
+  pub inner-long : by.key < s.front + s.len → Answers None
   inner-long h = λ (high : List ℕ) tall. entry-unparsed ib p by first buf high (sym (no-fit ib p by false which s is h))
 
   module _ (fits : s.front + s.len ≤ by.key) (rises : Bool) (over : p.len < s.front → rises ≡ false)
       (ascends : s.front ≤ p.len → Ascends first s.front p.len buf ib s.at s.len rises) where
-    inner-parsed : s.front ≤ p.len → parsed_of ib p by ≡ Of s
+    inner-parsed : s.front ≤ p.len → parsed_of ib p by ≡ Some s
     inner-parsed f = sym (parsed-on ib p by false which s is (length_at by.width ib p.right) 0 p.len refl refl (omega (arith, lies)) refl f fits)
 
-    pub inner-low : rises ≡ false → Answers Bad
+    pub inner-low : rises ≡ false → Answers None
     inner-low z = λ (high : List ℕ) tall.
         ⊎_elim
         (λ (f : s.front ≤ p.len). low-inner ib p by first buf high s (inner-parsed f) b tall unclosed (λ K k1 k2. sym z ∙ ascends f K k1 k2))
@@ -252,10 +251,10 @@ module _ (ib : List ℕ) (p : PassPlace) (by : Limits) (first : Bool) (buf : Lis
       inner_up : (high : List ℕ) → bound_rises first by.key (take p.len buf) (sep_in ib s buf high) ≡ true
       inner_up high = rw unclosed (sym (ascends inner-front by.key b.short fits) ∙ up)
 
-      pub inner-high : low ≡ false → Answers Bad
+      pub inner-high : low ≡ false → Answers None
       inner-high z = λ (high : List ℕ) tall. sep-high ib p by first buf high s (inner-parsed inner-front) b tall (rw unclosed (last-high _ (sym low-is ∙ z)))
 
-      pub inner-on : low ≡ true → Answers (Of s)
+      pub inner-on : low ≡ true → Answers (Some s)
       inner-on z = λ (high : List ℕ) tall.
           sep-fine ib p by first buf high s (inner-parsed inner-front) b tall (inner_up high) (rw unclosed (eqb-false _ 255 (no_true _ (sym low-is ∙ z))))
 

@@ -10,10 +10,11 @@ use lib.Dec.{ltb}
 use native.Mathlib.Nat.{eq-or-lt_of_le}
 use native.Mathlib.Omega.{arith}
 use borrow.Author.Tests.{ltb-true, ltb-false, lt-ltb, le-ltb, eq-eqb, ne_eqb}
+use Rattle.std.specs.Prelude.{Some, None}
 use Rattle.fields.specs.Choice.{pick, both}
 use Rattle.fields.specs.Bytes.{part}
 use Rattle.fields.specs.Order.{order_of, less, common}
-use Rattle.fields.specs.declared.Order.TheVariants.{Less, Same, Greater}
+use Rattle.std.specs.declared.cmp.Ordering.TheVariants.{Less, Equal, Greater}
 use Rattle.fields.proofs.Choices.{false-true, both-split, both_true, both_false}
 use Rattle.fields.proofs.Orders.{order-prefix, less-inv, less-lt, less-eq}
 use Rattle.fields.proofs.Fronts.{common-take, common-prefix, common-differs, order-ends, order-lower, order-higher}
@@ -27,7 +28,6 @@ use Rattle.index_step.specs.AidEntries.{Here, here_first, part_here, sep_here, e
 use Rattle.index_read.specs.AidParsing.{closes_at, parsed_of}
 use Rattle.index_read.specs.AidSeek.{reach_of, look_of, aim_of, Search, FoundBy}
 use Rattle.index_read.specs.declared.Limits.{Limits}
-use Rattle.index_read.specs.declared.Parsed.TheVariants.{Of, Bad}
 use Rattle.index_read.specs.declared.Lead.{Lead}
 use Rattle.index_read.proofs.Entry.{Good, good}
 
@@ -86,7 +86,7 @@ module _ (key : List ℕ) (front : ℕ) (chars : List ℕ) (fits : front + lengt
 
   pub reach-ends : length chars ≤ i → 0 ≡ reach_of key front chars
   unfolding reach_of
-  reach-ends h = let o : order_of chars there ≡ Same = order-ends chars there i is h (omega (arith, there-long)) in rw o
+  reach-ends h = let o : order_of chars there ≡ Equal = order-ends chars there i is h (omega (arith, there-long)) in rw o
 
   pub reach-above : i < length chars → get_or key (front + i) 0 < get_or chars i 0 → 0 ≡ reach_of key front chars
   unfolding reach_of
@@ -106,17 +106,17 @@ module _ (key : List ℕ) (front : ℕ) (chars : List ℕ) (fits : front + lengt
 -- ---- past the next entry
 
 module _ (ib : List ℕ) (p : PassPlace) (by : Limits) (key : List ℕ) (reach : ℕ) where
-  pub look-bad : parsed_of ib p by ≡ Bad → reach ≡ look_of ib p by key reach
+  pub look-bad : parsed_of ib p by ≡ None → reach ≡ look_of ib p by key reach
   look-bad e = rw e
 
-  pub look-of : (s : Step) → parsed_of ib p by ≡ Of s → (r : ℕ) → r ≡ reach_of key s.front (take (s.at + s.len - s.at) (drop s.at ib)) → r ≡ look_of ib p by key reach
+  pub look-of : (s : Step) → parsed_of ib p by ≡ Some s → (r : ℕ) → r ≡ reach_of key s.front (take (s.at + s.len - s.at) (drop s.at ib)) → r ≡ look_of ib p by key reach
   look-of s e r is = is ∙ rw (part-is ib s.at s.len, e)
 
   -- its characters lie in the record, and the key has as many bytes as its separator
-  pub look-inside : (s : Step) → parsed_of ib p by ≡ Of s → p.right ≤ length ib → s.at + s.len ≤ length ib
+  pub look-inside : (s : Step) → parsed_of ib p by ≡ Some s → p.right ≤ length ib → s.at + s.len ≤ length ib
   look-inside s e inside = let g : Good ib p by s = good ib p by s e in omega (arith, g.at-is, inside)
 
-  pub look-fits : (s : Step) → parsed_of ib p by ≡ Of s → length key ≡ by.key → s.front + length (take (s.at + s.len - s.at) (drop s.at ib)) ≤ length key
+  pub look-fits : (s : Step) → parsed_of ib p by ≡ Some s → length key ≡ by.key → s.front + length (take (s.at + s.len - s.at) (drop s.at ib)) ≤ length key
   look-fits s e long =
       let g : Good ib p by s = good ib p by s e in
       omega (arith, g.fits, long, length-take (s.at + s.len - s.at) (drop s.at ib))

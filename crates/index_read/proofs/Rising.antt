@@ -12,8 +12,8 @@ use borrow.Author.Tests.{lt-ltb, le-ltb, eqb-false}
 use Rattle.fields.specs.Choice.{pick, no}
 use Rattle.fields.specs.Bytes.{Octets, part}
 use Rattle.fields.specs.Order.{order_of, is_less, less}
-use Rattle.fields.specs.declared.Order.{Order}
-use Rattle.fields.specs.declared.Order.TheVariants.{Less, Same, Greater}
+use Rattle.std.specs.declared.cmp.Ordering.{Ordering}
+use Rattle.std.specs.declared.cmp.Ordering.TheVariants.{Less, Equal, Greater}
 use Rattle.fields.proofs.Choices.{both-split, no_true, off}
 use Rattle.fields.proofs.Splices.{length-mid, drop-take}
 use Rattle.fields.proofs.Orders.{and_then, order-prefix, order-front, less-order, less-lt}
@@ -154,9 +154,9 @@ module _ (buf ib : List ℕ) (f len at l : ℕ) (front : f ≤ len) (whole : len
   abbrev Least : ℕ → Type 0
   Least m = ((l < len - f) × (m ≡ l)) ⊎ ((len - f ≤ l) × (m ≡ len - f))
 
-  module _ (first : Bool) (no-first : first ≡ false) (m : ℕ) (least : Least m) (x : Order)
+  module _ (first : Bool) (no-first : first ≡ false) (m : ℕ) (least : Least m) (x : Ordering)
       (is : x ≡ order_of (take (f + m - f) (drop f buf)) (take (at + m - at) (drop at ib))) where
-    told : bound_rises first K (take len buf) (take f buf ++ c) ≡ is_less (and_then x (pick (ltb l (len - f)) Less Same))
+    told : bound_rises first K (take len buf) (take f buf ++ c) ≡ is_less (and_then x (pick (ltb l (len - f)) Less Equal))
     told = ⊎_elim (λ (p : (l < len - f) × (m ≡ l)). on p.0 p.1) (λ (p : (len - f ≤ l) × (m ≡ len - f)). off p.0 p.1) least
       where
         x-is : x ≡ order_of (part buf f m) (part ib at m)
@@ -165,11 +165,11 @@ module _ (buf ib : List ℕ) (f len at l : ℕ) (front : f ≤ len) (whole : len
             let e2 : at + m - at ≡ m = omega arith in
             rw (e1, e2) at is
 
-        on : l < len - f → m ≡ l → bound_rises first K (take len buf) (take f buf ++ c) ≡ is_less (and_then x (pick (ltb l (len - f)) Less Same))
+        on : l < len - f → m ≡ l → bound_rises first K (take len buf) (take f buf ++ c) ≡ is_less (and_then x (pick (ltb l (len - f)) Less Equal))
         on h e = rw (no-first, lt-ltb l (len - f) h, x-is, e) (goes_on h)
 
-        off : len - f ≤ l → m ≡ len - f → bound_rises first K (take len buf) (take f buf ++ c) ≡ is_less (and_then x (pick (ltb l (len - f)) Less Same))
-        off h e = rw (no-first, le-ltb l (len - f) h) (ends h ∙ rw (x-is, e) (sym (less_then (order_of a (part ib at (len - f))) Same refl)))
+        off : len - f ≤ l → m ≡ len - f → bound_rises first K (take len buf) (take f buf ++ c) ≡ is_less (and_then x (pick (ltb l (len - f)) Less Equal))
+        off h e = rw (no-first, le-ltb l (len - f) h) (ends h ∙ rw (x-is, e) (sym (less_then (order_of a (part ib at (len - f))) Equal refl)))
 
     pub above-less : x ≡ Less → true ≡ bound_rises first K (take len buf) (take f buf ++ c)
     above-less e = sym (told ∙ rw e)
@@ -177,10 +177,10 @@ module _ (buf ib : List ℕ) (f len at l : ℕ) (front : f ≤ len) (whole : len
     pub above-greater : x ≡ Greater → false ≡ bound_rises first K (take len buf) (take f buf ++ c)
     above-greater e = sym (told ∙ rw e)
 
-    pub above_same : x ≡ Same → ltb l (len - f) ≡ bound_rises first K (take len buf) (take f buf ++ c)
+    pub above_same : x ≡ Equal → ltb l (len - f) ≡ bound_rises first K (take len buf) (take f buf ++ c)
     above_same e = sym (told ∙ rw e (go (ltb l (len - f))))
       where
-        go : (u : Bool) → is_less (pick u Less Same) ≡ u
+        go : (u : Bool) → is_less (pick u Less Equal) ≡ u
         go true = refl
         go false = refl
 
@@ -193,7 +193,7 @@ module _ (buf ib : List ℕ) (f len at l : ℕ) (front : f ≤ len) (whole : len
       let z : len - f ≡ 0 = omega arith in
       let e1 : f + 0 - f ≡ 0 = omega arith in
       let e2 : at + 0 - at ≡ 0 = omega arith in
-      sym (le-ltb l (len - f) (omega arith)) ∙ above_same false refl 0 (inr (omega arith, sym z)) Same (rw (e1, e2) (unfold order_of in refl)) refl
+      sym (le-ltb l (len - f) (omega arith)) ∙ above_same false refl 0 (inr (omega arith, sym z)) Equal (rw (e1, e2) (unfold order_of in refl)) refl
 
   module _ (first : Bool) (alone : first ≡ true → len ≡ 0) where
     -- something is, and no character takes its place
@@ -201,7 +201,7 @@ module _ (buf ib : List ℕ) (f len at l : ℕ) (front : f ≤ len) (whole : len
     none-new h z =
         let e1 : f + 0 - f ≡ 0 = omega arith in
         let e2 : at + 0 - at ≡ 0 = omega arith in
-        sym (lt-ltb l (len - f) (omega arith)) ∙ above_same first (not_first first f len alone h) 0 (inl (omega arith, sym z)) Same (rw (e1, e2) (unfold order_of in refl)) refl
+        sym (lt-ltb l (len - f) (omega arith)) ∙ above_same first (not_first first f len alone h) 0 (inl (omega arith, sym z)) Equal (rw (e1, e2) (unfold order_of in refl)) refl
 
     -- the first character is above the byte in whose place it stands
     pub first_above : f < len → 0 < l → get_or buf f 0 < get_or ib at 0 → true ≡ bound_rises first K (take len buf) (take f buf ++ c)

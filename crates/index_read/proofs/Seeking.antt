@@ -5,6 +5,7 @@ use mathlib.Core.Bool.{true, false}
 use mathlib.Core.List.{List, [], ◌∷◌}
 use lib.ListN.{length, get_or, take}
 use native.Mathlib.Omega.{arith}
+use Rattle.std.specs.Prelude.{Some, None}
 use Rattle.fields.specs.Bytes.{splice}
 use Rattle.measures.specs.Judgement.{width_for}
 use Rattle.index.specs.Bounds.{bound}
@@ -22,21 +23,14 @@ use Rattle.index_read.specs.AidSeek.{FoundBy}
 use Rattle.index_read.specs.AidJudged.{JudgedAs}
 use Rattle.index_read.specs.declared.Lead.{Lead}
 use Rattle.index_read.specs.declared.Verdict.{Verdict}
-use Rattle.index_read.specs.declared.Verdict.TheVariants as verdict
-use Rattle.index_read.specs.declared.Index.TheVariants.{Sound, Unsound}
-use Rattle.index_read.specs.declared.Sought.TheVariants as sought
-
--- what was told of an answer that is known
-pub told : (K n : ℕ) (ib wanted before own : List ℕ) (r v : Verdict) → r ≡ v → JudgedAs K n ib wanted before own r → JudgedAs K n ib wanted before own v
-told K n ib wanted before own r v e j = rw e at j
 
 -- ---- the check
 
-pub checks-sound : (K n : ℕ) (ib wanted before own : List ℕ) (f e : ℕ) (spot : Lead) → JudgedAs K n ib wanted before own (verdict.Sound f e spot) → Sound f e ≡ index_of K n ib
+pub checks-sound : (K n : ℕ) (ib wanted before own : List ℕ) (v : Verdict) → JudgedAs K n ib wanted before own (Some v) → Some (record { free = v.free; entries = v.entries }) ≡ index_of K n ib
 unfolding index_by
-checks-sound K n ib wanted before own f e spot j = sym (rw (j.0, ← j.1, ← j.2))
+checks-sound K n ib wanted before own v j = sym (rw (j.0, ← j.1, ← j.2))
 
-pub checks-unsound : (K n : ℕ) (ib : List ℕ) → sound_index (width_for n) K n [] [] ib ≡ false → Unsound ≡ index_of K n ib
+pub checks-unsound : (K n : ℕ) (ib : List ℕ) → sound_index (width_for n) K n [] [] ib ≡ false → None ≡ index_of K n ib
 unfolding index_by
 checks-unsound K n ib h = sym (rw h)
 
@@ -70,7 +64,10 @@ same_spot s t o m b w =
     ∙ ap (λ (x : ℕ). record { ordinal = t.ordinal; number = t.number; before = x; own = s.own }) b
     ∙ ap (λ (x : ℕ). record { ordinal = t.ordinal; number = t.number; before = t.before; own = x }) w
 
-module _ (n : ℕ) (ib key low high : List ℕ) (f e : ℕ) (spot : Lead) (j : JudgedAs (length key) n ib key low high (verdict.Sound f e spot)) (some : 1 ≤ length key) where
+module _ (n : ℕ) (ib key low high : List ℕ) (v : Verdict) (j : JudgedAs (length key) n ib key low high (Some v)) (some : 1 ≤ length key) where
+  abbrev spot : Lead
+  spot = v.spot
+
   abbrev w : ℕ
   w = width_for n
 
@@ -108,15 +105,15 @@ module _ (n : ℕ) (ib key low high : List ℕ) (f e : ℕ) (spot : Lead) (j : J
       )
 
   pub seeks-found : (before own before' own' : List ℕ) → before' ≡ splice before 0 (take spot.before low) → own' ≡ splice own 0 (take spot.own high)
-      → Seeks n ib key before own (sought.At spot) before' own'
+      → Seeks n ib key before own (Some spot) before' own'
   unfolding sought_of
   seeks-found before own before' own' b o =
       record {
-        answers = sym (rw j.0 (ap sought.At (sym spot_is)));
+        answers = sym (rw j.0 (ap (λ (x : Lead). Some x) (sym spot_is)));
         low = rw j.0 (b ∙ ap (λ (x : List ℕ). splice before 0 x) low-is);
         high = rw j.0 (o ∙ ap (λ (x : List ℕ). splice own 0 x) high_is);
       }
 
-pub seeks-unsound : (n : ℕ) (ib key before own : List ℕ) → sound_with n ib key ≡ false → Seeks n ib key before own sought.Unsound before own
+pub seeks-unsound : (n : ℕ) (ib key before own : List ℕ) → sound_with n ib key ≡ false → Seeks n ib key before own None before own
 unfolding sought_of
 seeks-unsound n ib key before own h = record { answers = sym (rw h); low = sym (rw h); high = sym (rw h) }

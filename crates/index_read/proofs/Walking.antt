@@ -9,6 +9,7 @@ use lib.Seq.{length-take-le, take-take}
 use lib.Dec.{eqb, leb, ltb}
 use native.Mathlib.Omega.{arith}
 use borrow.Author.Tests.{lt-ltb, eq-eqb, ne_eqb, le-leb, ltb-true, eqb-true, eqb-false, leb-true}
+use Rattle.std.specs.Prelude.{Option, Some, None}
 use Rattle.fields.specs.Choice.{pick, both, no}
 use Rattle.fields.specs.Bytes.{number}
 use Rattle.fields.specs.Order.{order_of, less}
@@ -33,10 +34,7 @@ use Rattle.index_read.specs.AidSeek.{reach_of, reach_past, look_of, aim_of, Sear
 use Rattle.index_read.specs.AidStand.{Walkable, fine_at, low_of, Stand, Paused, Stopped}
 use Rattle.index_read.specs.declared.Leg.{Leg}
 use Rattle.index_read.specs.declared.Limits.{Limits}
-use Rattle.index_read.specs.declared.Parsed.{Parsed}
-use Rattle.index_read.specs.declared.Parsed.TheVariants.{Of, Bad}
 use Rattle.index_read.specs.declared.Stop.{Stop}
-use Rattle.index_read.specs.declared.Stop.TheVariants.{At, Wrong}
 use Rattle.index_read.proofs.Entry.{Good, good, passes, parses-joined}
 use Rattle.index_read.proofs.Next.{closes-is, entry-good, entry-bad, taken_of}
 use Rattle.index_read.proofs.Reaching.{Above, Aims, aims-top, aims-inner, search-start, search-on, search-skip, search-look, not-sought-at-end}
@@ -401,7 +399,7 @@ module _ (ib : List ℕ) (by : Limits) (key old seen buf high : List ℕ) (p : P
     nexts : F' ≤ length former' → next_in ib p by buf high ≡ sep'
     nexts = next-is by ib h' p buf high st.held
 
-    pub bad-entry : entry_of ib p by (eqb left count) buf high ≡ Bad → false ≡ all
+    pub bad-entry : entry_of ib p by (eqb left count) buf high ≡ None → false ≡ all
     bad-entry z = not-all no
       where
         no : Fine → ⊥
@@ -412,7 +410,7 @@ module _ (ib : List ℕ) (by : Limits) (key old seen buf high : List ℕ) (p : P
             false-true (sym (entry-bad ib p by (eqb left count) buf high z (parses-here by ib h' p buf high st.held st.inside x.room x.front x.fine)) ∙ both-join
             (bound_rises (eqb left count) K (take p.len buf) (next_in ib p by buf high)) (separator K (next_in ib p by buf high)) a b)
 
-    module _ (s : Step) (entry : entry_of ib p by (eqb left count) buf high ≡ Of s) where
+    module _ (s : Step) (entry : entry_of ib p by (eqb left count) buf high ≡ Some s) where
       pub fits : Good ib p by s
       fits = good ib p by s (entry-good ib p by (eqb left count) buf high s entry).0
 
@@ -470,7 +468,7 @@ module _ (ib : List ℕ) (by : Limits) (key old seen buf high : List ℕ) (p : P
       closing t e = sym (ap (λ (x : Step). x.closes) steps) ∙ closes-is ib p by s (entry-good ib p by (eqb left count) buf high s entry).0 t e
 
       looks : (z : ℕ) → look_of ib p by key z ≡ reach_of key F' part'.piece.chars
-      looks z = ap (λ (x : Parsed). reach_past ib key z x) (entry-good ib p by (eqb left count) buf high s entry).0 ∙ rw steps
+      looks z = ap (λ (x : Option Step). reach_past ib key z x) (entry-good ib p by (eqb left count) buf high s entry).0 ∙ rw steps
 
       -- the reach past it, if a walk over its section's entries stopped before it; `was` is that past the highest of the section before
       pub aims : (was : ℕ) → Above key h'.high was → (closes_at w' p ≡ false → (front_at w' ib p.right < reach) × (0 ≡ look_of ib p by key reach))
@@ -627,20 +625,20 @@ set_out ib by key seen buf from =
 module _ (ib : List ℕ) (by : Limits) (key seen₀ buf₀ : List ℕ) (from : Leg) (seen buf : List ℕ) (p : PassPlace) (left reach : ℕ)
     (g : Along ib by key seen₀ buf₀ from seen buf p left reach) (some : 0 < left) (wk : Walkable ib by key) where
   -- each way out
-  abbrev Ends : List ℕ → List ℕ → Stop → Type 0
+  abbrev Ends : List ℕ → List ℕ → Option Stop → Type 0
   Ends seen' buf' r = (old high : List ℕ) → Stand ib by key old seen₀ buf₀ high from.p true from.left from.reach → Stopped ib by key old from seen' buf' high r
 
   abbrev more : ℕ
   more = from.left
 
-  pub ends-left : (seen' buf' : List ℕ) (l : ℕ) → l ≡ length_at by.width ib p.right → p.right - (by.width + 2) < by.edge + l → Ends seen' buf' Wrong
+  pub ends-left : (seen' buf' : List ℕ) (l : ℕ) → l ≡ length_at by.width ib p.right → p.right - (by.width + 2) < by.edge + l → Ends seen' buf' None
   ends-left seen' buf' l is z = λ old high st. no_room ib by key old seen buf high p (eqb left more) left reach (g.goes old high st) some wk.least l is z
 
-  pub ends_last : (seen' buf' : List ℕ) → left ≡ 1 → closes_at by.width p ≡ false → Ends seen' buf' Wrong
+  pub ends_last : (seen' buf' : List ℕ) → left ≡ 1 → closes_at by.width p ≡ false → Ends seen' buf' None
   ends_last seen' buf' one which = λ old high st. last-open ib by key old seen buf high p (eqb left more) left reach (g.goes old high st) one which
 
   pauses : (left ≡ 1 → closes_at by.width p ≡ true)
-      → (closes_at by.width p ≡ false → (front_at by.width ib p.right < reach) × (0 ≡ look_of ib p by key reach)) → Ends seen buf (At p left)
+      → (closes_at by.width p ≡ false → (front_at by.width ib p.right < reach) × (0 ≡ look_of ib p by key reach)) → Ends seen buf (Some (record { p = p; left = left }))
   pauses last here = λ old high st.
       record {
         reach = reach;
@@ -653,20 +651,20 @@ module _ (ib : List ℕ) (by : Limits) (key seen₀ buf₀ : List ℕ) (from : L
         here = here;
       }
 
-  pub ends-top : p.right - (by.width + 2) ≡ p.end → Ends seen buf (At p left)
+  pub ends-top : p.right - (by.width + 2) ≡ p.end → Ends seen buf (Some (record { p = p; left = left }))
   ends-top z =
       let c : closes_at by.width p ≡ true = eq-eqb (p.right - (by.width + 2)) p.end z in
       pauses (λ (x : left ≡ 1). c) (λ (x : closes_at by.width p ≡ false). absurd (false-true (sym x ∙ c)))
 
   -- f is the entry's F, l what a look at it gave
-  pub ends_found : (left ≡ 1 → ⊥) → (f l : ℕ) → f ≡ front_at by.width ib p.right → f < reach → l ≡ look_of ib p by key reach → l ≡ 0 → Ends seen buf (At p left)
+  pub ends_found : (left ≡ 1 → ⊥) → (f l : ℕ) → f ≡ front_at by.width ib p.right → f < reach → l ≡ look_of ib p by key reach → l ≡ 0 → Ends seen buf (Some (record { p = p; left = left }))
   ends_found z f l f-is under l-is none =
       pauses (λ (x : left ≡ 1). absurd (z x)) (λ (x : closes_at by.width p ≡ false). (omega (arith, under, f-is), sym none ∙ l-is))
 
-  abbrev Answers : Parsed → Type 0
+  abbrev Answers : Option Step → Type 0
   Answers x = (high : List ℕ) → by.key + 8 ≤ length high → x ≡ entry_of ib p by (eqb left by.count) buf high
 
-  pub ends-bad : (seen' buf' : List ℕ) (x : Parsed) → Answers x → x ≡ Bad → Ends seen' buf' Wrong
+  pub ends-bad : (seen' buf' : List ℕ) (x : Option Step) → Answers x → x ≡ None → Ends seen' buf' None
   ends-bad seen' buf' x is bad = λ old high st.
       let t = g.goes old high st in
       bad-entry ib by key old seen buf high p (eqb left more) left reach t some wk.least
@@ -677,18 +675,18 @@ module _ (ib : List ℕ) (by : Limits) (key seen₀ buf₀ : List ℕ) (from : L
     num-there : (old high : List ℕ) → (t : Stand ib by key old seen buf high p (eqb left more) left reach) → n ≡ (part_here by.width ib t.h).piece.num
     num-there old high t = n-is ∙ ap (λ (k : ℕ). number by.width ib (k - by.width)) t.held.right
 
-    pub ends-big : (seen' buf' : List ℕ) → by.n ≤ n → Ends seen' buf' Wrong
+    pub ends-big : (seen' buf' : List ℕ) → by.n ≤ n → Ends seen' buf' None
     ends-big seen' buf' z = λ old high st.
         let t = g.goes old high st in
         too-big ib by key old seen buf high p (eqb left more) left reach t some wk.least n (num-there old high t) z
 
-    pub ends-again : (seen' buf' : List ℕ) → (get_or seen n 0 ≡ 0 → ⊥) → Ends seen' buf' Wrong
+    pub ends-again : (seen' buf' : List ℕ) → (get_or seen n 0 ≡ 0 → ⊥) → Ends seen' buf' None
     ends-again seen' buf' z = λ old high st.
         let t = g.goes old high st in
         again ib by key old seen buf high p (eqb left more) left reach t some wk.least n (num-there old high t) z
 
-  module _ (x : Parsed) (s : Step) (is : Answers x) (good' : x ≡ Of s) where
-    entry : (old high : List ℕ) → Stand ib by key old seen buf high p (eqb left more) left reach → entry_of ib p by (eqb left by.count) buf high ≡ Of s
+  module _ (x : Option Step) (s : Step) (is : Answers x) (good' : x ≡ Some s) where
+    entry : (old high : List ℕ) → Stand ib by key old seen buf high p (eqb left more) left reach → entry_of ib p by (eqb left by.count) buf high ≡ Some s
     entry old high t = sym (is high (tall ib by key old seen buf high p (eqb left more) left reach t wk.most)) ∙ good'
 
     -- for the call past it
@@ -731,15 +729,6 @@ pub ends_open : (ib : List ℕ) (by : Limits) (key seen₀ buf₀ : List ℕ) (f
     → Stand ib by key old seen₀ buf₀ high from.p true from.left from.reach → false ≡ fine_from by ib old by.count
 ends_open ib by key seen₀ buf₀ from seen buf p left reach g some done old high st =
     not-closed ib by key old seen buf high p (eqb left from.left) left reach (g.goes old high st) done (ne_eqb left from.left (omega arith))
-
--- what it tells
-pub stopped-wrong : (ib : List ℕ) (by : Limits) (key old : List ℕ) (from : Leg) (seen buf high : List ℕ) (r : Stop) → r ≡ Wrong
-    → Stopped ib by key old from seen buf high r → false ≡ fine_from by ib old by.count
-stopped-wrong ib by key old from seen buf high r e t = rw e at t
-
-pub stopped-at : (ib : List ℕ) (by : Limits) (key old : List ℕ) (from : Leg) (seen buf high : List ℕ) (r : Stop) (p : PassPlace) (left : ℕ) → r ≡ At p left
-    → Stopped ib by key old from seen buf high r → Paused ib by key old from seen buf high p left
-stopped-at ib by key old from seen buf high r p left e t = rw e at t
 
 -- for the look at the entry before which it stopped
 pub aimable : (ib : List ℕ) (by : Limits) (key old : List ℕ) (from : Leg) (seen buf high : List ℕ) (p : PassPlace) (left : ℕ) → Paused ib by key old from seen buf high p left → Walkable ib by key

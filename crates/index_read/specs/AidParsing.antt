@@ -1,12 +1,11 @@
 -- Aids: one entry as code takes it apart. Contracts of this crate's functions cite them; w is the width of a pointer.
-use Rattle.std.specs.Prelude.{ℕ, ◌+◌, ◌-◌, Bool, List, eqb, leb}
+use Rattle.std.specs.Prelude.{ℕ, ◌+◌, ◌-◌, Bool, List, Option, Some, None, eqb, leb}
 use Rattle.fields.specs.Choice.{pick, both}
 use Rattle.index.specs.Reading.{length_at}
 use Rattle.index_step.specs.declared.PassPlace.{PassPlace}
+use Rattle.index_step.specs.declared.Step.{Step}
 use Rattle.index_step.specs.AidStep.{front_at, step_at}
 use Rattle.index_read.specs.declared.Limits.{Limits}
-use Rattle.index_read.specs.declared.Parsed.{Parsed}
-use Rattle.index_read.specs.declared.Parsed.TheVariants.{Of, Bad}
 
 -- whether it is the highest of its section
 abbrev pub closes_at : ℕ → PassPlace → Bool
@@ -20,5 +19,5 @@ parses ib p by =
     both (leb (by.edge + (w + 2 + length_at w ib r + pick (closes_at w p) 2 0)) r)
     (both (leb (front_at w ib r) (pick (closes_at w p) p.high p.len)) (leb (front_at w ib r + length_at w ib r) by.key))
 
-unfoldable pub parsed_of : List ℕ → PassPlace → Limits → Parsed
-parsed_of ib p by = pick (parses ib p by) (Of (step_at by.width ib p.right p.end)) Bad
+unfoldable pub parsed_of : List ℕ → PassPlace → Limits → Option Step
+parsed_of ib p by = pick (parses ib p by) (Some (step_at by.width ib p.right p.end)) None

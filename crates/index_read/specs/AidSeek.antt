@@ -1,19 +1,17 @@
 -- Aids: a key that is sought while the entries are judged. `leads_to` of crate index is what is believed: document 01, 'Index record'; document 02, L4.
-use Rattle.std.specs.Prelude.{ℕ, ◌+◌, ◌-◌, ◌≤◌, ◌<◌, ◌≡◌, true, List, [], ◌++◌, length, get_or, take, ltb}
+use Rattle.std.specs.Prelude.{ℕ, ◌+◌, ◌-◌, ◌≤◌, ◌<◌, ◌≡◌, true, Option, Some, None, List, [], ◌++◌, length, get_or, take, ltb}
 use Rattle.fields.specs.Choice.{pick, both}
 use Rattle.fields.specs.Bytes.{part}
 use Rattle.fields.specs.Order.{common, less}
 use Rattle.index.specs.Meaning.{Entry, entry, separator_before}
 use Rattle.index.specs.Search.{leads_to}
 use Rattle.index_step.specs.declared.PassPlace.{PassPlace}
+use Rattle.index_step.specs.declared.Step.{Step}
 use Rattle.index_step.specs.AidStep.{front_at}
 use Rattle.index_step.specs.AidEntries.{Here, here_first, entries_here}
 use Rattle.index_read.specs.AidParsing.{closes_at, parsed_of}
 use Rattle.index_read.specs.declared.Limits.{Limits}
-use Rattle.index_read.specs.declared.Parsed.{Parsed}
-use Rattle.index_read.specs.declared.Parsed.TheVariants.{Of, Bad}
 use Rattle.index_read.specs.declared.Lead.{Lead}
-use Rattle.index_read.specs.declared.Marks.{Marks}
 
 -- the reach past a separator that begins with the key's first `front` bytes and goes on with these characters: 0 where it is not below the key
 unfoldable pub reach_of : List ℕ → ℕ → List ℕ → ℕ
@@ -21,9 +19,9 @@ reach_of key front chars =
     pick (less chars (part key front (length chars))) (front + common chars (part key front (length chars)) + 1) 0
 
 -- past the next entry, whose F refers to a separator with that reach; a wrong one tells nothing
-abbrev pub reach_past : List ℕ → List ℕ → ℕ → Parsed → ℕ
-reach_past ib key reach (Of s) = reach_of key s.front (part ib s.at s.len)
-reach_past ib key reach Bad = reach
+abbrev pub reach_past : List ℕ → List ℕ → ℕ → Option Step → ℕ
+reach_past ib key reach (Some s) = reach_of key s.front (part ib s.at s.len)
+reach_past ib key reach None = reach
 
 abbrev pub look_of : List ℕ → PassPlace → Limits → List ℕ → ℕ → ℕ
 look_of ib p by key reach = reach_past ib key reach (parsed_of ib p by)
@@ -33,13 +31,6 @@ look_of ib p by key reach = reach_past ib key reach (parsed_of ib p by)
 unfoldable pub aim_of : List ℕ → PassPlace → Limits → List ℕ → ℕ → ℕ
 aim_of ib p by key reach =
     pick (both (ltb 0 reach) (closes_at by.width p)) (pick (ltb (front_at by.width ib p.right) reach) (look_of ib p by key reach) reach) 0
-
--- where it leads, as the struct with the marks has it
-abbrev pub lead_in : Marks → Lead
-lead_in m = record { ordinal = m.ordinal; number = m.number; before = m.before; own = m.own }
-
-abbrev pub no_lead : Lead
-no_lead = record { ordinal = 0; number = 0; before = 0; own = 0 }
 
 -- How far a search has come that stands before an entry with `left` entries to come: all entries are those passed and those to come; while the key is sought, those
 -- passed are below it, the separator before has one byte less than `reach` in common with it, and its next one, if it has so many, is lower.

@@ -1,5 +1,5 @@
 -- Aids: how far a walk over the entries has come, and what its loops hand on. Nothing here has to be believed.
-use Rattle.std.specs.Prelude.{ℕ, ◌+◌, ◌≤◌, ◌<◌, ◌≡◌, Bool, true, false, List, [], ◌⊎◌, length, eqb}
+use Rattle.std.specs.Prelude.{ℕ, ◌+◌, ◌≤◌, ◌<◌, ◌≡◌, Bool, true, false, Option, Some, None, List, [], ◌⊎◌, length, eqb}
 use Rattle.fields.specs.Choice.{pick, both}
 use Rattle.measures.specs.Judgement.{limit}
 use Rattle.index.specs.Bounds.{bound, separator}
@@ -13,7 +13,6 @@ use Rattle.index_read.specs.AidWalk.{chain, part_numbers, marking, fine_from}
 use Rattle.index_read.specs.declared.Limits.{Limits}
 use Rattle.index_read.specs.declared.Leg.{Leg}
 use Rattle.index_read.specs.declared.Stop.{Stop}
-use Rattle.index_read.specs.declared.Stop.TheVariants.{At, Wrong}
 
 -- what a walk asks: a width and a key that were judged, an edge that two bytes tell, with the header before it and the RDF behind; a mark for each number; a key that
 -- is sought has the right length
@@ -76,6 +75,6 @@ pub record Paused (ib : List ℕ) (by : Limits) (key old : List ℕ) (from : Leg
   pub above : p.high ≡ from.p.high
   pub here : closes_at by.width p ≡ false → (front_at by.width ib p.right < reach) × (0 ≡ look_of ib p by key reach)
 
-abbrev pub Stopped : List ℕ → Limits → List ℕ → List ℕ → Leg → List ℕ → List ℕ → List ℕ → Stop → Type 0
-Stopped ib by key old from seen buf high Wrong = false ≡ fine_from by ib old by.count
-Stopped ib by key old from seen buf high (At p left) = Paused ib by key old from seen buf high p left
+abbrev pub Stopped : List ℕ → Limits → List ℕ → List ℕ → Leg → List ℕ → List ℕ → List ℕ → Option Stop → Type 0
+Stopped ib by key old from seen buf high None = false ≡ fine_from by ib old by.count
+Stopped ib by key old from seen buf high (Some s) = Paused ib by key old from seen buf high s.p s.left

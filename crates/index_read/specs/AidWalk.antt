@@ -1,10 +1,9 @@
 -- What the walk's own functions answer. These are aids that follow the code's loops and steps; nothing here has to be believed, since the
 -- check's contract cites only specs/Check.antt, and proofs/ shows that the two are the same.
-use Rattle.std.specs.Prelude.{ℕ, ◌+◌, ◌-◌, ◌*◌, ◌≤◌, ◌<◌, ◌≡◌, Bool, true, false, List, [], ◌∷◌, ◌++◌, map, length, get_or, take, set, replicate, eqb, leb, ltb}
+use Rattle.std.specs.Prelude.{ℕ, ◌+◌, ◌-◌, ◌*◌, ◌≤◌, ◌<◌, ◌≡◌, Bool, true, false, Option, Some, None, List, [], ◌∷◌, ◌++◌, map, length, get_or, take, set, eqb, leb, ltb}
 use Rattle.fields.specs.Choice.{pick, both}
 use Rattle.fields.specs.Bytes.{part, number}
 use Rattle.fields.specs.Order.{less}
-use Rattle.measures.specs.Judgement.{limit}
 use Rattle.index.specs.Bounds.{empty, bound, separator}
 use Rattle.index.specs.Reading.{unused_at, last_at, section_at, free_count, length_at, numbers_at}
 use Rattle.sections.specs.Parts.{Part, against, sep_of, high_after, part_size}
@@ -13,11 +12,7 @@ use Rattle.index_step.specs.declared.PassPlace.{PassPlace}
 use Rattle.index_step.specs.declared.Step.{Step}
 use Rattle.index_step.specs.AidStep.{front_at, chars_at, joined_of, Renewed}
 use Rattle.index_read.specs.AidParsing.{closes_at, parsed_of}
-use Rattle.index_read.specs.declared.Marks.{Marks}
-use Rattle.index_read.specs.declared.Parsed.{Parsed}
-use Rattle.index_read.specs.declared.Parsed.TheVariants.{Of, Bad}
 use Rattle.index_read.specs.declared.Places.{Places}
-use Rattle.index_read.specs.declared.Places.TheVariants.{At, Nowhere}
 use Rattle.index_read.specs.declared.Limits.{Limits}
 
 -- ---- the displacements, as far as they can be judged before the walk
@@ -28,8 +23,8 @@ lies_well w n ib =
     (both (ltb (free_count w ib) n)
     (both (leb (unused_at ib + 2) (last_at ib)) (both (leb (last_at ib) (length ib - 7)) (pick (eqb (section_at ib) (last_at ib)) (leb (n - free_count w ib) 2) true))))
 
-unfoldable pub places_of : ℕ → ℕ → List ℕ → Places
-places_of w n ib = pick (lies_well w n ib) (At (free_count w ib) (last_at ib - 2)) Nowhere
+unfoldable pub places_of : ℕ → ℕ → List ℕ → Option Places
+places_of w n ib = pick (lies_well w n ib) (Some (record { free = free_count w ib; edge = last_at ib - 2 })) None
 
 -- ---- one entry
 
@@ -65,14 +60,14 @@ next_in ib p by buf high =
     let r = p.right in
     take (front_at w ib r) (pick (closes_at w p) high buf) ++ part ib (chars_at w ib r) (length_at w ib r)
 
-unfoldable pub entry_of : List ℕ → PassPlace → Limits → Bool → List ℕ → List ℕ → Parsed
+unfoldable pub entry_of : List ℕ → PassPlace → Limits → Bool → List ℕ → List ℕ → Option Step
 entry_of ib p by first buf high =
-    pick (both (bound_rises first by.key (take p.len buf) (next_in ib p by buf high)) (separator by.key (next_in ib p by buf high))) (parsed_of ib p by) Bad
+    pick (both (bound_rises first by.key (take p.len buf) (next_in ib p by buf high)) (separator by.key (next_in ib p by buf high))) (parsed_of ib p by) None
 
 -- after a good entry the buffers begin with its separator, and with the highest of the section before the next one
-abbrev pub Taken : List ℕ → List ℕ → List ℕ → List ℕ → List ℕ → Parsed → Type 0
-Taken ib buf high buf' high' Bad = Unit {0}
-Taken ib buf high buf' high' (Of s) = Renewed ib s buf high buf' high'
+abbrev pub Taken : List ℕ → List ℕ → List ℕ → List ℕ → List ℕ → Option Step → Type 0
+Taken ib buf high buf' high' None = Unit {0}
+Taken ib buf high buf' high' (Some s) = Renewed ib s buf high buf' high'
 
 -- ---- all entries
 
@@ -101,9 +96,6 @@ marking n seen (x ∷ xs) = both (ltb x n) (both (eqb (get_or seen x 0) 0) (mark
 unfoldable pub seen_after : List ℕ → List ℕ → List ℕ
 seen_after seen [] = seen
 seen_after seen (x ∷ xs) = seen_after (set seen x 1) xs
-
-abbrev pub empty_marks : Marks
-empty_marks = record { seen = replicate limit 0; used = 0; free = 0; ok = true; ordinal = 0; number = 0; before = 0; own = 0 }
 
 -- the entries keep the rules, and their numbers are new
 unfoldable pub fine_from : Limits → List ℕ → List ℕ → ℕ → Bool

@@ -1,7 +1,7 @@
 // The index record, read and judged in one walk.
 #![tactic(auto)]
 
-ghost use Rattle.std.specs.Prelude.{ℕ, ◌+◌, ◌-◌, ◌*◌, ◌≤◌, ◌<◌, ◌≡◌, true, false, List, ◌⊎◌, length, get_or, take, eqb};
+ghost use Rattle.std.specs.Prelude.{ℕ, ◌+◌, ◌-◌, ◌*◌, ◌≤◌, ◌<◌, ◌≡◌, true, false, List, ◌⊎◌, length, get_or, take, eqb, is_some, IfSome};
 ghost use Rattle.fields.specs.Choice.{pick, both, no};
 ghost use Rattle.fields.specs.Bytes.{part, number};
 ghost use Rattle.measures.specs.Judgement.{limit};
@@ -10,18 +10,18 @@ ghost use Rattle.index.specs.Rules.{base_fine};
 ghost use Rattle.index.specs.Reading.{numbers_at, length_at, frame};
 ghost use Rattle.index_read.specs.Check.{index_of, Seeks, LeadWithin};
 ghost use Rattle.index_read.specs.AidParsing.{closes_at, parsed_of};
-ghost use Rattle.index_read.specs.AidWalk.{Ascends, places_of, Before, entry_of, Taken, marking, seen_after, empty_marks, fine_from, walked_fine};
-ghost use Rattle.index_read.specs.AidSeek.{reach_of, look_of, aim_of, no_lead, lead_in, FoundBy};
+ghost use Rattle.index_read.specs.AidWalk.{Ascends, places_of, Before, entry_of, Taken, marking, seen_after, fine_from, walked_fine};
+ghost use Rattle.index_read.specs.AidSeek.{reach_of, look_of, aim_of, FoundBy};
 ghost use Rattle.index_read.specs.AidStand.{Walkable, Stand, Stood, Stopped};
 ghost use Rattle.index_read.specs.AidJudged.{JudgedAs};
 ghost use Rattle.index_step.specs.AidStep.{joined_of, copied_from};
 
-use fields::Order;
 use index_step::{BUFFER, PassPlace, Step};
 use measures::LIMIT;
+use std::cmp::Ordering;
 
 // The entry that a key leads to: its place among the entries, from 0, its number, and how many bytes the separator before it and its own have.
-#[derive(Clone, Copy)]
+#[derive(Clone, Copy, Default)]
 pub struct Lead {
     pub ordinal: usize,
     pub number: usize,
@@ -29,32 +29,11 @@ pub struct Lead {
     pub own: usize,
 }
 
-// Which interval numbers were met, whether all that was met kept the rules, and where the key leads that was sought. `free` and `used`, how many numbers are free and how
-// many entries there are, come from the header before the walk. The struct goes through the walk, whose loops have its marks lent.
-#[derive(Clone, Copy)]
-pub(crate) struct Marks {
-    pub seen: [u8; LIMIT],
-    pub used: usize,
-    pub free: usize,
-    pub ok: bool,
-    pub ordinal: usize,
-    pub number: usize,
-    pub before: usize,
-    pub own: usize,
-}
-
-// One entry taken apart.
-#[derive(Clone, Copy)]
-pub(crate) enum Parsed {
-    Of(Step),
-    Bad,
-}
-
 // What the displacements say: how many free numbers there are, and where the entries begin, the last of them with its section's field.
 #[derive(Clone, Copy)]
-pub(crate) enum Places {
-    At { free: usize, edge: usize },
-    Nowhere,
+pub(crate) struct Places {
+    pub free: usize,
+    pub edge: usize,
 }
 
 // What the entries are judged by: the bytes of a pointer, where the last of them must begin with its section's field, how many intervals there
@@ -80,67 +59,58 @@ pub(crate) struct Leg {
 
 // Where a section's highest or the entry sought was met, and how many entries are left from it on.
 #[derive(Clone, Copy)]
-pub(crate) enum Stop {
-    At { p: PassPlace, left: usize },
-    Wrong,
+pub(crate) struct Stop {
+    pub p: PassPlace,
+    pub left: usize,
 }
 
-// What the walk over all entries tells: whether they kept the rules, and where the key leads that was sought.
+// Which interval numbers were met, and how many are free and how many have an entry. It goes by value through the walk.
+#[derive(Drop)]
+pub(crate) struct Marks {
+    pub seen: [u8; LIMIT],
+    pub used: usize,
+    pub free: usize,
+}
+
+// A sound record: its free intervals and entries, and where the key leads that was sought.
 #[derive(Clone, Copy)]
-pub(crate) struct Walked {
-    pub ok: bool,
+pub(crate) struct Verdict {
+    pub free: usize,
+    pub entries: usize,
     pub spot: Lead,
 }
 
-// A sound record with its free intervals and entries, and where the key leads that was sought.
+// A sound index record: how many free intervals and entries it has.
 #[derive(Clone, Copy)]
-pub(crate) enum Verdict {
-    Sound {
-        free: usize,
-        entries: usize,
-        spot: Lead,
-    },
-    Unsound,
-}
-
-// What the check of an index record answers.
-#[derive(Clone, Copy)]
-pub enum Index {
-    Sound { free: usize, entries: usize },
-    Unsound,
-}
-
-// What a check of an index record answers that seeks a key.
-#[derive(Clone, Copy)]
-pub enum Sought {
-    At(Lead),
-    Unsound,
+pub struct Index {
+    pub free: usize,
+    pub entries: usize,
 }
 
 // The next entry, whose control information lies right of `edge`. It must not begin left of it, nor must the field before it, if it is the highest of its section;
 // F is at most the length of the separator that it refers to, and the separator that F and L make has at most `key` bytes. F and L are bytes, so their sum may
 // reach 510. The caller tells whether it is the highest: so each of the two ways is compiled by itself, without a choice left in it.
-pub(crate) fn piece_at(ib: &[u8], p: PassPlace, by: Limits, closes: bool) -> Parsed
+pub(crate) fn piece_at(ib: &[u8], p: PassPlace, by: Limits, closes: bool) -> Option<Step>
     requires le_width { (1 ≤ by.width) × (by.width ≤ 4) × (p.right ≤ length ib.now) × (by.width + 2 ≤ p.right) × (by.edge < 65536) }
     requires which { closes_at by.width p ≡ closes }
     ensures { result ≡ parsed_of ib.now p by }
 {
     let w = by.width;
     let r = p.right;
-    let l = fields::wide(ib[r - (w + 1)]);
+    let l = usize::from(ib[r - (w + 1)]);
     let field = if closes { 2 } else { 0 };
     if r < by.edge + (w + 2 + l + field) {
-        return Parsed::Bad;
+        return None;
     }
     let s = index_step::entry_at(ib, w, p);
     let most = if closes { p.high } else { p.len };
     if most < s.front {
-        return Parsed::Bad;
+        return None;
     }
     if by.key < s.front + s.len {
-        return Parsed::Bad;
+        return None;
     }
-    Parsed::Of(s)
+    Some(s)
 }
 
 // Whether the bound of the next separator is above that of the one before, the first `len` bytes of buf. Both begin with the same F
@@ -156,9 +126,9 @@ pub(crate) fn compares(buf: &[u8], front: usize, len: usize, ib: &[u8], at: usiz
     let z = at + m;
     let o = fields::compare_bytes(&buf[front..e], &ib[at..z]);
     match o {
-        Order::Less => true,
-        Order::Same => l < rest,
-        Order::Greater => false,
+        Ordering::Less => true,
+        Ordering::Equal => l < rest,
+        Ordering::Greater => false,
     }
 }
 
@@ -211,7 +181,13 @@ pub(crate) fn ends_low(buf: &[u8], ib: &[u8], s: Step) -> bool
 
 // The next entry, no section's highest, which lies right of the edge, with every rule on its separator: F, the length, the order of the bounds, the last byte. The
 // buffer begins with the separator before it, and afterwards with its own. A wrong entry ends the walk, so that nothing is stored of one.
-pub(crate) fn next_inner(buf: &mut [u8], first: bool, ib: &[u8], p: PassPlace, by: Limits) -> Parsed
+pub(crate) fn next_inner(
+    buf: &mut [u8],
+    first: bool,
+    ib: &[u8],
+    p: PassPlace,
+    by: Limits,
+) -> Option<Step>
     requires before { Before ib.now p by buf.old × (first ≡ true → p.len ≡ 0) }
     requires which { closes_at by.width p ≡ false }
     requires lies { by.edge + (by.width + 2 + length_at by.width ib.now p.right) ≤ p.right }
@@ -220,16 +196,16 @@ pub(crate) fn next_inner(buf: &mut [u8], first: bool, ib: &[u8], p: PassPlace, b
 {
     let s = index_step::entry_at(ib, by.width, p);
     if by.key < s.front + s.len {
-        return Parsed::Bad;
+        return None;
     }
     if !ascends(buf, first, p.len, ib, s) {
-        return Parsed::Bad;
+        return None;
     }
     if !ends_low(buf, ib, s) {
-        return Parsed::Bad;
+        return None;
     }
     index_step::extend(buf, s.front, ib, s.at, s.len);
-    Parsed::Of(s)
+    Some(s)
 }
 
 // Whether the bound of a section's highest, the first z bytes of `high`, is above that of the entry before, the first `len` bytes of buf. It is compressed against
@@ -252,47 +228,53 @@ pub(crate) fn next_top(
     ib: &[u8],
     p: PassPlace,
     by: Limits,
-) -> Parsed
+) -> Option<Step>
     requires before { Before ib.now p by buf.old }
     requires which { closes_at by.width p ≡ true }
     requires tall { by.key + 8 ≤ length high.old }
     ensures is { result ≡ entry_of ib.now p by first buf.old high.old }
     ensures renewed { Taken ib.now buf.old high.old buf.new high.new result }
 {
-    let Parsed::Of(s) = piece_at(ib, p, by, true) else {
-        return Parsed::Bad;
+    let Some(s) = piece_at(ib, p, by, true) else {
+        return None;
     };
     index_step::extend(high, s.front, ib, s.at, s.len);
     let z = s.front + s.len;
     if !topmost(buf, first, p.len, high, z) {
-        return Parsed::Bad;
+        return None;
     }
     index_step::extend(buf, 0, high, 0, z);
     if last_of(buf, z) == 255 {
-        return Parsed::Bad;
+        return None;
     }
-    Parsed::Of(s)
+    Some(s)
 }
 
 // The same for the one entry that the key leads to, where it is no section's highest. It stands apart from `next_inner`, whose body is then put into the loop that alone calls
 // it: with a call in that loop the walk takes more than twice as long.
-pub(crate) fn next_met(buf: &mut [u8], first: bool, ib: &[u8], p: PassPlace, by: Limits) -> Parsed
+pub(crate) fn next_met(
+    buf: &mut [u8],
+    first: bool,
+    ib: &[u8],
+    p: PassPlace,
+    by: Limits,
+) -> Option<Step>
     requires before { Before ib.now p by buf.old × (first ≡ true → p.len ≡ 0) }
     requires which { closes_at by.width p ≡ false }
     ensures is { (high : List ℕ) → by.key + 8 ≤ length high → result ≡ entry_of ib.now p by first buf.old high }
     ensures renewed { (high : List ℕ) → by.key + 8 ≤ length high → Taken ib.now buf.old high buf.new high result }
 {
-    let Parsed::Of(s) = piece_at(ib, p, by, false) else {
-        return Parsed::Bad;
+    let Some(s) = piece_at(ib, p, by, false) else {
+        return None;
     };
     if !ascends(buf, first, p.len, ib, s) {
-        return Parsed::Bad;
+        return None;
     }
     index_step::extend(buf, s.front, ib, s.at, s.len);
     if last_of(buf, s.front + s.len) == 255 {
-        return Parsed::Bad;
+        return None;
     }
-    Parsed::Of(s)
+    Some(s)
 }
 
 // The next entry, whichever it is.
@@ -303,7 +285,7 @@ pub(crate) fn next_entry(
     ib: &[u8],
     p: PassPlace,
     by: Limits,
-) -> Parsed
+) -> Option<Step>
     requires before { Before ib.now p by buf.old × (first ≡ true → p.len ≡ 0) }
     requires tall { by.key + 8 ≤ length high.old }
     ensures is { result ≡ entry_of ib.now p by first buf.old high.old }
@@ -346,7 +328,7 @@ pub(crate) fn look(
     requires which { closes_at by.width p ≡ top }
     ensures { result ≡ look_of ib.now p by key.now reach }
 {
-    let Parsed::Of(s) = piece_at(ib, p, by, top) else {
+    let Some(s) = piece_at(ib, p, by, top) else {
         return reach;
     };
     let a = s.at;
@@ -367,7 +349,7 @@ pub(crate) fn aimed(key: &[u8], ib: &[u8], p: PassPlace, by: Limits, reach: usiz
     if c != p.end {
         return 0;
     }
-    if reach <= fields::wide(ib[c]) {
+    if reach <= usize::from(ib[c]) {
         return reach;
     }
     look(key, ib, p, by, true, reach)
@@ -384,44 +366,14 @@ pub(crate) fn keep(to: &mut [u8], buf: &[u8], len: usize, meets: bool)
     index_step::extend(to, 0, buf, 0, len);
 }
 
-// No entry met yet.
-pub(crate) fn nowhere() -> Lead
-    ensures { result ≡ no_lead }
-{
-    Lead {
-        ordinal: 0,
-        number: 0,
-        before: 0,
-        own: 0,
-    }
-}
-
-// No number met yet: a mark for each that an area of the most intervals has.
-pub(crate) fn fresh() -> Marks
-    ensures { result ≡ empty_marks }
-{
-    Marks {
-        seen: [0u8; LIMIT],
-        used: 0,
-        free: 0,
-        ok: true,
-        ordinal: 0,
-        number: 0,
-        before: 0,
-        own: 0,
-    }
-}
-
 // Marks each of the free numbers; refuses one that is not below n, or is marked already.
 pub(crate) fn mark_free(seen: &mut [u8; LIMIT], ib: &[u8], w: usize, count: usize, n: usize) -> bool
     requires { (1 ≤ w) × (w ≤ 4) × (24 + w * count ≤ length ib.now) × (n ≤ limit) }
     ensures sound { result ≡ marking n seen.old (numbers_at w ib.now 24 count) }
     ensures marks { result ≡ true → seen.new ≡ seen_after seen.old (numbers_at w ib.now 24 count) }
 {
-    let mut at = 24;
-    let mut left = count;
-    while 0 < left {
-        let number = fields::read_pointer(ib, at, w);
+    for i in 0..count {
+        let number = fields::read_pointer(ib, 24 + w * i, w);
         if n <= number {
             return false;
         }
@@ -429,8 +381,6 @@ pub(crate) fn mark_free(seen: &mut [u8; LIMIT], ib: &[u8], w: usize, count: usiz
             return false;
         }
         seen[number] = 1;
-        at += w;
-        left -= 1;
     }
     true
 }
@@ -444,7 +394,7 @@ pub(crate) fn walk_inner(
     key: &[u8],
     from: Leg,
     by: Limits,
-) -> Stop
+) -> Option<Stop>
     requires walkable { Walkable ib.now by key.now × (0 < from.left) }
     requires stands { Stood ib.now by key.now seen.old buf.old from }
     ensures { (old high : List ℕ) → Stand ib.now by key.now old seen.old buf.old high from.p true from.left from.reach → Stopped ib.now by key.now old from seen.new buf.new high result }
@@ -457,35 +407,35 @@ pub(crate) fn walk_inner(
         let r = p.right;
         let c = r - (w + 2);
         if c == p.end {
-            return Stop::At { p, left };
+            return Some(Stop { p, left });
         }
-        if c < by.edge + fields::wide(ib[c + 1]) {
-            return Stop::Wrong;
+        if c < by.edge + usize::from(ib[c + 1]) {
+            return None;
         }
-        if fields::wide(ib[c]) < reach {
+        if usize::from(ib[c]) < reach {
             reach = look(key, ib, p, by, false, reach);
             if reach == 0 {
                 if left == 1 {
-                    return Stop::Wrong;
+                    return None;
                 }
-                return Stop::At { p, left };
+                return Some(Stop { p, left });
             }
         }
         let number = fields::read_pointer(ib, r - w, w);
         if by.n <= number {
-            return Stop::Wrong;
+            return None;
         }
         if seen[number] != 0 {
-            return Stop::Wrong;
+            return None;
         }
         seen[number] = 1;
-        let Parsed::Of(s) = next_inner(buf, left == by.count, ib, p, by) else {
-            return Stop::Wrong;
+        let Some(s) = next_inner(buf, left == by.count, ib, p, by) else {
+            return None;
         };
         p = index_step::past(ib, s, p);
         left -= 1;
     }
-    Stop::Wrong
+    None
 }
 
 // Past the last entry: it began at the edge with its section's field, which is zero, and its separator was empty.
@@ -499,7 +449,7 @@ pub(crate) fn ends(ib: &[u8], p: PassPlace, by: Limits) -> bool
     if p.len != 0 {
         return false;
     }
-    fields::read_two(ib, by.edge) == 0
+    fields::read::<2>(ib, by.edge) == 0
 }
 
 // Walks all entries from the RDF leftwards, section by section, and marks their numbers. The last must close a section, begin at the edge with that section's
@@ -513,56 +463,56 @@ pub(crate) fn mark_entries(
     key: &[u8],
     before: &mut [u8],
     own: &mut [u8],
-) -> Walked
+) -> Option<Lead>
     requires { Walkable ib.now by key.now × (0 < by.count) × (length before.old ≡ 263) × (length own.old ≡ 263) }
-    ensures sound { result.ok ≡ fine_from by ib.now seen.old by.count }
-    ensures found { 0 < length key.now → result.ok ≡ true → FoundBy by.width by.count ib.now key.now result.spot before.new own.new }
+    ensures sound { is_some result ≡ fine_from by ib.now seen.old by.count }
+    ensures found { 0 < length key.now → IfSome result (λ spot. FoundBy by.width by.count ib.now key.now spot before.new own.new) }
 {
     let mut buf = [0u8; BUFFER];
     let mut high = [0u8; BUFFER];
     let mut p = index_step::start(ib);
     let mut left = by.count;
     let mut reach = if key.len() == 0 { 0 } else { 1 };
-    let mut spot = nowhere();
+    let mut spot = Lead::default();
     while 0 < left {
         let leg = Leg { p, left, reach };
-        let Stop::At { p: q, left: l } = walk_inner(seen, &mut buf, ib, key, leg, by) else {
-            return Walked { ok: false, spot };
+        let Some(stop) = walk_inner(seen, &mut buf, ib, key, leg, by) else {
+            return None;
         };
-        let aim = aimed(key, ib, q, by, reach);
+        let aim = aimed(key, ib, stop.p, by, reach);
         let meets = if reach == 0 { false } else { aim == 0 };
-        keep(before, &buf, q.len, meets);
-        let Parsed::Of(s) = next_entry(&mut buf, &mut high, l == by.count, ib, q, by) else {
-            return Walked { ok: false, spot };
+        keep(before, &buf, stop.p.len, meets);
+        let Some(s) = next_entry(&mut buf, &mut high, stop.left == by.count, ib, stop.p, by) else {
+            return None;
         };
         let number = s.number;
         if by.n <= number {
-            return Walked { ok: false, spot };
+            return None;
         }
         if seen[number] != 0 {
-            return Walked { ok: false, spot };
+            return None;
         }
         seen[number] = 1;
-        p = index_step::past(ib, s, q);
-        left = l - 1;
+        p = index_step::past(ib, s, stop.p);
+        left = stop.left - 1;
         if meets {
             spot = Lead {
-                ordinal: by.count - l,
+                ordinal: by.count - stop.left,
                 number,
-                before: q.len,
+                before: stop.p.len,
                 own: p.len,
             };
         }
         keep(own, &buf, p.len, meets);
         reach = aim;
     }
-    Walked {
-        ok: ends(ib, p, by),
-        spot,
+    if !ends(ib, p, by) {
+        return None;
     }
+    Some(spot)
 }
 
-// The walk over the free numbers, and then over the entries. The struct with the marks goes through both at once: so nothing of them is copied.
+// The walk over the free numbers, and then over the entries. A number either is free or has an entry, so all lie below the sum of the two counts.
 pub(crate) fn walk(
     marks: Marks,
     ib: &[u8],
@@ -570,30 +520,18 @@ pub(crate) fn walk(
     key: &[u8],
     before: &mut [u8],
     own: &mut [u8],
-) -> Marks
+) -> Option<Lead>
     requires walkable { Walkable ib.now by key.now × (0 < by.count) × (length before.old ≡ 263) × (length own.old ≡ 263) }
     requires free { (by.count ≤ by.n) × (24 + by.width * (by.n - by.count) ≤ length ib.now) }
-    ensures sound { result.ok ≡ walked_fine by ib.now marks.seen }
-    ensures found { 0 < length key.now → result.ok ≡ true → FoundBy by.width by.count ib.now key.now (lead_in result) before.new own.new }
-    ensures counts { (result.free ≡ by.n - by.count) × (result.used ≡ by.count) }
+    requires counts { (marks.free ≡ by.n - by.count) × (marks.used ≡ by.count) }
+    ensures sound { is_some result ≡ walked_fine by ib.now marks.seen }
+    ensures found { 0 < length key.now → IfSome result (λ spot. FoundBy by.width by.count ib.now key.now spot before.new own.new) }
 {
-    let free = by.n - by.count;
     let mut m = marks;
-    m.free = free;
-    m.used = by.count;
-    let ok = mark_free(&mut m.seen, ib, by.width, free, by.n);
-    m.ok = ok;
-    if !ok {
-        return m;
+    if !mark_free(&mut m.seen, ib, by.width, m.free, m.free + m.used) {
+        return None;
     }
-    let walked = mark_entries(&mut m.seen, ib, by, key, before, own);
-    let spot = walked.spot;
-    m.ok = walked.ok;
-    m.ordinal = spot.ordinal;
-    m.number = spot.number;
-    m.before = spot.before;
-    m.own = spot.own;
-    m
+    mark_entries(&mut m.seen, ib, by, key, before, own)
 }
 
 // Whether header values, RDF and CIDF are as they must be. The pointer indicator has a bit for each byte of a pointer.
@@ -602,13 +540,13 @@ pub(crate) fn framed(ib: &[u8], w: usize) -> bool
     ensures { result ≡ frame w ib.now }
 {
     let size = ib.len();
-    if fields::read_two(ib, 0) != size - 7 {
+    if fields::read::<2>(ib, 0) != size - 7 {
         return false;
     }
-    if fields::wide(ib[2]) != w + 2 {
+    if usize::from(ib[2]) != w + 2 {
         return false;
     }
-    if fields::wide(ib[3]) != (1 << w) - 1 {
+    if usize::from(ib[3]) != (1 << w) - 1 {
         return false;
     }
     if ib[16] != 1 {
@@ -617,13 +555,13 @@ pub(crate) fn framed(ib: &[u8], w: usize) -> bool
     if ib[size - 7] != 0 {
         return false;
     }
-    if fields::read_two(ib, size - 6) != size - 7 {
+    if fields::read::<2>(ib, size - 6) != size - 7 {
         return false;
     }
-    if fields::read_two(ib, size - 4) != size - 7 {
+    if fields::read::<2>(ib, size - 4) != size - 7 {
         return false;
     }
-    fields::read_two(ib, size - 2) == 0
+    fields::read::<2>(ib, size - 2) == 0
 }
 
 // The base RBA.
@@ -631,7 +569,7 @@ pub fn base_of(ib: &[u8]) -> usize
     requires { 8 ≤ length ib.now }
     ensures { (result ≡ number 4 ib.now 4) × (result < 4294967296) }
 {
-    fields::read_four(ib, 4)
+    fields::read::<4>(ib, 4)
 }
 
 // Whether n intervals from the base on stay within the addresses of four bytes.
@@ -645,37 +583,37 @@ pub(crate) fn base_fine(ib: &[u8], n: usize) -> bool
 // Whether the displacements are in order, as far as that shows before the walk: the unused space begins past the free numbers,
 // which leave one interval at least to an entry, and ends where the entries begin. The last entry's separator is empty, so that its field stands right before its
 // control information. Where the first section's highest is the last entry there is a single section, and it has at most two entries.
-pub(crate) fn placed(ib: &[u8], w: usize, n: usize) -> Places
+pub(crate) fn placed(ib: &[u8], w: usize, n: usize) -> Option<Places>
     requires { (31 ≤ length ib.now) × (1 ≤ w) × (w ≤ 4) }
     ensures { result ≡ places_of w n ib.now }
 {
-    let unused = fields::read_two(ib, 18);
-    let last = fields::read_two(ib, 20);
+    let unused = fields::read::<2>(ib, 18);
+    let last = fields::read::<2>(ib, 20);
     if unused < 24 {
-        return Places::Nowhere;
+        return None;
     }
     let free = index_step::free_count(ib, w);
     if 24 + w * free != unused {
-        return Places::Nowhere;
+        return None;
     }
     if n <= free {
-        return Places::Nowhere;
+        return None;
     }
     if last < unused + 2 {
-        return Places::Nowhere;
+        return None;
     }
     if ib.len() - 7 < last {
-        return Places::Nowhere;
+        return None;
     }
-    if fields::read_two(ib, 22) == last {
+    if fields::read::<2>(ib, 22) == last {
         if 2 < n - free {
-            return Places::Nowhere;
+            return None;
         }
     }
-    Places::At {
-        free: free,
+    Some(Places {
+        free,
         edge: last - 2,
-    }
+    })
 }
 
 // Whether an index record of n intervals with keys of `key` bytes is sound; with the numbers of free intervals and of entries, and where a key of that length
@@ -687,66 +625,58 @@ pub(crate) fn judge(
     wanted: &[u8],
     before: &mut [u8],
     own: &mut [u8],
-) -> Verdict
+) -> Option<Verdict>
     requires in_bounds { (31 ≤ length ib.now) × (length ib.now ≤ 32768) × (1 ≤ key) × (key ≤ 255) × (n ≤ limit) }
     requires buffers { ((length wanted.now ≡ 0) ⊎ (length wanted.now ≡ key)) × (length before.old ≡ 263) × (length own.old ≡ 263) }
     ensures { JudgedAs key n ib.now wanted.now before.new own.new result }
 {
     let w = measures::width_for(n);
     if !framed(ib, w) {
-        return Verdict::Unsound;
+        return None;
     }
     if !base_fine(ib, n) {
-        return Verdict::Unsound;
+        return None;
     }
-    let Places::At { free, edge } = placed(ib, w, n) else {
-        return Verdict::Unsound;
-    };
-    let count = n - free;
+    let places = placed(ib, w, n)?;
+    let free = places.free;
+    let entries = n - free;
     let by = Limits {
         width: w,
-        edge: edge,
-        n: n,
-        count: count,
-        key: key,
+        edge: places.edge,
+        n,
+        count: entries,
+        key,
     };
-    let e = walk(fresh(), ib, by, wanted, before, own);
-    if !e.ok {
-        return Verdict::Unsound;
-    }
-    let spot = Lead {
-        ordinal: e.ordinal,
-        number: e.number,
-        before: e.before,
-        own: e.own,
+    let marks = Marks {
+        seen: [0u8; LIMIT],
+        used: entries,
+        free,
     };
-    Verdict::Sound {
-        free: e.free,
-        entries: e.used,
+    let spot = walk(marks, ib, by, wanted, before, own)?;
+    Some(Verdict {
+        free,
+        entries,
         spot,
-    }
+    })
 }
 
 // Whether an index record of n intervals with keys of `key` bytes is sound, with its free intervals and entries.
-pub fn check(ib: &[u8], key: usize, n: usize) -> Index
+pub fn check(ib: &[u8], key: usize, n: usize) -> Option<Index>
     requires { (31 ≤ length ib.now) × (length ib.now ≤ 32768) × (1 ≤ key) × (key ≤ 255) × (n ≤ limit) }
     ensures { result ≡ index_of key n ib.now }
 {
     let mut before = [0u8; BUFFER];
     let mut own = [0u8; BUFFER];
-    match judge(ib, key, n, &ib[..0], &mut before, &mut own) {
-        Verdict::Sound {
-            free,
-            entries,
-            spot: _,
-        } => Index::Sound { free, entries },
-        Verdict::Unsound => Index::Unsound,
-    }
+    let verdict = judge(ib, key, n, &ib[..0], &mut before, &mut own)?;
+    Some(Index {
+        free: verdict.free,
+        entries: verdict.entries,
+    })
 }
 
 // The same, and where a key leads, found in the same walk: the separator before its entry is put at the front of `before`, its own at the front of `own`.
 // Where the record is unsound both stay as they were.
-pub fn seek(ib: &[u8], key: &[u8], n: usize, before: &mut [u8], own: &mut [u8]) -> Sought
+pub fn seek(ib: &[u8], key: &[u8], n: usize, before: &mut [u8], own: &mut [u8]) -> Option<Lead>
     requires in_bounds { (31 ≤ length ib.now) × (length ib.now ≤ 32768) × (1 ≤ length key.now) × (length key.now ≤ 255) × (n ≤ limit) }
     requires buffers { (255 ≤ length before.old) × (255 ≤ length own.old) }
     ensures is { Seeks n ib.now key.now before.old own.old result before.new own.new }
@@ -754,17 +684,11 @@ pub fn seek(ib: &[u8], key: &[u8], n: usize, before: &mut [u8], own: &mut [u8]) 
 {
     let mut low = [0u8; BUFFER];
     let mut high = [0u8; BUFFER];
-    let Verdict::Sound {
-        free: _,
-        entries: _,
-        spot,
-    } = judge(ib, key.len(), n, key, &mut low, &mut high)
-    else {
-        return Sought::Unsound;
-    };
+    let verdict = judge(ib, key.len(), n, key, &mut low, &mut high)?;
+    let spot = verdict.spot;
     let b = spot.before;
     let o = spot.own;
     fields::copy(before, 0, &low[..b]);
     fields::copy(own, 0, &high[..o]);
-    Sought::At(spot)
+    Some(spot)
 }

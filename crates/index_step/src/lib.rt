@@ -12,7 +12,7 @@ pub fn free_count(ib: &[u8], w: usize) -> usize
     requires { (20 ≤ length ib.now) × (1 ≤ w) × (24 ≤ unused_at ib.now) }
     ensures { result ≡ free_count w ib.now }
 {
-    (fields::read_two(ib, 18) - 24) / w
+    (fields::read::<2>(ib, 18) - 24) / w
 }
 
 // A buffer for a separator: it has at most 255 bytes, and a copy may reach eight bytes further.
@@ -45,7 +45,7 @@ pub fn start(ib: &[u8]) -> PassPlace
 {
     PassPlace {
         right: ib.len() - 7,
-        end: fields::read_two(ib, 22),
+        end: fields::read::<2>(ib, 22),
         len: 0,
         high: 0,
     }
@@ -58,8 +58,8 @@ pub fn entry_at(ib: &[u8], w: usize, p: PassPlace) -> Step
     ensures small { (result.front < 256) × (result.len < 256) }
 {
     let r = p.right;
-    let f = fields::wide(ib[r - (w + 2)]);
-    let l = fields::wide(ib[r - (w + 1)]);
+    let f = usize::from(ib[r - (w + 2)]);
+    let l = usize::from(ib[r - (w + 1)]);
     let number = fields::read_pointer(ib, r - w, w);
     Step {
         front: f,
@@ -68,13 +68,6 @@ pub fn entry_at(ib: &[u8], w: usize, p: PassPlace) -> Step
         number,
         closes: r - (w + 2) == p.end,
     }
-}
-
-// What is left of a when b is taken from it, nothing where b is more.
-pub(crate) fn less(a: usize, b: usize) -> usize
-    ensures { result ≡ a - b }
-{
-    if b < a { a - b } else { 0 }
 }
 
 // Where the pass stands past an entry. Before a section's highest stands the field that leads to the next one's; a field that leads out of the record leads to
@@ -95,7 +88,7 @@ pub fn past(ib: &[u8], s: Step, p: PassPlace) -> PassPlace
     let right = s.at - 2;
     PassPlace {
         right,
-        end: less(p.end, fields::read_two(ib, right)),
+        end: p.end.saturating_sub(fields::read::<2>(ib, right)),
         len,
         high: len,
     }

@@ -10,6 +10,7 @@ use lib.Dec.{eqb}
 use native.Mathlib.Omega.{arith}
 use native.Mathlib.Numerals.{add-one}
 use borrow.Author.Tests.{le-ltb, eq-eqb, ne_eqb, eqb-true, eqb-false}
+use Rattle.std.specs.Prelude.{Option, Some}
 use Rattle.fields.specs.Choice.{pick}
 use Rattle.fields.proofs.Choices.{false-true}
 use Rattle.index.specs.Meaning as meaning
@@ -26,8 +27,8 @@ use Rattle.index_step.proofs.Passing.{Next, next-there}
 use Rattle.index_step.proofs.Stepping.{Standing, entries-count, standing-start, Stepped, standing-step}
 use Rattle.index.specs.Reading.{piece_at}
 use Rattle.index_walk.specs.declared.Edge.{Edge}
-use Rattle.index_walk.specs.declared.Met.TheVariants.{Entry}
-use Rattle.index_walk.specs.AidPasses.{edge, edge_first, place_of, edge_of, pass_of}
+use Rattle.index_walk.specs.declared.Met.{Met}
+use Rattle.index_walk.specs.AidPasses.{edge, met, edge_first, place_of, edge_of, pass_of}
 use Rattle.index_walk.proofs.Reading.{pass-is}
 
 -- ---- which entry is the last
@@ -125,7 +126,7 @@ number-there es i x ys e =
 -- What a pass meets: entry i, of whose number an interval is; whether it is the last; and the edge before the next, further left in the record.
 pub record Passes (w K n : ℕ) (ib : List ℕ) (i : ℕ) (e : Edge) : Type 0 where
   pub next : Edge
-  pub met : pass_of w ib e ≡ Entry (get_or (numbers (read_index w n ib).entries) i 0) next (eqb (i + 1) (length (read_index w n ib).entries))
+  pub met : pass_of w ib e ≡ Some (met (get_or (numbers (read_index w n ib).entries) i 0) next (eqb (i + 1) (length (read_index w n ib).entries)))
   pub named : get_or (numbers (read_index w n ib).entries) i 0 < n
   pub stands : Before w K n ib (i + 1) next
   pub some : 0 < next.right
@@ -136,7 +137,7 @@ same-edge e r d a b =
     let f : edge e.right e.end ≡ edge r d = cc in
     f
 
-same_met : {x y : ℕ} {e f : Edge} {t u : Bool} → y ≡ x → e ≡ f → t ≡ u → Entry x e t ≡ Entry y f u
+same_met : {x y : ℕ} {e f : Edge} {t u : Bool} → y ≡ x → e ≡ f → t ≡ u → ◌≡◌ {A = Option Met} (Some (met x e t)) (Some (met y f u))
 same_met p q r = rw (p, q, r)
 
 -- none is left exactly behind the last
@@ -187,7 +188,7 @@ module _ (w K n : ℕ) (ib : List ℕ) (i : ℕ) (e : Edge) (narrow : w ≤ 4) (
   last-told : eqb (h.right - (w + 2)) (last_at ib) ≡ eqb (i + 1) (length es)
   last-told = on.told ∙ ap (λ (x : ℕ). eqb x 0) (parts-long w ib (here_next w ib h).right (here_next w ib h).end (length es - suc i)) ∙ none_left i (length es) more
 
-  passed : pass_of w ib e ≡ Entry (get_or (numbers es) i 0) (edge (here_next w ib h).right (here_next w ib h).end) (eqb (i + 1) (length es))
+  passed : pass_of w ib e ≡ Some (met (get_or (numbers es) i 0) (edge (here_next w ib h).right (here_next w ib h).end) (eqb (i + 1) (length es)))
   passed =
       let r : ℕ = h.right in
       let q = pass-is w ib (edge r h.end) narrow (omega (arith, room, b.stands.inside)) (omega (arith, b.stands.inside)) (omega (arith, there.room)) (length_at w ib r)

@@ -6,14 +6,14 @@ use lib.ListN.{length}
 use lib.Dec.{eqb}
 use native.Mathlib.Omega.{arith}
 use borrow.Author.Tests.{lt-ltb, le-ltb, eq-eqb, ne_eqb}
+use Rattle.std.specs.Prelude.{Some, None}
 use Rattle.fields.specs.Choice.{pick}
 use Rattle.index.specs.Reading.{section_at, last_at, length_at}
 use Rattle.index_step.specs.declared.Step.{Step}
 use Rattle.index_step.specs.declared.PassPlace.{PassPlace}
 use Rattle.index_step.specs.AidStep.{step_at, place_past, EntryEnds}
 use Rattle.index_walk.specs.declared.Edge.{Edge}
-use Rattle.index_walk.specs.declared.Met.TheVariants.{Entry, Nothing}
-use Rattle.index_walk.specs.AidPasses.{edge, edge_first, place_of, edge_of, pass_of}
+use Rattle.index_walk.specs.AidPasses.{edge, met, edge_first, place_of, edge_of, pass_of}
 
 -- ---- before the first entry
 
@@ -35,19 +35,19 @@ field-none x at end e f = rw (ne_eqb at end e) f
 
 module _ (w : ℕ) (ib : List ℕ) (e : Edge) where
   -- no entry can end there
-  pub pass-wide : 4 < w → Nothing ≡ pass_of w ib e
+  pub pass-wide : 4 < w → None ≡ pass_of w ib e
   unfolding pass_of
   pass-wide h = rw (lt-ltb 4 w h)
 
-  pub pass-short : w ≤ 4 → length ib < 24 → Nothing ≡ pass_of w ib e
+  pub pass-short : w ≤ 4 → length ib < 24 → None ≡ pass_of w ib e
   unfolding pass_of
   pass-short h k = rw (le-ltb 4 w h, lt-ltb (length ib) 24 k)
 
-  pub pass-past : w ≤ 4 → 24 ≤ length ib → length ib < e.right → Nothing ≡ pass_of w ib e
+  pub pass-past : w ≤ 4 → 24 ≤ length ib → length ib < e.right → None ≡ pass_of w ib e
   unfolding pass_of
   pass-past h k l = rw (le-ltb 4 w h, le-ltb (length ib) 24 k, lt-ltb (length ib) e.right l)
 
-  pub pass-cut : w ≤ 4 → 24 ≤ length ib → e.right ≤ length ib → e.right < w + 2 → Nothing ≡ pass_of w ib e
+  pub pass-cut : w ≤ 4 → 24 ≤ length ib → e.right ≤ length ib → e.right < w + 2 → None ≡ pass_of w ib e
   unfolding pass_of
   pass-cut h k l j = rw (le-ltb 4 w h, le-ltb (length ib) 24 k, le-ltb (length ib) e.right l, lt-ltb e.right (w + 2) j)
 
@@ -55,7 +55,7 @@ module _ (w : ℕ) (ib : List ℕ) (e : Edge) where
   module _ (h : w ≤ 4) (k : 24 ≤ length ib) (i : e.right ≤ length ib) (j : w + 2 ≤ e.right) (l field : ℕ) (long : l ≡ length_at w ib e.right)
       (has : field ≡ pick (eqb (e.right - (w + 2)) e.end) 2 0) where
     -- its characters and its field would begin before the record
-    pub pass-none : e.right - (w + 2) < l + field → Nothing ≡ pass_of w ib e
+    pub pass-none : e.right - (w + 2) < l + field → None ≡ pass_of w ib e
     unfolding pass_of
     pass-none f =
         rw (
@@ -67,16 +67,8 @@ module _ (w : ℕ) (ib : List ℕ) (e : Edge) where
         )
 
     module _ (f : l + field ≤ e.right - (w + 2)) where
-      -- for the calls
-      pub pass-lies : EntryEnds w ib e.right
-      pass-lies = (h, i, omega (arith, f, long, j))
-
-      pub pass-room : (s : Step) → s ≡ step_at w ib e.right e.end → s.front < 256 → s.len < 256
-          → (s.front + s.len ≤ 510) × (s.at ≤ length ib) × (pick s.closes 2 0 ≤ s.at)
-      pass-room s is a b = (omega arith, rw is (omega (arith, i)), rw is (omega (arith, f, long, has, j)))
-
       pub pass-is : (s : Step) → s ≡ step_at w ib e.right e.end → (q : PassPlace) → q ≡ place_past ib s (place_of e) → (x : ℕ) → x ≡ last_at ib
-          → Entry s.number (edge_of q) (eqb (e.right - (w + 2)) x) ≡ pass_of w ib e
+          → Some (met s.number (edge_of q) (eqb (e.right - (w + 2)) x)) ≡ pass_of w ib e
       unfolding pass_of
       pass-is s is q past x last =
           rw (

@@ -14,15 +14,12 @@ pub struct Edge {
     pub end: usize,
 }
 
-// An entry's number, what lies past it, and whether it is the last; or that none can be read there.
+// An entry: its number, what lies past it, and whether it is the last.
 #[derive(Clone, Copy)]
-pub enum Met {
-    Entry {
-        number: usize,
-        next: Edge,
-        last: bool,
-    },
-    Nothing,
+pub struct Met {
+    pub number: usize,
+    pub next: Edge,
+    pub last: bool,
 }
 
 // Before the first entry; before none in a record too short to have one.
@@ -34,23 +31,23 @@ pub fn start(ib: &[u8]) -> Edge
     }
     Edge {
         right: ib.len() - 7,
-        end: fields::read_two(ib, 22),
+        end: fields::read::<2>(ib, 22),
     }
 }
 
-// The next entry, with a pointer of w bytes.
-pub fn pass(ib: &[u8], w: usize, e: Edge) -> Met
+// The next entry, with a pointer of w bytes; none where none can be read.
+pub fn pass(ib: &[u8], w: usize, e: Edge) -> Option<Met>
     ensures { result ≡ pass_of w ib.now e }
 {
     let r = e.right;
     if 4 < w || ib.len() < 24 || ib.len() < r || r < w + 2 {
-        return Met::Nothing;
+        return None;
     }
-    let l = fields::wide(ib[r - (w + 1)]);
+    let l = usize::from(ib[r - (w + 1)]);
     let control = r - (w + 2);
     let field = if control == e.end { 2 } else { 0 };
     if control < l + field {
-        return Met::Nothing;
+        return None;
     }
     let p = PassPlace {
         right: r,
@@ -64,9 +61,9 @@ pub fn pass(ib: &[u8], w: usize, e: Edge) -> Met
         right: q.right,
         end: q.end,
     };
-    Met::Entry {
+    Some(Met {
         number: s.number,
         next,
-        last: control == fields::read_two(ib, 20),
-    }
+        last: control == fields::read::<2>(ib, 20),
+    })
 }

@@ -1,52 +1,40 @@
 -- All entries after a division: those before the divided one, its parts, those after it. Passes and puts, one after another, meet them all, count them all and store
 -- them all.
-use Prim.Native.Nat.{ℕ, zero, suc, ◌+◌, ◌-◌, ◌*◌, ◌≤◌, ◌<◌, min}
-use mathlib.Core.Path.{◌≡◌, refl, ◌∙◌, sym, ap, subst}
+use Prim.Native.Nat.{ℕ, zero, suc, ◌+◌, ◌-◌, ◌≤◌, ◌<◌}
+use mathlib.Core.Path.{◌≡◌, refl, ◌∙◌, sym, ap}
 use mathlib.Core.Bool.{Bool, true, false}
 use mathlib.Core.List.{List, [], ◌∷◌, ◌++◌, append_assoc}
 use lib.ListN.{length, get_or, take, drop, length-append, length-take}
 use lib.Seq.{length-take-le, get_or-take}
 use lib.Dec.{leb}
-use native.Mathlib.Nat.{mul-le-mul_left}
 use native.Mathlib.Omega.{arith}
-use borrow.Author.Tests.{leb-true, le-leb}
+use borrow.Author.Tests.{le-leb}
+use Rattle.std.specs.Prelude.{Option, Some, None, is_some}
 use Rattle.fields.specs.Choice.{pick, both}
-use Rattle.fields.specs.Bytes.{part}
 use Rattle.fields.specs.Lists.{every}
-use Rattle.fields.specs.Order.{common}
 use Rattle.fields.proofs.Choices.{both-split, both-join}
 use Rattle.fields.proofs.Lists.{every_append}
-use Rattle.measures.specs.Judgement.{limit, width_for}
-use Rattle.measures.proofs.Width.{width_some, width-most}
-use Rattle.index.specs.Meaning.{Entry, entry, separator_before}
+use Rattle.measures.specs.Judgement.{width_for}
+use Rattle.measures.proofs.Width.{width_some}
+use Rattle.index.specs.Meaning.{Entry, entry}
 use Rattle.index.specs.Reading.{unused_at, free_count, numbers_at}
-use Rattle.index.specs.Divided.{cuts, parts_of, divided_at}
+use Rattle.index.specs.Divided.{cuts, parts_of}
 use Rattle.index.proofs.Apart.{length-numbers_at}
-use Rattle.index.proofs.DividedEntries.{length-parts, divided-entries}
+use Rattle.index.proofs.DividedEntries.{divided-entries}
 use Rattle.sections.specs.Parts.{Part, against, part_size}
-use Rattle.sections.specs.Form.{section_for, packed_all, index_size}
 use Rattle.sections.specs.Reading.{read_index}
 use Rattle.sections.specs.Divided.{new_meaning}
-use Rattle.sections.proofs.Roots.{root-some}
 use Rattle.sections.proofs.Sounding.{Sound, sound-apart}
 use Rattle.sections.proofs.Apart.{free-are}
-use Rattle.index_step.specs.AidStep.{place_start}
-use Rattle.index_step.specs.AidEntries.{Here, here_first, part_here, sep_here, entry_here, here_next, here_after, entries_here, lies_here, readable, Held}
-use Rattle.index_step.proofs.Passing.{entries-append, entries-long, readable-append, after-ref, after-right}
-use Rattle.index_step.proofs.Stepping.{entries-count, entries-passed, entries-readable, held_start}
-use Rattle.index_pen.specs.declared.Pen.{Pen}
-use Rattle.index_pen.specs.AidPen.{pen_begun}
-use Rattle.index_pen.specs.AidStream.{Reached, parts_by}
-use Rattle.index_pen.specs.AidHeld.{Kept, Penned, Holds}
-use Rattle.index_pen.proofs.Drawing.{standing, packed-drawn}
-use Rattle.index_pen.proofs.Holding.{holds-none}
+use Rattle.index_step.specs.AidEntries.{Here, here_first, part_here, sep_here, entry_here, here_next, here_after, entries_here, lies_here, readable}
+use Rattle.index_step.proofs.Passing.{entries-append, entries-long, readable-append, after-right}
+use Rattle.index_step.proofs.Stepping.{entries-count, entries-passed, entries-readable}
+use Rattle.index_write.specs.declared.Cut.{Cut}
 use Rattle.index_write.specs.declared.Cuts.{Cuts}
-use Rattle.index_write.specs.declared.Job.{Job}
 use Rattle.index_write.specs.declared.LastCut.{LastCut}
-use Rattle.index_write.specs.declared.Cursor.{Cursor}
-use Rattle.index_write.specs.AidStream.{first_cut, second_cut, cuts_in, last_of, CutsLie, FreeLie, cut_entries, Draft, draft_put, draft_all, draft_of, Drawn, Puttable, here_of, draft_here, CursorStands, Ran, Cuttable}
-use Rattle.index_write.specs.AidDivided.{Divisible, new_record, new_entries, new_size, AllFit, AllPut}
-use Rattle.index_write.proofs.Drafting.{Short, draft-append, draft-ref, draft-size, fitting-first, fitting-second, drawn-self, draft-holds}
+use Rattle.index_write.specs.AidStream.{cut_in, told_in, first_cut, second_cut, three_in, cuts_in, last_from, last_of, CutLies, CutsLie, FreeLie}
+use Rattle.index_write.specs.AidDivided.{Divisible}
+use Rattle.index_write.proofs.Drafting.{Short}
 
 -- ---- short separators
 
@@ -69,35 +57,26 @@ readable-short w ib h (suc k) r =
 -- ---- how many cuts there are
 
 pub last-many : (u : Cuts) (bytes : List ℕ) → (last_of u).count ≡ length (cuts_in u bytes)
-last-many u bytes = go u.three
+last-many u bytes = go u.second
   where
-    go : (t : Bool)
-        → (pick {A = LastCut} t (record { from = u.from2; to = u.to2; count = 2 }) (record { from = u.from; to = u.to; count = 1 })).count
-        ≡ length (cuts t (first_cut u bytes) (second_cut u bytes))
-    go true = refl
-    go false = refl
+    go : (o : Option Cut) → (last_from u.first o).count ≡ length (cuts (is_some o) (first_cut u bytes) (told_in o bytes))
+    go (Some s) = refl
+    go None = refl
 
 -- the last one's separator lies in the bytes
 pub last-lies : (u : Cuts) (bytes : List ℕ) → CutsLie u bytes
-    → ((last_of u).from ≤ (last_of u).to) × ((last_of u).to ≤ length bytes) × (part bytes (last_of u).from ((last_of u).to - (last_of u).from) ≡ pick u.three (second_cut u bytes) (first_cut u bytes))
-last-lies u bytes l = go u.three
+    → CutLies (last_of u).cut bytes × (cut_in (last_of u).cut bytes ≡ pick (three_in u) (second_cut u bytes) (first_cut u bytes))
+last-lies u bytes l = go u.second refl
   where
-    one : LastCut
-    one = record { from = u.from; to = u.to; count = 1 }
-
-    two : LastCut
-    two = record { from = u.from2; to = u.to2; count = 2 }
-
-    go : (t : Bool)
-        → ((pick {A = LastCut} t two one).from ≤ (pick {A = LastCut} t two one).to) × ((pick {A = LastCut} t two one).to ≤ length bytes)
-        × (part bytes (pick {A = LastCut} t two one).from ((pick {A = LastCut} t two one).to - (pick {A = LastCut} t two one).from) ≡ pick t (second_cut u bytes) (first_cut u bytes))
-    go true = (l.order2, l.inside2, refl)
-    go false = (l.order, l.inside, refl)
+    go : (o : Option Cut) → u.second ≡ o
+        → CutLies (last_from u.first o).cut bytes × (cut_in (last_from u.first o).cut bytes ≡ pick (is_some o) (told_in o bytes) (first_cut u bytes))
+    go (Some s) e = (l.second s e, refl)
+    go None e = (l.first, refl)
 
 -- so it is for what the code tells
 pub last_as : (u : Cuts) (bytes : List ℕ) (l : LastCut) → CutsLie u bytes → l ≡ last_of u
-    → (l.from ≤ l.to) × (l.to ≤ length bytes) × (part bytes l.from (l.to - l.from) ≡ pick u.three (second_cut u bytes) (first_cut u bytes))
-last_as u bytes l lie e = rw e (last-lies u bytes lie)
+    → (l.cut.from ≤ l.cut.to) × (l.cut.to ≤ length bytes) × (cut_in l.cut bytes ≡ pick (three_in u) (second_cut u bytes) (first_cut u bytes))
+last_as u bytes l lie e = let k = last-lies u bytes lie in rw e (k.0.order, k.0.inside, k.1)
 
 cuts-few : (three : Bool) (first second : List ℕ) → (1 ≤ length (cuts three first second)) × (length (cuts three first second) ≤ 2)
 cuts-few true first second = (omega arith, omega arith)
@@ -187,7 +166,7 @@ module _ (n i : ℕ) (u : Cuts) (bytes ib : List ℕ) (given : Divisible n i (cu
 
   -- what the cuts make of it
   abbrev first : List Entry
-  first = entry (first_cut u bytes) e.num ∷ pick u.three (entry (second_cut u bytes) (free_from free 0) ∷ []) []
+  first = entry (first_cut u bytes) e.num ∷ pick (three_in u) (entry (second_cut u bytes) (free_from free 0) ∷ []) []
 
   abbrev own : Entry
   own = entry e.sep (free_from free (length (cuts_in u bytes) - 1))
@@ -216,13 +195,13 @@ module _ (n i : ℕ) (u : Cuts) (bytes ib : List ℕ) (given : Divisible n i (cu
   new-entries =
       let q : parts_of seps (read_index w n ib).free e ++ post ≡ first ++ (own ∷ post) =
       ap (λ (fs : List ℕ). parts_of seps fs e ++ post) (free-are w n ib)
-      ∙ ap (λ (ps : List Entry). ps ++ post) (parts_are u.three (first_cut u bytes) (second_cut u bytes) free e (omega (arith, free-enough, free-long)))
+      ∙ ap (λ (ps : List Entry). ps ++ post) (parts_are (three_in u) (first_cut u bytes) (second_cut u bytes) free e (omega (arith, free-enough, free-long)))
       ∙ append_assoc first (own ∷ []) post in
       divided-entries (read_index w n ib) pre e post i seps old-entries (entries-long w ib (here_first ib) i) ∙ ap (λ (zs : List Entry). pre ++ zs) q
 
   -- there are as many as the cuts add
   first-many : length first ≡ length seps
-  first-many = go u.three
+  first-many = go (three_in u)
     where
       go : (t : Bool) → length (entry (first_cut u bytes) e.num ∷ pick t (entry (second_cut u bytes) (free_from free 0) ∷ []) []) ≡ length (cuts t (first_cut u bytes) (second_cut u bytes))
       go true = refl
@@ -242,7 +221,7 @@ module _ (n i : ℕ) (u : Cuts) (bytes ib : List ℕ) (given : Divisible n i (cu
       )
 
   pub many-few : (1 ≤ length (cuts_in u bytes)) × (length (cuts_in u bytes) ≤ 2)
-  many-few = cuts-few u.three (first_cut u bytes) (second_cut u bytes)
+  many-few = cuts-few (three_in u) (first_cut u bytes) (second_cut u bytes)
 
   -- ---- where the pass ends before the divided entry, and past it
 
@@ -258,19 +237,17 @@ module _ (n i : ℕ) (u : Cuts) (bytes ib : List ℕ) (given : Divisible n i (cu
   pub pre-short : Short (entries_here (width_for n) ib (here_first ib) i)
   pre-short = readable-short w ib (here_first ib) i reads_two.0
 
-  pub first_short : CutsLie u bytes → Short (entry (first_cut u bytes) e.num ∷ pick u.three (entry (second_cut u bytes) (free_from free 0) ∷ []) [])
+  pub first_short : CutsLie u bytes → Short (entry (first_cut u bytes) e.num ∷ pick (three_in u) (entry (second_cut u bytes) (free_from free 0) ∷ []) [])
   unfolding every
-  first_short lie = go u.three
+  first_short lie = go u.second refl
     where
-      one : leb (length (first_cut u bytes)) 255 ≡ true
-      one = le-leb (length (first_cut u bytes)) 255 (omega (arith, length-take (u.to - u.from) (drop u.from bytes), lie.short))
+      short : (c : Cut) → CutLies c bytes → leb (length (cut_in c bytes)) 255 ≡ true
+      short c l = le-leb (length (cut_in c bytes)) 255 (omega (arith, length-take (c.to - c.from) (drop c.from bytes), l.short))
 
-      two : leb (length (second_cut u bytes)) 255 ≡ true
-      two = le-leb (length (second_cut u bytes)) 255 (omega (arith, length-take (u.to2 - u.from2) (drop u.from2 bytes), lie.short2))
-
-      go : (t : Bool) → Short (entry (first_cut u bytes) e.num ∷ pick t (entry (second_cut u bytes) (free_from free 0) ∷ []) [])
-      go true = rw (one, two)
-      go false = rw one
+      go : (o : Option Cut) → u.second ≡ o
+          → Short (entry (first_cut u bytes) e.num ∷ pick (is_some o) (entry (told_in o bytes) (free_from free 0) ∷ []) [])
+      go (Some s) h = rw (short u.first lie.first, short s (lie.second s h))
+      go None h = rw (short u.first lie.first)
 
   -- all of the new ones have short separators
   pub new-short : CutsLie u bytes → Short (new_meaning (width_for n) n ib i (cuts_in u bytes)).entries

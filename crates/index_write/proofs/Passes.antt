@@ -1,16 +1,14 @@
 -- One stage after another puts all entries of a divided record: the pass before the divided entry, its cuts, its own separator, the pass after it. Each begins where
 -- the one before it ended, and together they make the draft of all of them.
-use Prim.Native.Nat.{ℕ, zero, suc, ◌+◌, ◌-◌, ◌*◌, ◌≤◌, ◌<◌, min}
+use Prim.Native.Nat.{ℕ, ◌+◌, ◌-◌, ◌≤◌, ◌<◌}
 use mathlib.Core.Path.{◌≡◌, refl, ◌∙◌, sym, ap, subst}
 use mathlib.Core.Bool.{Bool, true, false}
-use mathlib.Core.Logic.{◌⊎◌, inl, inr}
 use mathlib.Core.List.{List, [], ◌∷◌, ◌++◌}
-use lib.ListN.{length, get_or, take, drop, length-take}
+use lib.ListN.{length, get_or, take}
 use native.Mathlib.Omega.{arith}
 use Rattle.fields.specs.Choice.{pick}
-use Rattle.fields.specs.Bytes.{part}
 use Rattle.fields.specs.Order.{common}
-use Rattle.measures.specs.Judgement.{limit, width_for}
+use Rattle.measures.specs.Judgement.{width_for}
 use Rattle.measures.proofs.Width.{width_some, width-most}
 use Rattle.index.specs.Meaning.{Entry, entry, separator_before}
 use Rattle.index.specs.Reading.{free_count, numbers_at}
@@ -21,22 +19,22 @@ use Rattle.sections.proofs.Roots.{root-some}
 use Rattle.index_step.specs.declared.PassPlace.{PassPlace}
 use Rattle.index_step.specs.declared.Step.{Step}
 use Rattle.index_step.specs.AidStep.{place_start, step_at, place_past, EntryEnds, reach, Renewed}
-use Rattle.index_step.specs.AidEntries.{Here, here_first, sep_here, entry_here, here_next, here_after, entries_here, Held}
-use Rattle.index_step.proofs.Passing.{after-ref, held-lies, held-step, step-few, step-long, step_past, step-renews, held_on, held-front}
+use Rattle.index_step.specs.AidEntries.{Here, here_first, entry_here, here_next, here_after, entries_here, Held}
+use Rattle.index_step.proofs.Passing.{after-ref, held-lies, held-step, step_past, step-renews, held_on}
 use Rattle.index_step.proofs.Stepping.{held_start}
 use Rattle.index_pen.specs.declared.Pen.{Pen}
 use Rattle.index_pen.specs.AidPen.{Puts, pen_begun, part_at, pen_on, top_on, bytes_on}
-use Rattle.index_pen.specs.AidStream.{Reached, parts_by}
+use Rattle.index_pen.specs.AidStream.{parts_by}
 use Rattle.index_pen.specs.AidHeld.{Holds}
 use Rattle.index_pen.proofs.Drawing.{standing, packed-drawn}
 use Rattle.index_pen.proofs.Holding.{holds-none}
 use Rattle.index_write.specs.declared.Cuts.{Cuts}
 use Rattle.index_write.specs.declared.Division.{Division}
 use Rattle.index_write.specs.declared.Cursor.{Cursor}
-use Rattle.index_write.specs.AidStream.{first_cut, second_cut, cuts_in, CutsLie, FreeLie, cut_entries, Draft, draft_put, draft_all, draft_of, Drawn, Puttable, here_of, draft_here, CursorStands, Ran, Cuttable}
-use Rattle.index_write.specs.AidDivided.{Divisible, new_record, new_entries, new_size, AllFit, AllPut}
-use Rattle.index_write.proofs.Drafting.{Short, draft-puts, draft-room, draft-on, draft-fits, ref-put, draft-append, draft-ref, draft-size, width-put, width-all, fitting-first, fitting-second, sizes-most, drawn-self, draft-holds}
-use Rattle.index_write.proofs.Dividing.{free_from, free-lies, free-enough, free-few, there, reads_at, reads_first, new-entries, new-many, many-few, inside-at, inside_past, pre-short, first_short, new-short}
+use Rattle.index_write.specs.AidStream.{first_cut, second_cut, three_in, cuts_in, CutsLie, FreeLie, cut_entries, Draft, draft_put, draft_all, draft_of, Drawn, Puttable, here_of, CursorStands, Ran, Cuttable}
+use Rattle.index_write.specs.AidDivided.{Divisible, new_record, AllFit, AllPut}
+use Rattle.index_write.proofs.Drafting.{draft-puts, draft-room, draft-on, draft-fits, ref-put, draft-append, draft-ref, draft-size, width-put, width-all, fitting-first, fitting-second, sizes-most, drawn-self, draft-holds}
+use Rattle.index_write.proofs.Dividing.{free_from, free-lies, free-enough, reads_at, reads_first, new-entries, new-many, many-few, inside-at, inside_past, pre-short, first_short, new-short}
 
 -- ---- the code's state and what it stands for
 
@@ -121,7 +119,7 @@ module _ (n i : ℕ) (u : Cuts) (bytes ib b : List ℕ) (given : Divisible n i (
   free = numbers_at (width_for n) ib 24 (free_count (width_for n) ib)
 
   abbrev first : List Entry
-  first = entry (first_cut u bytes) e.num ∷ pick u.three (entry (second_cut u bytes) (free_from free 0) ∷ []) []
+  first = entry (first_cut u bytes) e.num ∷ pick (three_in u) (entry (second_cut u bytes) (free_from free 0) ∷ []) []
 
   abbrev own : Entry
   own = entry e.sep (free_from free (length (cuts_in u bytes) - 1))
@@ -233,7 +231,7 @@ module _ (n i : ℕ) (u : Cuts) (bytes ib b : List ℕ) (given : Divisible n i (
           first-is : cut_entries d bytes ≡ first
           first-is =
               ap (λ (y : Division). cut_entries y bytes) d-is
-              ∙ ap (λ (m : ℕ). entry (first_cut u bytes) m ∷ pick u.three (entry (second_cut u bytes) (free_from free 0) ∷ []) []) (ap (λ (y : Step). y.number) is)
+              ∙ ap (λ (m : ℕ). entry (first_cut u bytes) m ∷ pick (three_in u) (entry (second_cut u bytes) (free_from free 0) ∷ []) []) (ap (λ (y : Step). y.number) is)
 
           pub cuts-stand : Cuttable b1 c.pen top1 (take c.place.len buf1) bytes d
           cuts-stand =
@@ -253,11 +251,11 @@ module _ (n i : ℕ) (u : Cuts) (bytes ib b : List ℕ) (given : Divisible n i (
 
             -- the last cut's separator
             abbrev last_cut : List ℕ
-            last_cut = pick u.three (second_cut u bytes) (first_cut u bytes)
+            last_cut = pick (three_in u) (second_cut u bytes) (first_cut u bytes)
 
             ref-2 : x2.reached.ref ≡ last_cut
             unfolding separator_before
-            ref-2 = draft-ref x1 first ∙ go u.three
+            ref-2 = draft-ref x1 first ∙ go (three_in u)
               where
                 go : (t : Bool)
                     → separator_before x1.reached.ref (entry (first_cut u bytes) e.num ∷ pick t (entry (second_cut u bytes) (free_from free 0) ∷ []) [])

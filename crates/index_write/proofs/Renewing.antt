@@ -1,7 +1,7 @@
 -- Laws of the whole record that is written anew: what was stored over the old one makes the writer's form of the new meaning, byte for byte.
 use Prim.Native.Nat.{ℕ, ◌+◌, ◌-◌, ◌*◌, ◌^◌, ◌≤◌, ◌<◌}
 use mathlib.Core.Path.{◌≡◌, refl, ◌∙◌, sym, ap, subst}
-use mathlib.Core.Bool.{Bool, true, false}
+use mathlib.Core.Bool.{true}
 use mathlib.Core.List.{List, [], ◌∷◌, ◌++◌, append_assoc}
 use lib.ListN.{length, get_or, take, drop, replicate, length-append, length-replicate}
 use lib.Seq.{length-take-le, take_at, drop_at, take-append-le, drop-append-le, take-take, take-add}
@@ -25,17 +25,15 @@ use Rattle.sections.specs.Form.{packed_all, index_size, index_bytes}
 use Rattle.sections.specs.Reading.{read_index}
 use Rattle.sections.specs.Divided.{new_meaning}
 use Rattle.sections.proofs.Sounding.{Sound, sound-apart}
-use Rattle.sections.proofs.Apart.{free-are}
 use Rattle.sections.proofs.Sizes.{length-parts_bytes}
-use Rattle.sections.proofs.Laying.{ahead-most, closed_some}
+use Rattle.sections.proofs.Laying.{closed_some}
 use Rattle.sections.proofs.Forming.{all_closed}
 use Rattle.index_pen.specs.declared.Pen.{Pen}
 use Rattle.index_pen.specs.AidHeld.{Holds}
 use Rattle.index_pen.proofs.Fielding.{bytes_whole, lead-last, lead-most}
 use Rattle.index_write.specs.AidStream.{cuts_in}
-use Rattle.index_write.specs.AidDivided.{Divisible, new_record, new_size, AllFit, AllPut}
+use Rattle.index_write.specs.AidDivided.{Divisible, new_size, AllFit, AllPut}
 use Rattle.index_write.specs.declared.Cuts.{Cuts}
-use Rattle.index_write.specs.declared.Job.{Job}
 use Rattle.index_write.proofs.Taking.{take-numbers_at}
 use Rattle.index_write.proofs.Dividing.{new-many, free-enough, there}
 
@@ -274,13 +272,6 @@ module _ (n i : ℕ) (cut : Cuts) (bytes ib : List ℕ) (d : Divisible n i (cuts
 
           first-is : pen.first ≡ length ib - 7 - ahead (width_for n) (packed_all new.entries)
           first-is = omega (arith, holds.first (closed_some (packed_all new.entries) closed))
-
-          -- both are displacements of two bytes
-          pub places-small : (pen.last < 65536) × (pen.first < 65536)
-          places-small = (
-            omega (arith, holds.last (closed_some (packed_all new.entries) closed), lead-most W (packed_all new.entries) (closed_some (packed_all new.entries) closed), holds.room, d.small),
-            omega (arith, first-is, d.small),
-          )
 
           pub divided-is : (b2 b3 b4 b5 : List ℕ) → Octets ib
               → b2 ≡ splice b1 (24 + w * (count - more)) (replicate (length ib - 7 - pen.size - (24 + w * (count - more))) 0)

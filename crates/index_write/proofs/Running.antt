@@ -142,13 +142,13 @@ module _ {w : ℕ} {ib : List ℕ} {c : Cursor} {b₀ buf₀ high₀ top₀ : Li
 
         pub going_on : (pen' : Pen) (top' b' : List ℕ) → pen' ≡ pen_on (length b - 7) pen (part_at pen top f (take (s.front + s.len) buf') s.number)
             → top' ≡ top_on pen (take (s.front + s.len) buf') top → b' ≡ bytes_on b pen (part_at pen top f (take (s.front + s.len) buf') s.number)
-            → (q : PassPlace) → q ≡ place_past ib s p → Going w ib c b₀ buf₀ high₀ top₀ q pen' (left - 1) b' buf' high' top'
+            → (q : PassPlace) → q ≡ place_past ib s p → (k : ℕ) → k ≡ left - 1 → Going w ib c b₀ buf₀ high₀ top₀ q pen' k b' buf' high' top'
         unfolding here_after draft_all
-        going_on pen' top' b' pen-is top-is b-is q q-is =
+        going_on pen' top' b' pen-is top-is b-is q q-is k k-is =
             let on : Drawn (draft_put x (entry sep num)) b' pen' top' =
             draft-on x b pen top g.drawn f sep num (entries_here w ib (here_next w ib h) (left - 1)) front-is short fitting-two pen' top' b'
             (rw sep-is at pen-is) (rw sep-is at top-is) (rw (sep-is, number_is) at b-is) in
-            record {
+            rw k-is (record {
               here = here_next w ib h;
               draft = draft_put x (entry sep num);
               held = rw q-is (held_on w ib h p buf high g.held g.inside reads_two.0 s is buf' high' new);
@@ -160,4 +160,4 @@ module _ {w : ℕ} {ib : List ℕ} {c : Cursor} {b₀ buf₀ high₀ top₀ : Li
               fitting = draft-fits x b pen top g.drawn f sep num (entries_here w ib (here_next w ib h) (left - 1)) front-is short fitting-two;
               after = g.after ∙ ap (λ (k : ℕ). here_after w ib h k) left_is;
               all = g.all ∙ ap (λ (es : List Entry). draft_all x es) entries-two;
-            }
+            })

@@ -1,6 +1,6 @@
 -- Aids: where the writer's passes stand, and what they put. `new_meaning`, `index_size` and `index_bytes` of crate sections are what is believed: document 02, L5, and
 -- document 01, 'Dividing an interval'.
-use Rattle.std.specs.Prelude.{ℕ, ◌+◌, ◌-◌, ◌*◌, ◌≤◌, ◌<◌, ◌≡◌, true, List, [], ◌∷◌, ◌++◌, length, take}
+use Rattle.std.specs.Prelude.{ℕ, ◌+◌, ◌-◌, ◌*◌, ◌≤◌, ◌<◌, ◌≡◌, Bool, true, Option, Some, None, is_some, List, [], ◌∷◌, length, take}
 use Rattle.fields.specs.Choice.{pick}
 use Rattle.fields.specs.Bytes.{part}
 use Rattle.index.specs.Bounds.{cut_separator}
@@ -17,6 +17,7 @@ use Rattle.index_pen.specs.AidPen.{pen_on, bytes_on}
 use Rattle.index_pen.specs.AidStream.{Reached, part_next, reached_next, parts_by}
 use Rattle.index_pen.specs.AidHeld.{Kept, Penned}
 use Rattle.index_write.specs.declared.Cursor.{Cursor}
+use Rattle.index_write.specs.declared.Cut.{Cut}
 use Rattle.index_write.specs.declared.Cuts.{Cuts}
 use Rattle.index_write.specs.declared.Division.{Division}
 use Rattle.index_write.specs.declared.LastCut.{LastCut}
@@ -33,33 +34,49 @@ renewed_by ib s buf high = joined_of s.front (pick s.closes high buf) ib s.at s.
 
 -- ---- the cuts
 
--- the separators that the cuts' places tell
+-- the separator that a cut's place tells; none where there is no cut
+abbrev pub cut_in : Cut → List ℕ → List ℕ
+cut_in c bytes = part bytes c.from (c.to - c.from)
+
+abbrev pub told_in : Option Cut → List ℕ → List ℕ
+told_in None bytes = []
+told_in (Some c) bytes = cut_in c bytes
+
 abbrev pub first_cut : Cuts → List ℕ → List ℕ
-first_cut c bytes = part bytes c.from (c.to - c.from)
+first_cut c bytes = cut_in c.first bytes
 
 abbrev pub second_cut : Cuts → List ℕ → List ℕ
-second_cut c bytes = part bytes c.from2 (c.to2 - c.from2)
+second_cut c bytes = told_in c.second bytes
+
+-- whether there are two, which make three parts
+abbrev pub three_in : Cuts → Bool
+three_in c = is_some c.second
 
 abbrev pub cuts_in : Cuts → List ℕ → List (List ℕ)
-cuts_in c bytes = cuts c.three (first_cut c bytes) (second_cut c bytes)
+cuts_in c bytes = cuts (three_in c) (first_cut c bytes) (second_cut c bytes)
 
 -- the last one
+abbrev pub last_from : Cut → Option Cut → LastCut
+last_from one None = record { cut = one; count = 1 }
+last_from one (Some two) = record { cut = two; count = 2 }
+
 abbrev pub last_of : Cuts → LastCut
-last_of c = pick c.three (record { from = c.from2; to = c.to2; count = 2 }) (record { from = c.from; to = c.to; count = 1 })
+last_of c = last_from c.first c.second
 
 -- they lie in the bytes, and are short
-pub record CutsLie (c : Cuts) (bytes : List ℕ) : Type 0 where
+pub record CutLies (c : Cut) (bytes : List ℕ) : Type 0 where
   pub order : c.from ≤ c.to
   pub inside : c.to ≤ length bytes
   pub short : c.to ≤ c.from + 255
-  pub order2 : c.from2 ≤ c.to2
-  pub inside2 : c.to2 ≤ length bytes
-  pub short2 : c.to2 ≤ c.from2 + 255
+
+pub record CutsLie (c : Cuts) (bytes : List ℕ) : Type 0 where
+  pub first : CutLies c.first bytes
+  pub second : (s : Cut) → c.second ≡ Some s → CutLies s bytes
 
 -- the entries that they make, but for the last
 abbrev pub cut_entries : Division → List ℕ → List Entry
 cut_entries d bytes =
-    entry (first_cut d.cuts bytes) d.number ∷ pick d.cuts.three (entry (second_cut d.cuts bytes) d.taken ∷ []) []
+    entry (first_cut d.cuts bytes) d.number ∷ pick (three_in d.cuts) (entry (second_cut d.cuts bytes) d.taken ∷ []) []
 
 -- the free numbers lie where the displacement says
 abbrev pub FreeLie : ℕ → List ℕ → Type 0

@@ -39,38 +39,36 @@ pub(crate) struct Division {
     taken: usize,
 }
 
-// The separators of the cuts, as parts of some bytes: one cut, or two.
+// The separator of a cut, as part of some bytes.
 #[derive(Clone, Copy)]
-pub struct Cuts {
-    pub three: bool,
+pub struct Cut {
     pub from: usize,
     pub to: usize,
-    pub from2: usize,
-    pub to2: usize,
 }
 
-// The last cut: where its separator lies, and how many cuts there are.
+// One cut, or two.
+#[derive(Clone, Copy)]
+pub struct Cuts {
+    pub first: Cut,
+    pub second: Option<Cut>,
+}
+
+// The last cut, and how many cuts there are.
 #[derive(Clone, Copy)]
 pub(crate) struct LastCut {
-    from: usize,
-    to: usize,
+    cut: Cut,
     count: usize,
 }
 
 pub(crate) fn last_cut(cuts: Cuts) -> LastCut
     ensures { result ≡ last_of cuts }
 {
-    if cuts.three {
-        return LastCut {
-            from: cuts.from2,
-            to: cuts.to2,
-            count: 2,
-        };
-    }
-    LastCut {
-        from: cuts.from,
-        to: cuts.to,
-        count: 1,
+    match cuts.second {
+        Some(cut) => LastCut { cut, count: 2 },
+        None => LastCut {
+            cut: cuts.first,
+            count: 1,
+        },
     }
 }
 
@@ -88,7 +86,7 @@ pub fn taken(ib: &[u8], w: usize, k: usize) -> usize
     requires { (1 ≤ w) × (w ≤ 4) × (k < free_count w ib.now) × FreeLie w ib.now }
     ensures { (result ≡ get_or (numbers_at w ib.now 24 (free_count w ib.now)) (free_count w ib.now - (k + 1)) 0) × (result < 256 ^ w) }
 {
-    let u = fields::read_two(ib, 18);
+    let u = fields::read::<2>(ib, 18);
     fields::read_pointer(ib, u - w * (k + 1), w)
 }
 
@@ -154,19 +152,18 @@ fn run(
     let mut p = c.place;
     let mut pen = c.pen;
     let w = pen.width;
-    let mut left = c.count;
-    while 0 < left {
+    let count = c.count;
+    for _ in 0..count {
         let s = index_step::entry_at(ib, w, p);
         let f = renew(buf, p.len, high, ib, s);
         let z = s.front + s.len;
         pen = index_pen::put(b, pen, top, f, &buf[..z], s.number);
         p = index_step::past(ib, s, p);
-        left -= 1;
     }
     Cursor {
         place: p,
         pen,
-        count: left,
+        count: 0,
     }
 }
 
@@ -175,16 +172,14 @@ fn put_cuts(b: &mut [u8], pen: Pen, top: &mut [u8], prev: &[u8], bytes: &[u8], d
     requires { Cuttable b.old pen top.old prev.now bytes.now d }
     ensures { Drawn (draft_all (draft_of b.old pen top.old prev.now) (cut_entries d bytes.now)) b.new result top.new }
 {
-    let cuts = d.cuts;
-    let from = cuts.from;
-    let to = cuts.to;
-    let one = put_after(b, pen, top, prev, &bytes[from..to], d.number);
-    if !cuts.three {
+    let Cut { from, to } = d.cuts.first;
+    let first = &bytes[from..to];
+    let one = put_after(b, pen, top, prev, first, d.number);
+    let Some(second) = d.cuts.second else {
         return one;
-    }
-    let from2 = cuts.from2;
-    let to2 = cuts.to2;
-    put_after(b, one, top, &bytes[from..to], &bytes[from2..to2], d.taken)
+    };
+    let Cut { from, to } = second;
+    put_after(b, one, top, first, &bytes[from..to], d.taken)
 }
 
 // Puts all entries as they are once entry i is divided; lent no record, it only counts them. The divided entry's own separator comes last among its parts, under the last number taken.
@@ -216,8 +211,7 @@ fn put_all(b: &mut [u8], ib: &[u8], job: Job, bytes: &[u8], cuts: Cuts) -> Pen
     index_step::renew(&mut buf, &mut high, ib, s);
     let q = index_step::past(ib, s, p);
     let end = q.len;
-    let from = last.from;
-    let to = last.to;
+    let Cut { from, to } = last.cut;
     let own = taken(ib, w, last.count - 1);
     let parted = put_after(b, cut, &mut top, &bytes[from..to], &buf[..end], own);
     let e = Cursor {
@@ -260,37 +254,20 @@ pub(crate) fn divide_by(ib: &mut [u8], n: usize, i: usize, bytes: &[u8], cuts: C
     let pen = put_all(ib, &old[..size], job, bytes, cuts);
     let e = size - 7 - pen.size;
     fields::fill(ib, u, e, 0);
-    fields::write_two(ib, 18, u);
-    fields::write_two(ib, 20, pen.last);
-    fields::write_two(ib, 22, pen.first);
+    fields::write(ib, 18, 2, u);
+    fields::write(ib, 20, 2, pen.last);
+    fields::write(ib, 22, 2, pen.first);
 }
 
-pub(crate) fn divide_small(ib: &mut [u8], n: usize, i: usize, bytes: &[u8], cuts: Cuts)
+// Out of line, so that a caller's frame has no room for the copies that other sizes ask for.
+#[inline(never)]
+fn divide_sized<const N: usize>(ib: &mut [u8], n: usize, i: usize, bytes: &[u8], cuts: Cuts)
     requires divisible { Divisible n i (cuts_in cuts bytes.now) ib.old × CutsLie cuts bytes.now }
     requires room { index_size (width_for n) (new_record n ib.old i cuts bytes.now) ≤ length ib.old - 7 }
-    requires short { length ib.old ≤ 512 }
+    requires short { (length ib.old ≤ N) × (N ≤ 32768) }
     ensures { ib.new ≡ index_bytes (width_for n) (length ib.old) (new_record n ib.old i cuts bytes.now) }
 {
-    let mut old = [0u8; 512];
-    divide_by(ib, n, i, bytes, cuts, &mut old)
-}
-
-pub(crate) fn divide_middling(ib: &mut [u8], n: usize, i: usize, bytes: &[u8], cuts: Cuts)
-    requires divisible { Divisible n i (cuts_in cuts bytes.now) ib.old × CutsLie cuts bytes.now }
-    requires room { index_size (width_for n) (new_record n ib.old i cuts bytes.now) ≤ length ib.old - 7 }
-    requires short { length ib.old ≤ 4096 }
-    ensures { ib.new ≡ index_bytes (width_for n) (length ib.old) (new_record n ib.old i cuts bytes.now) }
-{
-    let mut old = [0u8; 4096];
-    divide_by(ib, n, i, bytes, cuts, &mut old)
-}
-
-pub(crate) fn divide_large(ib: &mut [u8], n: usize, i: usize, bytes: &[u8], cuts: Cuts)
-    requires divisible { Divisible n i (cuts_in cuts bytes.now) ib.old × CutsLie cuts bytes.now }
-    requires room { index_size (width_for n) (new_record n ib.old i cuts bytes.now) ≤ length ib.old - 7 }
-    ensures { ib.new ≡ index_bytes (width_for n) (length ib.old) (new_record n ib.old i cuts bytes.now) }
-{
-    let mut old = [0u8; 32768];
+    let mut old = [0u8; N];
     divide_by(ib, n, i, bytes, cuts, &mut old)
 }
 
@@ -301,12 +278,12 @@ pub fn divide(ib: &mut [u8], n: usize, i: usize, bytes: &[u8], cuts: Cuts)
     ensures { ib.new ≡ index_bytes (width_for n) (length ib.old) (new_record n ib.old i cuts bytes.now) }
 {
     if ib.len() <= 512 {
-        divide_small(ib, n, i, bytes, cuts);
+        divide_sized::<512>(ib, n, i, bytes, cuts);
         return;
     }
     if ib.len() <= 4096 {
-        divide_middling(ib, n, i, bytes, cuts);
+        divide_sized::<4096>(ib, n, i, bytes, cuts);
         return;
     }
-    divide_large(ib, n, i, bytes, cuts);
+    divide_sized::<32768>(ib, n, i, bytes, cuts);
 }

@@ -11,8 +11,8 @@ use borrow.Author.Tests.{le-ltb}
 use Rattle.fields.specs.Choice.{pick}
 use Rattle.fields.specs.Bytes.{Octets}
 use Rattle.fields.specs.Order.{order_of, is_less, less}
-use Rattle.fields.specs.declared.Order.{Order}
-use Rattle.fields.specs.declared.Order.TheVariants.{Less, Same, Greater}
+use Rattle.std.specs.declared.cmp.Ordering.{Ordering}
+use Rattle.std.specs.declared.cmp.Ordering.TheVariants.{Less, Equal, Greater}
 use Rattle.fields.proofs.Orders.{and_then, order-front}
 use Rattle.fields.proofs.Octets.{octets-append, octets-replicate, octets-drop}
 use Rattle.interval.specs.Bounds.{bound}
@@ -51,9 +51,9 @@ unfolding bound
 empty-highest K key h o = let e : K - 0 ≡ length key = omega arith in rw e (top-not-less key o)
 
 -- what follows decides nothing where it isn't below
-pub less_then : (o p : Order) → is_less p ≡ false → is_less (and_then o p) ≡ is_less o
+pub less_then : (o p : Ordering) → is_less p ≡ false → is_less (and_then o p) ≡ is_less o
 less_then Less p h = refl
-less_then Same p h = h
+less_then Equal p h = h
 less_then Greater p h = refl
 
 -- THE SEARCH RULE IS THE BOUND RULE: a separator is below the key's first bytes, as many as it has, exactly where its bound is below the key.

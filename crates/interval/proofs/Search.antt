@@ -10,8 +10,8 @@ use native.Mathlib.Omega.{arith}
 use Rattle.fields.specs.Choice.{pick, either}
 use Rattle.fields.specs.Order.{order_of, is_less, less, flip}
 use Rattle.fields.specs.Lists.{concat, every}
-use Rattle.fields.specs.declared.Order.{Order}
-use Rattle.fields.specs.declared.Order.TheVariants.{Less, Same, Greater}
+use Rattle.std.specs.declared.cmp.Ordering.{Ordering}
+use Rattle.std.specs.declared.cmp.Ordering.TheVariants.{Less, Equal, Greater}
 use Rattle.fields.proofs.Choices.{both-split, false-true, pick_true, pick-false}
 use Rattle.fields.proofs.Orders.{order_flip, order_same, less-asym}
 use Rattle.measures.specs.declared.Measures.{Measures}
@@ -20,9 +20,9 @@ use Rattle.interval.specs.Search.{is_same, lower, holds, start_of, place_of, all
 use Rattle.interval.specs.declared.Found.TheVariants.{At, Gap}
 use Rattle.interval.proofs.Ascending.{ascend-tail, ascend-above}
 
-greater-same : (o : Order) → is_less o ≡ true → is_same (flip o) ≡ false
+greater-same : (o : Ordering) → is_less o ≡ true → is_same (flip o) ≡ false
 greater-same Less h = refl
-greater-same Same h = absurd (false-true h)
+greater-same Equal h = absurd (false-true h)
 greater-same Greater h = refl
 
 -- records whose keys are all above: none is below, none has the key
@@ -75,14 +75,14 @@ pub held : (m : Measures) (key : List ℕ) (rs : List (List ℕ)) → ascending 
 held m key [] up h = absurd (none-held m key h)
 held m key (r ∷ rs) up h = go (order_of (key_of m r) key) refl (λ (g : holds m key rs ≡ true). held m key rs (ascend-tail (key_of m r) (keys_of m rs) up) g)
   where
-    go : (o : Order) → order_of (key_of m r) key ≡ o
+    go : (o : Ordering) → order_of (key_of m r) key ≡ o
         → (holds m key rs ≡ true → (lower m key rs < length rs) × (key_of m (get_or rs (lower m key rs) []) ≡ key))
         → (lower m key (r ∷ rs) < suc (length rs)) × (key_of m (get_or (r ∷ rs) (lower m key (r ∷ rs)) []) ≡ key)
     go Less e i =
         let f = first-less m key r rs e in
         let j = i (sym f.1 ∙ h) in
         rw f.0 (omega (arith, j.0), j.1)
-    go Same e i = rw (first-lower m key r rs up (ap is_less e)) (omega arith, order_same (key_of m r) key e)
+    go Equal e i = rw (first-lower m key r rs up (ap is_less e)) (omega arith, order_same (key_of m r) key e)
     go Greater e i = absurd (false-true (sym (first_holds m key r rs up (ap is_less e) ∙ ap is_same e) ∙ h))
 
 pub lower-most : (m : Measures) (key : List ℕ) (rs : List (List ℕ)) → lower m key rs ≤ length rs
@@ -100,10 +100,10 @@ unfolding every
 lower-below m key [] up = rw take-nil
 lower-below m key (r ∷ rs) up = go (order_of (key_of m r) key) refl (lower-below m key rs (ascend-tail (key_of m r) (keys_of m rs) up))
   where
-    go : (o : Order) → order_of (key_of m r) key ≡ o → all_below key (keys_of m (take (lower m key rs) rs)) ≡ true
+    go : (o : Ordering) → order_of (key_of m r) key ≡ o → all_below key (keys_of m (take (lower m key rs) rs)) ≡ true
         → all_below key (keys_of m (take (lower m key (r ∷ rs)) (r ∷ rs))) ≡ true
     go Less e i = rw ((first-less m key r rs e).0, e) i
-    go Same e i = rw (first-lower m key r rs up (ap is_less e))
+    go Equal e i = rw (first-lower m key r rs up (ap is_less e))
     go Greater e i = rw (first-lower m key r rs up (ap is_less e))
 
 -- and those from there on are above, where no record has the key
@@ -113,11 +113,11 @@ unfolding every
 lower-above m key [] up h = rw drop-nil
 lower-above m key (r ∷ rs) up h = go (order_of (key_of m r) key) refl (λ (g : holds m key rs ≡ false). lower-above m key rs (ascend-tail (key_of m r) (keys_of m rs) up) g)
   where
-    go : (o : Order) → order_of (key_of m r) key ≡ o
+    go : (o : Ordering) → order_of (key_of m r) key ≡ o
         → (holds m key rs ≡ false → above key (keys_of m (drop (lower m key rs) rs)) ≡ true)
         → above key (keys_of m (drop (lower m key (r ∷ rs)) (r ∷ rs))) ≡ true
     go Less e i = let f = first-less m key r rs e in rw f.0 (i (sym f.1 ∙ h))
-    go Same e i = absurd (false-true (sym h ∙ first_holds m key r rs up (ap is_less e) ∙ ap is_same e))
+    go Equal e i = absurd (false-true (sym h ∙ first_holds m key r rs up (ap is_less e) ∙ ap is_same e))
     go Greater e i =
         let g : less key (key_of m r) ≡ true = ap is_less (order_flip (key_of m r) key ∙ ap flip e) in
         rw (first-lower m key r rs up (ap is_less e), g) (rest-above m key r rs up (ap is_less e))
@@ -128,11 +128,11 @@ pub lower-beyond : (m : Measures) (key : List ℕ) (rs : List (List ℕ)) → as
 lower-beyond m key [] up h = absurd (none-held m key h)
 lower-beyond m key (r ∷ rs) up h = go (order_of (key_of m r) key) refl (λ (g : holds m key rs ≡ true). lower-beyond m key rs (ascend-tail (key_of m r) (keys_of m rs) up) g)
   where
-    go : (o : Order) → order_of (key_of m r) key ≡ o
+    go : (o : Ordering) → order_of (key_of m r) key ≡ o
         → (holds m key rs ≡ true → above key (keys_of m (drop (suc (lower m key rs)) rs)) ≡ true)
         → above key (keys_of m (drop (lower m key (r ∷ rs)) rs)) ≡ true
     go Less e i = let f = first-less m key r rs e in rw f.0 (i (sym f.1 ∙ h))
-    go Same e i = rw (first-lower m key r rs up (ap is_less e)) (rest-above m key r rs up (ap is_less e))
+    go Equal e i = rw (first-lower m key r rs up (ap is_less e)) (rest-above m key r rs up (ap is_less e))
     go Greater e i = rw (first-lower m key r rs up (ap is_less e)) (rest-above m key r rs up (ap is_less e))
 
 -- a record lies in the bytes of all

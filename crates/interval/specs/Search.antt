@@ -1,21 +1,19 @@
 -- Where a key stands among records: document 01, 'Data interval'. Nothing here says how it is found.
-use Rattle.std.specs.Prelude.{ℕ, ◌+◌, ◌≤◌, ◌<◌, Bool, true, false, List, [], ◌∷◌, length, get_or, take, eqb}
+use Rattle.std.specs.Prelude.{ℕ, ◌+◌, ◌≤◌, ◌<◌, Bool, true, false, Option, Some, None, List, [], ◌∷◌, length, get_or, take, eqb}
 use Rattle.fields.specs.Choice.{pick, either}
 use Rattle.fields.specs.Order.{order_of, less}
 use Rattle.fields.specs.Lists.{concat, every}
-use Rattle.fields.specs.declared.Order.{Order}
-use Rattle.fields.specs.declared.Order.TheVariants.{Less, Same, Greater}
+use Rattle.std.specs.declared.cmp.Ordering.{Ordering}
+use Rattle.std.specs.declared.cmp.Ordering.TheVariants.{Less, Equal, Greater}
 use Rattle.measures.specs.declared.Measures.{Measures}
 use Rattle.interval.specs.Records.{key_of}
 use Rattle.interval.specs.declared.Found.{Found}
 use Rattle.interval.specs.declared.Found.TheVariants.{At, Gap}
-use Rattle.interval.specs.declared.Started.{Started}
-use Rattle.interval.specs.declared.Started.TheVariants.{Here, Nothing}
 
 -- two keys are the same
-abbrev pub is_same : Order → Bool
+abbrev pub is_same : Ordering → Bool
 is_same Less = false
-is_same Same = true
+is_same Equal = true
 is_same Greater = false
 
 -- how many records have a key below the given one
@@ -54,12 +52,12 @@ starting_at place from [] = []
 starting_at place from (r ∷ rs) =
     pick (eqb from place) (r ∷ starting_at place (from + length r) rs) (starting_at place (from + length r) rs)
 
--- the length of the record that begins there
-abbrev pub started_of : List (List ℕ) → Started
-started_of [] = Nothing
-started_of (r ∷ rs) = Here (length r)
+-- the length of the record that begins there, if one does
+abbrev pub started_of : List (List ℕ) → Option ℕ
+started_of [] = None
+started_of (r ∷ rs) = Some (length r)
 
 -- it ends within so many bytes
-abbrev pub Ends : ℕ → ℕ → Started → Type 0
-Ends bytes place (Here len) = place + len ≤ bytes
-Ends bytes place Nothing = Unit {0}
+abbrev pub Ends : ℕ → ℕ → Option ℕ → Type 0
+Ends bytes place (Some len) = place + len ≤ bytes
+Ends bytes place None = Unit {0}

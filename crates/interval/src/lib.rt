@@ -14,10 +14,3 @@ pub enum Found {
         start: usize,
     },
 }
-
-// The record that begins at a place, or that none does.
-#[derive(Clone, Copy)]
-pub enum Started {
-    Here { length: usize },
-    Nothing,
-}

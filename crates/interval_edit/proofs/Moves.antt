@@ -1,75 +1,24 @@
--- Lengths moved by one place, one after another: what has been moved is one splice, and what is read next is still as it was.
+-- Lengths moved to another place of their buffer, and an edit of the lengths that lie at its front.
 use Prim.Native.Nat.{ℕ, zero, suc, ◌+◌, ◌-◌, ◌≤◌, ◌<◌}
 use mathlib.Core.Path.{◌≡◌, refl, ◌∙◌, sym, ap}
 use mathlib.Core.List.{List, [], ◌∷◌, ◌++◌, append_assoc}
-use lib.ListN.{length, get_or, take, drop, length-append, length-drop, set}
-use lib.Seq.{drop-cons, take-suc, get_or-drop, get_or-take, length-take-le, take-take}
+use lib.ListN.{length, take, drop, length-append, set}
+use lib.Seq.{length-take-le, take-take}
 use native.Mathlib.Omega.{arith}
+use Rattle.std.specs.List.{copy_within}
 use Rattle.fields.specs.Bytes.{part, splice}
 use Rattle.fields.specs.Lists.{swap}
-use Rattle.fields.proofs.Splices.{part_left, part_right, length-mid, take-front, drop-take, copied-length, copy_step, sets-splice, set-splice, splice-after, length-splice}
+use Rattle.fields.proofs.Splices.{length-mid, take-front, drop-take, set-splice, length-splice}
 use Rattle.fields.proofs.Moves.{stays}
 use Rattle.interval.proofs.Changed.{swap-length}
 use Rattle.interval_edit.specs.AidChanged.{lengths_in}
 
--- a part of one place is what stands there
-part-one : (xs : List ℕ) (p : ℕ) → p < length xs → part xs p 1 ≡ get_or xs p 0 ∷ []
-part-one xs p h = rw (drop-cons xs p 0 h) refl
-
-same_read : (xs ys : List ℕ) (p : ℕ) → p < length xs → p < length ys → part xs p 1 ≡ part ys p 1 → get_or xs p 0 ≡ get_or ys p 0
-same_read xs ys p h k e =
-    let q : get_or xs p 0 ∷ [] ≡ get_or ys p 0 ∷ [] = sym (part-one xs p h) ∙ e ∙ part-one ys p k in
-    cc
-
-part-more : (xs : List ℕ) (a w : ℕ) → a + w < length xs → part xs a (suc w) ≡ part xs a w ++ (get_or xs (a + w) 0 ∷ [])
-part-more xs a w h = take-suc (drop a xs) w 0 (omega (arith, length-drop a xs)) ∙ rw get_or-drop
-
--- ---- to the right, from the last
-
-module _ (l : List ℕ) (at many i : ℕ) (low : at ≤ i) (high : i ≤ many) (room : many < length l) where
-  abbrev moved : List ℕ
-  moved = part l at (many - at)
-
-  moved-long : length moved ≡ many - at
-  moved-long = length-mid l at (many - at) (omega arith)
-
-  pub way-length : length (splice l (at + 1 + (i - at)) (drop (i - at) moved)) ≡ length l
-  way-length = copied-length l (at + 1) moved (i - at) (omega (arith, moved-long)) (omega (arith, moved-long))
-
-  pub way_step : at < i
-      → set (splice l (at + 1 + (i - at)) (drop (i - at) moved)) i (get_or (splice l (at + 1 + (i - at)) (drop (i - at) moved)) (i - 1) 0)
-      ≡ splice l (at + 1 + (i - 1 - at)) (drop (i - 1 - at) moved)
-  way_step h =
-      let b : List ℕ = splice l (at + 1 + (i - at)) (drop (i - at) moved) in
-      let v : get_or b (i - 1) 0 ≡ get_or l (i - 1) 0 =
-      same_read b l (i - 1) (omega (arith, way-length)) (omega arith) (part_left l (at + 1 + (i - at)) (drop (i - at) moved) (i - 1) 1 (omega arith) (omega arith)) in
-      let w : get_or moved (i - at - 1) 0 ≡ get_or l (i - 1) 0 =
-      get_or-take (many - at) (drop at l) (i - at - 1) 0 (omega arith) ∙ get_or-drop at l (i - at - 1) 0 ∙ ap (λ (k : ℕ). get_or l k 0) (omega arith) in
-      let p : at + 1 + (i - at - 1) ≡ i = omega arith in
-      let q : i - 1 - at ≡ i - at - 1 = omega arith in
-      rw (v, ← w, q) (ap (λ (k : ℕ). set b k (get_or moved (i - at - 1) 0)) (sym p) ∙ copy_step l (at + 1) moved (i - at) (omega (arith, moved-long)) (omega (arith, moved-long)) (omega arith))
-
--- ---- to the left, from the first
-
-module _ (l : List ℕ) (at many i : ℕ) (low : at + 1 ≤ i) (high : i ≤ many) (room : many ≤ length l) where
-  closed-long : length (part l (at + 1) (i - (at + 1))) ≡ i - (at + 1)
-  closed-long = length-mid l (at + 1) (i - (at + 1)) (omega arith)
-
-  pub up-length : length (splice l at (part l (at + 1) (i - (at + 1)))) ≡ length l
-  up-length = length-splice l at (part l (at + 1) (i - (at + 1))) (omega (arith, closed-long))
-
-  pub up_step : i < many
-      → set (splice l at (part l (at + 1) (i - (at + 1)))) (i - 1) (get_or (splice l at (part l (at + 1) (i - (at + 1)))) i 0)
-      ≡ splice l at (part l (at + 1) (i + 1 - (at + 1)))
-  up_step h =
-      let xs : List ℕ = part l (at + 1) (i - (at + 1)) in
-      let b : List ℕ = splice l at xs in
-      let v : get_or b i 0 ≡ get_or l i 0 =
-      same_read b l i (omega (arith, up-length)) (omega arith) (part_right l at xs i 1 (omega arith) (omega (arith, closed-long))) in
-      let n : i + 1 - (at + 1) ≡ suc (i - (at + 1)) = omega arith in
-      let m : part l (at + 1) (suc (i - (at + 1))) ≡ xs ++ (get_or l i 0 ∷ []) =
-      part-more l (at + 1) (i - (at + 1)) (omega arith) ∙ ap (λ (k : ℕ). xs ++ (get_or l k 0 ∷ [])) (omega arith) in
-      rw (v, n, m) (sets-splice (get_or l i 0 ∷ []) b (i - 1) (omega (arith, up-length)) ∙ splice-after l at (i - 1) xs (get_or l i 0 ∷ []) (omega (arith, closed-long)) (omega arith))
+-- a part that is copied to a place
+pub moved : (l : List ℕ) (i j at : ℕ) → i ≤ j → j ≤ length l → copy_within l i j at ≡ splice l at (part l i (j - i))
+unfolding splice
+moved l i j at h k =
+    let n : length (part l i (j - i)) ≡ j - i = length-mid l i (j - i) (omega arith) in
+    append_assoc (take at l) (part l i (j - i)) (drop (at + (j - i)) l) ∙ rw n
 
 -- ---- the edit of the lengths
 

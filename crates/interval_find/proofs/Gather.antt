@@ -8,8 +8,8 @@ use Rattle.fields.specs.Bytes.{splice}
 use Rattle.fields.proofs.Splices.{length-splice, splice-nil, splice-after}
 use Rattle.measures.specs.declared.Measures.{Measures}
 use Rattle.interval.specs.Reading.{rdfs_at, rdfs_many, rdfs, lengths, records_in, Readable}
-use Rattle.rdf.specs.AidFront.{front_of, Small}
-use Rattle.rdf.specs.declared.Front.TheVariants.{Run}
+use Rattle.std.specs.Prelude.{Some}
+use Rattle.rdf.specs.AidFront.{run, front_of, Small}
 use Rattle.interval_find.proofs.Runs.{Passed, passed_none, passed-count, passed-more, more-done, more-count, run_fits}
 
 -- i lengths are at the front, and those that the other RDFs describe are still to come
@@ -40,7 +40,7 @@ module _ (m : Measures) (ci lens₀ : List ℕ) (r : Readable m ci) where
         (sym g.count ∙ ap length d ∙ length-map (records_in ci) length, g.stored ∙ ap (splice lens₀ 0) d)
 
     -- one group more
-    module _ (some : 0 < left) (l n u : ℕ) (e : Run l n u ≡ front_of m.least m.most (rdfs ci p left)) (s : Small left (Run l n u)) where
+    module _ (some : 0 < left) (l n u : ℕ) (e : Some (run l n u) ≡ front_of m.least m.most (rdfs ci p left)) (s : Small left (Some (run l n u))) where
       pub gather-room : (i + n ≤ length lens) × (i + n ≤ length lens₀)
       gather-room = omega (arith, run_fits m ci r p left g.passed some l n u e s, g.count, gathered-length)
 

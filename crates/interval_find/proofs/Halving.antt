@@ -6,8 +6,8 @@ use lib.ListN.{length, get_or}
 use native.Mathlib.Omega.{arith}
 use Rattle.fields.specs.Bytes.{part}
 use Rattle.fields.specs.Order.{order_of}
-use Rattle.fields.specs.declared.Order.{Order}
-use Rattle.fields.specs.declared.Order.TheVariants.{Less, Same, Greater}
+use Rattle.std.specs.declared.cmp.Ordering.{Ordering}
+use Rattle.std.specs.declared.cmp.Ordering.TheVariants.{Less, Equal, Greater}
 use Rattle.measures.specs.declared.Measures.{Measures}
 use Rattle.interval.specs.Records.{key_of}
 use Rattle.interval.specs.Reading.{displacement, records_in, Readable}
@@ -40,7 +40,7 @@ module _ (m : Measures) (ci key : List ℕ) (r : Readable m ci) (run : Run) (l :
   pub run-key : part ci (run.start + i * run.len + m.offset) m.key ≡ key_of m (get_or (records_in ci) (run.ordinal + i) [])
   run-key = sym (key-there m ci r (run.ordinal + i) there ∙ ap (λ (s : ℕ). part ci (s + m.offset) m.key) (l.starts i h))
 
-  module _ (o : Order) (e : order_of (part ci (run.start + i * run.len + m.offset) m.key) key ≡ o) where
+  module _ (o : Ordering) (e : order_of (part ci (run.start + i * run.len + m.offset) m.key) key ≡ o) where
     seen : order_of (key_of m (get_or (records_in ci) (run.ordinal + i) [])) key ≡ o
     seen = rw run-key at e
 
@@ -49,7 +49,7 @@ module _ (m : Measures) (ci key : List ℕ) (r : Readable m ci) (run : Run) (l :
     run-below q = below-past m key (run.ordinal + i) (records_in ci) (readable-ascends m ci r) there (seen ∙ q)
 
     -- the same: it is the one
-    pub run-same : o ≡ Same → At (run.ordinal + i) (run.start + i * run.len) run.len ≡ place_of m key (records_in ci)
+    pub run-same : o ≡ Equal → At (run.ordinal + i) (run.start + i * run.len) run.len ≡ place_of m key (records_in ci)
     run-same q =
         rw (← l.starts i h, ← l.long i h)
         (same_place m key (records_in ci) (readable-ascends m ci r) (run.ordinal + i) there (seen ∙ q))

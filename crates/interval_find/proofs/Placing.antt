@@ -7,8 +7,8 @@ use lib.ListN.{length, get_or}
 use native.Mathlib.Omega.{arith}
 use Rattle.fields.specs.Order.{order_of, is_less, less, flip}
 use Rattle.fields.specs.Lists.{every}
-use Rattle.fields.specs.declared.Order.{Order}
-use Rattle.fields.specs.declared.Order.TheVariants.{Less, Same, Greater}
+use Rattle.std.specs.declared.cmp.Ordering.{Ordering}
+use Rattle.std.specs.declared.cmp.Ordering.TheVariants.{Less, Equal, Greater}
 use Rattle.fields.proofs.Choices.{both-split, false-true}
 use Rattle.fields.proofs.Orders.{order_flip, order-refl}
 use Rattle.measures.specs.declared.Measures.{Measures}
@@ -22,7 +22,7 @@ use Rattle.interval.proofs.Search.{first-less, first-lower, first_holds, rest-ab
 less-greater : Less ≡ Greater → ⊥
 less-greater e = let z : ◌≡◌ {A = ℕ} 0 1 = cc in omega arith
 
-same-greater : Same ≡ Greater → ⊥
+same-greater : Equal ≡ Greater → ⊥
 same-greater e = let z : ◌≡◌ {A = ℕ} 0 1 = cc in omega arith
 
 module _ (m : Measures) (key : List ℕ) where
@@ -34,9 +34,9 @@ module _ (m : Measures) (key : List ℕ) where
       let s = both-split (less key (key_of m r)) (above key (keys_of m rs)) a in
       order_flip key (key_of m r) ∙ flipped (order_of key (key_of m r)) s.0
     where
-      flipped : (o : Order) → is_less o ≡ true → flip o ≡ Greater
+      flipped : (o : Ordering) → is_less o ≡ true → flip o ≡ Greater
       flipped Less e = refl
-      flipped Same e = absurd (false-true e)
+      flipped Equal e = absurd (false-true e)
       flipped Greater e = absurd (false-true e)
   above_at (suc i) (r ∷ rs) a h = above_at i rs (both-split (less key (key_of m r)) (above key (keys_of m rs)) a).1 (omega arith)
 
@@ -47,9 +47,9 @@ module _ (m : Measures) (key : List ℕ) where
   below-past (suc i) (r ∷ rs) up h e =
       go (order_of (key_of m r) key) refl (below-past i rs (ascend-tail (key_of m r) (keys_of m rs) up) (omega arith) e)
     where
-      go : (o : Order) → order_of (key_of m r) key ≡ o → i < lower m key rs → suc i < lower m key (r ∷ rs)
+      go : (o : Ordering) → order_of (key_of m r) key ≡ o → i < lower m key rs → suc i < lower m key (r ∷ rs)
       go Less q k = omega (arith, (first-less m key r rs q).0, k)
-      go Same q k = absurd (less-greater (sym e ∙ above_at i rs (rest-above m key r rs up (ap is_less q)) (omega arith)))
+      go Equal q k = absurd (less-greater (sym e ∙ above_at i rs (rest-above m key r rs up (ap is_less q)) (omega arith)))
       go Greater q k = absurd (less-greater (sym e ∙ above_at i rs (rest-above m key r rs up (ap is_less q)) (omega arith)))
 
   -- A record that is not below has its place at the key's or above it.
@@ -58,25 +58,25 @@ module _ (m : Measures) (key : List ℕ) where
   lower-upto zero (r ∷ rs) up h e = omega (arith, first-lower m key r rs up e)
   lower-upto (suc i) (r ∷ rs) up h e = go (order_of (key_of m r) key) refl (lower-upto i rs (ascend-tail (key_of m r) (keys_of m rs) up) (omega arith) e)
     where
-      go : (o : Order) → order_of (key_of m r) key ≡ o → lower m key rs ≤ i → lower m key (r ∷ rs) ≤ suc i
+      go : (o : Ordering) → order_of (key_of m r) key ≡ o → lower m key rs ≤ i → lower m key (r ∷ rs) ≤ suc i
       go Less q k = omega (arith, (first-less m key r rs q).0, k)
-      go Same q k = omega (arith, first-lower m key r rs up (ap is_less q))
+      go Equal q k = omega (arith, first-lower m key r rs up (ap is_less q))
       go Greater q k = omega (arith, first-lower m key r rs up (ap is_less q))
 
   -- The record that has the key is the one.
-  same-there : (i : ℕ) (rs : List (List ℕ)) → ascending (keys_of m rs) ≡ true → i < length rs → order_of (key_of m (get_or rs i [])) key ≡ Same
+  same-there : (i : ℕ) (rs : List (List ℕ)) → ascending (keys_of m rs) ≡ true → i < length rs → order_of (key_of m (get_or rs i [])) key ≡ Equal
       → (lower m key rs ≡ i) × (holds m key rs ≡ true)
   same-there i [] up h e = absurd (omega arith)
   same-there zero (r ∷ rs) up h e = (first-lower m key r rs up (ap is_less e), first_holds m key r rs up (ap is_less e) ∙ ap is_same e)
   same-there (suc i) (r ∷ rs) up h e = go (order_of (key_of m r) key) refl (same-there i rs (ascend-tail (key_of m r) (keys_of m rs) up) (omega arith) e)
     where
-      go : (o : Order) → order_of (key_of m r) key ≡ o → (lower m key rs ≡ i) × (holds m key rs ≡ true) → (lower m key (r ∷ rs) ≡ suc i) × (holds m key (r ∷ rs) ≡ true)
+      go : (o : Ordering) → order_of (key_of m r) key ≡ o → (lower m key rs ≡ i) × (holds m key rs ≡ true) → (lower m key (r ∷ rs) ≡ suc i) × (holds m key (r ∷ rs) ≡ true)
       go Less q k = let f = first-less m key r rs q in (f.0 ∙ ap suc k.0, f.1 ∙ k.1)
-      go Same q k = absurd (same-greater (sym e ∙ above_at i rs (rest-above m key r rs up (ap is_less q)) (omega arith)))
+      go Equal q k = absurd (same-greater (sym e ∙ above_at i rs (rest-above m key r rs up (ap is_less q)) (omega arith)))
       go Greater q k = absurd (same-greater (sym e ∙ above_at i rs (rest-above m key r rs up (ap is_less q)) (omega arith)))
 
   module _ (rs : List (List ℕ)) (up : ascending (keys_of m rs) ≡ true) where
-    pub same_place : (i : ℕ) → i < length rs → order_of (key_of m (get_or rs i [])) key ≡ Same → At i (start_of i rs) (length (get_or rs i [])) ≡ place_of m key rs
+    pub same_place : (i : ℕ) → i < length rs → order_of (key_of m (get_or rs i [])) key ≡ Equal → At i (start_of i rs) (length (get_or rs i [])) ≡ place_of m key rs
     unfolding place_of
     same_place i h e = let s = same-there i rs up h e in rw (s.1, s.0)
 

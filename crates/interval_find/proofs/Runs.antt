@@ -20,18 +20,13 @@ use Rattle.interval.proofs.Backward.{read-lengths, read-lengths-fine}
 use Rattle.interval.proofs.Readable.{readable-form, readable-rdfs, readable-formed, readable-bytes}
 use Rattle.interval.proofs.Search.{start-record, start-most}
 use Rattle.interval.proofs.FoundBytes.{record-there}
-use Rattle.rdf.specs.AidFront.{front_of, Small}
-use Rattle.rdf.specs.declared.Front.TheVariants.{Run, Damaged}
+use Rattle.std.specs.Prelude.{Some, None}
+use Rattle.rdf.specs.AidFront.{run, front_of, Small}
 use Rattle.rdf.proofs.Fronts.{stops, steps, Step}
 use Rattle.interval_find.specs.AidRuns.{RunIn}
 
--- what the two fields of the CIDF say of the RDFs
-pub rdfs-told : (ci : List ℕ) (d f u : ℕ) → d ≡ displacement ci → f ≡ unused_field ci → u ≡ f % 32768
-    → (d + u ≡ rdfs_at ci) × ((length ci - 4 - (d + u)) / 3 ≡ rdfs_many ci)
-rdfs-told ci d f u p q e = (rw (p, e, q), rw (p, e, q))
-
 -- a well-formed list of RDFs begins with no damage
-pub no-damage : (least most : ℕ) (ci : List ℕ) (p n : ℕ) → well_formed least most (rdfs ci p n) ≡ true → 0 < n → Damaged ≡ front_of least most (rdfs ci p n) → ⊥
+pub no-damage : (least most : ℕ) (ci : List ℕ) (p n : ℕ) → well_formed least most (rdfs ci p n) ≡ true → 0 < n → None ≡ front_of least most (rdfs ci p n) → ⊥
 no-damage least most ci p n w h e = false-true (sym (stops ci p n least most h e) ∙ w)
 
 -- ---- lengths
@@ -141,7 +136,7 @@ module _ (m : Measures) (ci : List ℕ) (r : Readable m ci) where
         (n, ap (λ (i : ℕ). start_of i (records_in ci)) n ∙ start-all (records_in ci) ∙ sym (passed-all z).1 ∙ b)
 
     -- one run more
-    module _ (some : 0 < left) (l n u : ℕ) (e : Run l n u ≡ front_of m.least m.most (rdfs ci p left)) (s : Small left (Run l n u)) where
+    module _ (some : 0 < left) (l n u : ℕ) (e : Some (run l n u) ≡ front_of m.least m.most (rdfs ci p left)) (s : Small left (Some (run l n u))) where
       step : Step ci p left m.least m.most some l n u
       step = steps ci p left m.least m.most some l n u e s.3
 

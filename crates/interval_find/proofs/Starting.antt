@@ -12,7 +12,7 @@ use Rattle.fields.specs.Lists.{concat}
 use Rattle.measures.specs.declared.Measures.{Measures}
 use Rattle.interval.specs.Reading.{records_in, Readable}
 use Rattle.interval.specs.Search.{start_of, starting_at, started_of}
-use Rattle.interval.specs.declared.Started.TheVariants.{Here, Nothing}
+use Rattle.std.specs.Prelude.{Some, None}
 use Rattle.interval.proofs.Backward.{read-lengths-fine}
 use Rattle.interval.proofs.Lengths.{fine-at}
 use Rattle.interval.proofs.Readable.{readable-form}
@@ -31,20 +31,20 @@ start-order (suc i) (suc k) (r ∷ rs) h = simp length-append (omega (arith, sta
 module _ (m : Measures) (ci : List ℕ) (r : Readable m ci) (place : ℕ) where
   -- the record that begins there
   pub begins-here : (i l : ℕ) → i < length (records_in ci) → place ≡ start_of i (records_in ci) → length (get_or (records_in ci) i []) ≡ l
-      → Here l ≡ started_of (starting_at place 0 (records_in ci))
+      → Some l ≡ started_of (starting_at place 0 (records_in ci))
   begins-here i l h e q =
-      sym (rw (starting-there m.least m.most (omega (arith, r.inside, r.keyed)) i place 0 (records_in ci) (read-lengths-fine m ci (readable-form m ci r)) h (omega arith)) (ap Here q))
+      sym (rw (starting-there m.least m.most (omega (arith, r.inside, r.keyed)) i place 0 (records_in ci) (read-lengths-fine m ci (readable-form m ci r)) h (omega arith)) (ap Some q))
 
   -- none where no record's beginning is the place
-  none-begins : ((i : ℕ) → i < length (records_in ci) → place ≡ start_of i (records_in ci) → ⊥) → Nothing ≡ started_of (starting_at place 0 (records_in ci))
+  none-begins : ((i : ℕ) → i < length (records_in ci) → place ≡ start_of i (records_in ci) → ⊥) → None ≡ started_of (starting_at place 0 (records_in ci))
   none-begins never = go (starting_at place 0 (records_in ci)) refl
     where
-      go : (xs : List (List ℕ)) → starting_at place 0 (records_in ci) ≡ xs → Nothing ≡ started_of xs
+      go : (xs : List (List ℕ)) → starting_at place 0 (records_in ci) ≡ xs → None ≡ started_of xs
       go [] e = refl
       go (x ∷ xs) e = let s = starting-is place 0 (records_in ci) x xs e in absurd (never s.0 s.1 (omega (arith, s.3)))
 
   -- so none between the beginnings of two that follow each other
-  pub none_between : (i : ℕ) → start_of i (records_in ci) < place → place < start_of (suc i) (records_in ci) → Nothing ≡ started_of (starting_at place 0 (records_in ci))
+  pub none_between : (i : ℕ) → start_of i (records_in ci) < place → place < start_of (suc i) (records_in ci) → None ≡ started_of (starting_at place 0 (records_in ci))
   none_between i low high = none-begins never
     where
       apart : (k : ℕ) → place ≡ start_of k (records_in ci) → (t : Bool) → leb k i ≡ t → ⊥
@@ -55,7 +55,7 @@ module _ (m : Measures) (ci : List ℕ) (r : Readable m ci) (place : ℕ) where
       never k h e = apart k e (leb k i) refl
 
   -- and none behind the last
-  pub none-behind : length (concat (records_in ci)) ≤ place → Nothing ≡ started_of (starting_at place 0 (records_in ci))
+  pub none-behind : length (concat (records_in ci)) ≤ place → None ≡ started_of (starting_at place 0 (records_in ci))
   none-behind b = none-begins never
     where
       never : (k : ℕ) → k < length (records_in ci) → place ≡ start_of k (records_in ci) → ⊥
@@ -77,13 +77,13 @@ module _ (m : Measures) (ci : List ℕ) (r : Readable m ci) (place : ℕ) where
     unfolding nth
     nth-start = div-add-mod' (place - start) len
 
-    pub run-begins : (place - start) % len ≡ 0 → (Here len ≡ started_of (starting_at place 0 (records_in ci))) × (place + len ≤ length ci)
+    pub run-begins : (place - start) % len ≡ 0 → (Some len ≡ started_of (starting_at place 0 (records_in ci))) × (place + len ≤ length ci)
     run-begins z =
         let h : ordinal + nth < length (records_in ci) = omega (arith, nth_inside) in
         let e : place ≡ start_of (ordinal + nth) (records_in ci) = omega (arith, starts nth (omega (arith, nth_inside)), nth-start) in
         (begins-here (ordinal + nth) len h e (long nth nth_inside), omega (arith, e, record-inside m ci r (ordinal + nth) h, long nth nth_inside))
 
-    pub run-between : ((place - start) % len ≡ 0 → ⊥) → Nothing ≡ started_of (starting_at place 0 (records_in ci))
+    pub run-between : ((place - start) % len ≡ 0 → ⊥) → None ≡ started_of (starting_at place 0 (records_in ci))
     run-between z =
         let e : suc (ordinal + nth) ≡ ordinal + suc nth = omega arith in
         let s : start_of (suc (ordinal + nth)) (records_in ci) ≡ start + suc nth * len = rw e (starts (suc nth) (omega (arith, nth_inside))) in

@@ -5,7 +5,7 @@ use Prim.Native.Nat.{ℕ}
 use mathlib.Core.Path.{◌≡◌}
 use Rattle.fields.proofs.Choices.{agree}
 use Rattle.interval.specs.declared.Found.{Found}
-use Rattle.interval.specs.declared.Started.{Started}
+use Rattle.std.specs.Prelude.{Option}
 use Rattle.interval_find.proofs.find.Reads as find
 use Rattle.interval_find.proofs.lengths_out.Reads as lengths-out
 use Rattle.interval_find.proofs.record_at.Reads as record-at
@@ -18,5 +18,5 @@ pub unique-lengths-out : (κs : _) (args : _) (r s : ℕ) (e f : _)
     → lengths-out.Learnt κs args r e → lengths-out.Learnt κs args s f → (r ≡ s) × (e.1.1.0.now ≡ f.1.1.0.now)
 unique-lengths-out κs args r s e f p q = (agree p.0 q.0, agree p.1 q.1)
 
-pub unique-record-at : (κs : _) (args : _) (r s : Started) (e f : _) → record-at.Learnt κs args r e → record-at.Learnt κs args s f → r ≡ s
+pub unique-record-at : (κs : _) (args : _) (r s : Option ℕ) (e f : _) → record-at.Learnt κs args r e → record-at.Learnt κs args s f → r ≡ s
 unique-record-at κs args r s e f p q = agree p.0 q.0

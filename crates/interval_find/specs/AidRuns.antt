@@ -1,7 +1,7 @@
 -- Runs of records of a sound interval: an aid that the search goes by, no part of the meaning.
 use Rattle.std.specs.Prelude.{ℕ, ◌+◌, ◌*◌, ◌≤◌, ◌<◌, ◌≡◌, List, [], length, get_or}
 use Rattle.fields.specs.Order.{order_of}
-use Rattle.fields.specs.declared.Order.TheVariants.{Greater}
+use Rattle.std.specs.declared.cmp.Ordering.TheVariants.{Greater}
 use Rattle.measures.specs.declared.Measures.{Measures}
 use Rattle.interval.specs.Records.{key_of}
 use Rattle.interval.specs.Reading.{records_in}

@@ -1,40 +1,18 @@
 // The records of a sound data interval: searched for a key or a place, and told by their lengths, run by run.
 #![tactic(auto)]
 
-ghost use Rattle.std.specs.Prelude.{◌+◌, ◌-◌, ◌*◌, ◌^◌, ◌≤◌, ◌<◌, ◌≡◌, map, length, replicate};
+ghost use Rattle.std.specs.Prelude.{◌+◌, ◌-◌, ◌*◌, ◌^◌, ◌≤◌, ◌<◌, ◌≡◌, map, length};
 ghost use Rattle.fields.specs.Bytes.{splice, part};
 ghost use Rattle.fields.specs.Order.{order_of};
-ghost use Rattle.interval.specs.Reading.{displacement, rdfs_at, rdfs_many, records_in, Readable};
+ghost use Rattle.interval.specs.Reading.{displacement, records_in, Readable};
 ghost use Rattle.interval.specs.Search.{place_of, Within, starting_at, started_of, Ends};
 ghost use Rattle.interval.specs.declared.Found.TheVariants.{At};
 ghost use Rattle.interval_find.specs.AidRuns.{RunIn, Holding};
 
-use fields::Order;
-use interval::{Found, Started};
+use interval::Found;
 use measures::Measures;
 use rdf::Front;
-
-// Where the RDFs begin, and how many there are.
-#[derive(Clone, Copy)]
-pub(crate) struct Rdfs {
-    at: usize,
-    many: usize,
-}
-
-// Source document 001, chapter 7: the CIDF is the last four bytes; the RDFs lie right before it.
-pub(crate) fn rdfs_of(ci: &[u8]) -> Rdfs
-    requires { (4 ≤ length ci.now) × (rdfs_at ci.now + 4 ≤ length ci.now) }
-    ensures { (result.at ≡ rdfs_at ci.now) × (result.many ≡ rdfs_many ci.now) }
-{
-    let n = ci.len();
-    let d = fields::read_two(ci, n - 4);
-    let u = rdf::below_flag(fields::read_two(ci, n - 2));
-    let at = d + u;
-    Rdfs {
-        at,
-        many: (n - 4 - at) / 3,
-    }
-}
+use std::cmp::Ordering;
 
 // Records of one length that lie one after another: the ordinal of the first, where it begins, how long each is, and how many follow it.
 #[derive(Clone, Copy)]
@@ -58,7 +36,7 @@ pub(crate) fn found(run: Run, i: usize) -> Found
 }
 
 // How the key of the record that begins at a place stands to a key.
-pub(crate) fn order_at(ci: &[u8], m: Measures, at: usize, key: &[u8]) -> Order
+pub(crate) fn order_at(ci: &[u8], m: Measures, at: usize, key: &[u8]) -> Ordering
     requires { (at + m.offset + m.key ≤ length ci.now) × (length key.now ≡ m.key) }
     ensures { result ≡ order_of (part ci.now (at + m.offset) m.key) key.now }
 {
@@ -78,9 +56,9 @@ pub(crate) fn find_in(ci: &[u8], m: Measures, key: &[u8], run: Run) -> Found
     while low < high {
         let middle = low + (high - low) / 2;
         match order_at(ci, m, run.start + middle * run.len, key) {
-            Order::Less => low = middle + 1,
-            Order::Same => return found(run, middle),
-            Order::Greater => high = middle,
+            Ordering::Less => low = middle + 1,
+            Ordering::Equal => return found(run, middle),
+            Ordering::Greater => high = middle,
         }
     }
     Found::Gap {
@@ -95,13 +73,13 @@ pub fn find(ci: &[u8], m: Measures, key: &[u8]) -> Found
     ensures is { result ≡ place_of m key.now (records_in ci.now) }
     ensures within { Within (length (records_in ci.now)) (displacement ci.now) result }
 {
-    let rdfs = rdfs_of(ci);
+    let rdfs = rdf::rdfs_of(ci);
     let p = rdfs.at;
     let mut left = rdfs.many;
     let mut ordinal: usize = 0;
     let mut start: usize = 0;
     while 0 < left {
-        let Front::Run { len, count, used } = rdf::group_at(ci, p, left, m.least, m.most) else {
+        let Some(Front { len, count, used }) = rdf::group_at(ci, p, left, m.least, m.most) else {
             return Found::Gap { ordinal, start };
         };
         let run = Run {
@@ -111,9 +89,9 @@ pub fn find(ci: &[u8], m: Measures, key: &[u8]) -> Found
             last: count - 1,
         };
         match order_at(ci, m, start + run.last * len, key) {
-            Order::Less => {}
-            Order::Same => return found(run, run.last),
-            Order::Greater => return find_in(ci, m, key, run),
+            Ordering::Less => {}
+            Ordering::Equal => return found(run, run.last),
+            Ordering::Greater => return find_in(ci, m, key, run),
         }
         ordinal += count;
         start += count * len;
@@ -123,42 +101,28 @@ pub fn find(ci: &[u8], m: Measures, key: &[u8]) -> Found
 }
 
 // Whether a record begins at a place of the interval, and how long it is. In a run a division tells.
-pub fn record_at(ci: &[u8], m: Measures, place: usize) -> Started
+pub fn record_at(ci: &[u8], m: Measures, place: usize) -> Option<usize>
     requires { Readable m ci.now }
     ensures is { result ≡ started_of (starting_at place 0 (records_in ci.now)) }
     ensures ends { Ends (length ci.now) place result }
 {
-    let rdfs = rdfs_of(ci);
+    let rdfs = rdf::rdfs_of(ci);
     let p = rdfs.at;
     let mut left = rdfs.many;
     let mut start: usize = 0;
     while 0 < left {
-        let Front::Run { len, count, used } = rdf::group_at(ci, p, left, m.least, m.most) else {
-            return Started::Nothing;
-        };
+        let Front { len, count, used } = rdf::group_at(ci, p, left, m.least, m.most)?;
         let end = start + count * len;
         if place < end {
             if (place - start) % len != 0 {
-                return Started::Nothing;
+                return None;
             }
-            return Started::Here { length: len };
+            return Some(len);
         }
         start = end;
         left -= used;
     }
-    Started::Nothing
-}
-
-// Stores one length in every place from one to another.
-pub(crate) fn fill_lengths(lens: &mut [u16], from: usize, to: usize, len: u16)
-    requires { (from ≤ to) × (to ≤ length lens.old) }
-    ensures { lens.new ≡ splice lens.old from (replicate (to - from) len) }
-{
-    let mut i = to;
-    while from < i {
-        i -= 1;
-        lens[i] = len;
-    }
+    None
 }
 
 // The lengths of the records, at the front of a buffer; the answer is how many. Group by group, so that a run's RDFs are read once.
@@ -167,15 +131,15 @@ pub fn lengths_out(ci: &[u8], m: Measures, lens: &mut [u16]) -> usize
     ensures count { result ≡ length (records_in ci.now) }
     ensures list { lens.new ≡ splice lens.old 0 (map length (records_in ci.now)) }
 {
-    let rdfs = rdfs_of(ci);
+    let rdfs = rdf::rdfs_of(ci);
     let p = rdfs.at;
     let mut left = rdfs.many;
     let mut i: usize = 0;
     while 0 < left {
-        let Front::Run { len, count, used } = rdf::group_at(ci, p, left, m.least, m.most) else {
+        let Some(Front { len, count, used }) = rdf::group_at(ci, p, left, m.least, m.most) else {
             return i;
         };
-        fill_lengths(lens, i, i + count, len as u16);
+        lens[i..i + count].fill(len as u16);
         i += count;
         left -= used;
     }

@@ -17,10 +17,10 @@ use Rattle.interval.specs.Records.{key_of, keys_of, all_within, ascending, ascen
 use Rattle.interval.specs.Reading.{busy, displacement, rdfs_at, rdfs_many, rdfs_in, rdfs, well_formed, lengths, cut, records_in, form_sound, sound}
 use Rattle.interval.proofs.Backward.{form-tests, read-lengths, read-lengths-fine}
 use Rattle.interval.proofs.Lengths.{cut-cons, within_low, within-rest}
-use Rattle.interval_read.specs.Verdict.{last_start, verdict_of}
-use Rattle.interval_read.specs.AidWalk.{tail_of, keys_from, judged, walked}
-use Rattle.interval_read.specs.declared.Tail.TheVariants.{Of, Bad}
-use Rattle.interval_read.specs.declared.Verdict.TheVariants.{Sound, Unsound}
+use Rattle.std.specs.Prelude.{Option, Some, None}
+use Rattle.interval_read.specs.Verdict.{last_start, verdict, verdict_of}
+use Rattle.interval_read.specs.AidWalk.{tail, tail_of, keys_from, judged, walked}
+use Rattle.interval_read.specs.declared.Tail.{Tail}
 use Rattle.interval_read.proofs.Keys.{empty-below, ascend-cons}
 
 -- keys by their places are the keys of the records
@@ -54,16 +54,16 @@ ascend-open m ci (l ∷ ls) s k h f =
     rw (e, q) o
 
 module _ (m : Measures) (ci : List ℕ) (some : 1 ≤ m.key) (inside : m.offset + m.key ≤ m.least) where
-  unsound-form : form_sound m ci ≡ false → verdict_of m ci ≡ Unsound
+  unsound-form : form_sound m ci ≡ false → verdict_of m ci ≡ None
   unfolding verdict_of sound
   unsound-form e = rw e
 
   -- the tail is none that is sound
-  pub tail-bad : Bad ≡ tail_of ci → Unsound ≡ verdict_of m ci
+  pub tail-bad : None ≡ tail_of ci → None ≡ verdict_of m ci
   unfolding tail_of form_sound
   tail-bad h = sym (unsound-form (go (no (busy ci)) (eqb (rdfs_at ci + 3 * rdfs_many ci + 4) (length ci)) h))
     where
-      go : (a b : Bool) → Bad ≡ pick (both a b) (Of (displacement ci) (rdfs_at ci) (rdfs_many ci)) Bad
+      go : (a b : Bool) → None ≡ pick (both a b) (Some (tail (displacement ci) (rdfs_at ci) (rdfs_many ci))) None
           → both a (both b (both (well_formed m.least m.most (rdfs_in ci)) (eqb (sum (lengths (rdfs_in ci))) (displacement ci)))) ≡ false
       go true true e = absurd (let z : ◌≡◌ {A = ℕ} 0 1 = cc in omega arith)
       go true false e = refl
@@ -77,20 +77,24 @@ module _ (m : Measures) (ci : List ℕ) (some : 1 ≤ m.key) (inside : m.offset 
     is_at : at ≡ rdfs_at ci
     is-many : many ≡ rdfs_many ci
 
-  tailed : (bytes at many : ℕ) → Of bytes at many ≡ tail_of ci → Tailed bytes at many
+  abbrev told : Option Tail → Tail
+  told (Some t) = t
+  told None = tail 0 0 0
+
+  tailed : (bytes at many : ℕ) → Some (tail bytes at many) ≡ tail_of ci → Tailed bytes at many
   unfolding tail_of
   tailed bytes at many h = go (no (busy ci)) (eqb (rdfs_at ci + 3 * rdfs_many ci + 4) (length ci)) refl refl h
     where
       go : (a b : Bool) → no (busy ci) ≡ a → eqb (rdfs_at ci + 3 * rdfs_many ci + 4) (length ci) ≡ b
-          → Of bytes at many ≡ pick (both a b) (Of (displacement ci) (rdfs_at ci) (rdfs_many ci)) Bad → Tailed bytes at many
-      go true true p q e = record { quiet = p; adds-up = q; is-bytes = cc; is_at = cc; is-many = cc }
+          → Some (tail bytes at many) ≡ pick (both a b) (Some (tail (displacement ci) (rdfs_at ci) (rdfs_many ci))) None → Tailed bytes at many
+      go true true p q e = record { quiet = p; adds-up = q; is-bytes = ap (λ o. (told o).bytes) e; is_at = ap (λ o. (told o).at) e; is-many = ap (λ o. (told o).many) e }
       go true false p q e = absurd (let z : ◌≡◌ {A = ℕ} 0 1 = cc in omega arith)
       go false b p q e = absurd (let z : ◌≡◌ {A = ℕ} 0 1 = cc in omega arith)
 
   whole : walked m ci (displacement ci) (rdfs_many ci) (rdfs_in ci)
       ≡ pick (both (well_formed m.least m.most (rdfs_in ci))
       (both (eqb (sum (lengths (rdfs_in ci))) (displacement ci)) (ascend_from [] (keys_from m.offset m.key ci 0 (lengths (rdfs_in ci))))))
-      (Sound (length (lengths (rdfs_in ci))) (displacement ci) (rdfs_many ci) (last_start (lengths (rdfs_in ci)))) Unsound
+      (Some (verdict (length (lengths (rdfs_in ci))) (displacement ci) (rdfs_many ci) (last_start (lengths (rdfs_in ci))))) None
   unfolding walked judged
   whole = let e : 0 + sum (lengths (rdfs_in ci)) ≡ sum (lengths (rdfs_in ci)) = omega arith in rw e
 
@@ -119,10 +123,10 @@ module _ (m : Measures) (ci : List ℕ) (some : 1 ≤ m.key) (inside : m.offset 
         lens = sym r;
       }
 
-  pub tail-good : (bytes at many : ℕ) → Of bytes at many ≡ tail_of ci → walked m ci bytes many (rdfs ci at many) ≡ verdict_of m ci
+  pub tail-good : (t : Tail) → Some t ≡ tail_of ci → walked m ci t.bytes t.many (rdfs ci t.at t.many) ≡ verdict_of m ci
   unfolding verdict_of sound
-  tail-good bytes at many h =
-      let t = tailed bytes at many h in
+  tail-good read h =
+      let t = tailed read.bytes read.at read.many h in
       rw (t.is-bytes, t.is_at, t.is-many, rdfs-in, whole, form-is t)
       (go (well_formed m.least m.most (rdfs_in ci)) (eqb (sum (lengths (rdfs_in ci))) (displacement ci)) (λ w s. decide (form-is t ∙ rw (w, s))) refl refl)
     where
@@ -130,8 +134,8 @@ module _ (m : Measures) (ci : List ℕ) (some : 1 ≤ m.key) (inside : m.offset 
           → (well_formed m.least m.most (rdfs_in ci) ≡ true → eqb (sum (lengths (rdfs_in ci))) (displacement ci) ≡ true → Told)
           → well_formed m.least m.most (rdfs_in ci) ≡ w → eqb (sum (lengths (rdfs_in ci))) (displacement ci) ≡ s
           → pick (both w (both s (ascend_from [] (keys_from m.offset m.key ci 0 (lengths (rdfs_in ci))))))
-          (Sound (length (lengths (rdfs_in ci))) (displacement ci) (rdfs_many ci) (last_start (lengths (rdfs_in ci)))) Unsound
-          ≡ pick (both (both w s) (ascending (keys_of m (records_in ci)))) (Sound (length (records_in ci)) (displacement ci) (rdfs_many ci) (last_start (map length (records_in ci)))) Unsound
+          (Some (verdict (length (lengths (rdfs_in ci))) (displacement ci) (rdfs_many ci) (last_start (lengths (rdfs_in ci))))) None
+          ≡ pick (both (both w s) (ascending (keys_of m (records_in ci)))) (Some (verdict (length (records_in ci)) (displacement ci) (rdfs_many ci) (last_start (map length (records_in ci))))) None
       go true true d p q = let z = d p q in rw (z.ascends, z.count, z.lens)
       go true false d p q = refl
       go false s d p q = refl

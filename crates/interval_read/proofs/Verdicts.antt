@@ -11,7 +11,7 @@ use borrow.Author.Tests.{eqb-true, eqb-false}
 use Rattle.fields.specs.Choice.{pick, no}
 use Rattle.fields.specs.Bytes.{part, Octets}
 use Rattle.fields.specs.Order.{order_of, is_less, less}
-use Rattle.fields.specs.declared.Order.{Order}
+use Rattle.std.specs.declared.cmp.Ordering.{Ordering}
 use Rattle.fields.specs.Lists.{sum, every}
 use Rattle.fields.proofs.Lists.{sum-cons}
 use Rattle.fields.proofs.Octets.{octets-part}
@@ -24,11 +24,11 @@ use Rattle.interval.specs.Bounds.{bound}
 use Rattle.interval.proofs.Bounds.{lead-is-bound}
 use Rattle.interval.proofs.Backward.{form-tests, read-lengths, read-lengths-fine, form-and-keys}
 use Rattle.interval.proofs.Lengths.{within_low, within-rest}
-use Rattle.interval_read.specs.Verdict.{last_start, verdict_of}
+use Rattle.std.specs.Prelude.{Option, Some, None}
+use Rattle.interval_read.specs.Verdict.{last_start, verdict, verdict_of}
 use Rattle.interval_read.specs.AidWalk.{keys_from}
-use Rattle.interval_read.specs.AidOpened.{opened_of}
-use Rattle.interval_read.specs.declared.Verdict.TheVariants as verdict
-use Rattle.interval_read.specs.declared.Opened.TheVariants.{Sound, Bad}
+use Rattle.interval_read.specs.AidOpened.{opened, opened_of}
+use Rattle.interval_read.specs.declared.Verdict.{Verdict}
 use Rattle.interval_read.proofs.Keys.{empty-below}
 use Rattle.interval_read.proofs.Judging.{from_more, keys-are}
 use Rattle.interval_read.proofs.Ends.{above-first, up-to-last, last_key, last-from, start-more}
@@ -39,21 +39,25 @@ pub record Told (m : Measures) (ci : List ℕ) (count last : ℕ) : Type 0 where
   pub many : count ≡ length (records_in ci)
   pub final : last ≡ last_start (map length (records_in ci))
 
-pub sound-told : (m : Measures) (ci : List ℕ) (count bytes rdfs last : ℕ) → verdict.Sound count bytes rdfs last ≡ verdict_of m ci → Told m ci count last
+abbrev told : Option Verdict → Verdict
+told (Some v) = v
+told None = verdict 0 0 0 0
+
+pub sound-told : (m : Measures) (ci : List ℕ) (v : Verdict) → Some v ≡ verdict_of m ci → Told m ci v.count v.last
 unfolding verdict_of
-sound-told m ci count bytes rdfs last e = go (sound m ci) refl e
+sound-told m ci v e = go (sound m ci) refl e
   where
     go : (b : Bool) → sound m ci ≡ b
-        → verdict.Sound count bytes rdfs last ≡ pick b (verdict.Sound (length (records_in ci)) (displacement ci) (rdfs_many ci) (last_start (map length (records_in ci)))) verdict.Unsound
-        → Told m ci count last
-    go true s h = record { stands = s; many = cc; final = cc }
+        → Some v ≡ pick b (Some (verdict (length (records_in ci)) (displacement ci) (rdfs_many ci) (last_start (map length (records_in ci))))) None
+        → Told m ci v.count v.last
+    go true s h = record { stands = s; many = ap (λ o. (told o).count) h; final = ap (λ o. (told o).last) h }
     go false s h = absurd (let z : ◌≡◌ {A = ℕ} 0 1 = cc in omega arith)
 
-pub unsound-told : (m : Measures) (ci : List ℕ) → verdict.Unsound ≡ verdict_of m ci → sound m ci ≡ false
+pub unsound-told : (m : Measures) (ci : List ℕ) → None ≡ verdict_of m ci → sound m ci ≡ false
 unfolding verdict_of
 unsound-told m ci e = go (sound m ci) e
   where
-    go : (b : Bool) → verdict.Unsound ≡ pick b (verdict.Sound (length (records_in ci)) (displacement ci) (rdfs_many ci) (last_start (map length (records_in ci)))) verdict.Unsound → b ≡ false
+    go : (b : Bool) → None ≡ pick b (Some (verdict (length (records_in ci)) (displacement ci) (rdfs_many ci) (last_start (map length (records_in ci))))) None → b ≡ false
     go true h = absurd (let z : ◌≡◌ {A = ℕ} 0 1 = cc in omega arith)
     go false h = refl
 
@@ -98,7 +102,7 @@ module _ (m : Measures) (ci : List ℕ) (some : 1 ≤ m.key) (inside : m.offset 
   rises-from k ks a = a
 
   -- there are some: the first and the last key, and that they lie in the interval
-  pub record Some : Type 0 where
+  pub record Ends : Type 0 where
     pub first_key : List ℕ
     pub others : List (List ℕ)
     pub first-is : first_key ≡ part ci m.offset m.key
@@ -108,10 +112,10 @@ module _ (m : Measures) (ci : List ℕ) (some : 1 ≤ m.key) (inside : m.offset 
     pub first-in : m.offset + m.key ≤ length ci
     pub last-in : last_start (map length (records_in ci)) + m.offset + m.key ≤ length ci
 
-  pub there : (length (records_in ci) ≡ 0 → ⊥) → Some
+  pub there : (length (records_in ci) ≡ 0 → ⊥) → Ends
   there n = go (map length (records_in ci)) refl
     where
-      go : (ls : List ℕ) → map length (records_in ci) ≡ ls → Some
+      go : (ls : List ℕ) → map length (records_in ci) ≡ ls → Ends
       go [] e = absurd (n (sym (length-map (records_in ci) length) ∙ ap length e))
       go (l ∷ ls) e =
           let w : all_within m.least m.most (l ∷ ls) ≡ true = rw e at (read-lengths-fine m ci form) in
@@ -133,7 +137,7 @@ module _ (m : Measures) (ci : List ℕ) (some : 1 ≤ m.key) (inside : m.offset 
           }
 
   opened-by : (low : List ℕ) (b : Bool) → above low (keys_of m (records_in ci)) ≡ b
-      → opened_of m low ci ≡ pick b (Sound (length (records_in ci)) (last_start (map length (records_in ci)))) Bad
+      → opened_of m low ci ≡ pick b (Some (opened (length (records_in ci)) (last_start (map length (records_in ci))))) None
   unfolding opened_of
   opened-by low b e = rw (h, e)
 
@@ -152,7 +156,7 @@ module _ (m : Measures) (ci : List ℕ) (some : 1 ≤ m.key) (inside : m.offset 
       go (r ∷ rs) z = absurd (omega arith)
 
   -- no records: it opens, and closes
-  pub opens-empty : (low : List ℕ) → length (records_in ci) ≡ 0 → opened_of m low ci ≡ Sound (length (records_in ci)) (last_start (map length (records_in ci)))
+  pub opens-empty : (low : List ℕ) → length (records_in ci) ≡ 0 → opened_of m low ci ≡ Some (opened (length (records_in ci)) (last_start (map length (records_in ci))))
   opens-empty low e = opened-by low true (none_above low e)
 
   pub closes-empty : (high : List ℕ) → length (records_in ci) ≡ 0 → true ≡ up_to high (keys_of m (records_in ci))
@@ -171,27 +175,27 @@ module _ (m : Measures) (ci : List ℕ) (some : 1 ≤ m.key) (inside : m.offset 
         rw s.keys (up-to-last high s.first_key s.others s.ascends ∙ rw s.last-is)
 
     pub opens-above : (low : List ℕ) (b : Bool) → less low (part ci m.offset m.key) ≡ b
-        → opened_of m low ci ≡ pick b (Sound (length (records_in ci)) (last_start (map length (records_in ci)))) Bad
+        → opened_of m low ci ≡ pick b (Some (opened (length (records_in ci)) (last_start (map length (records_in ci))))) None
     opens-above low b e = opened-by low b (first-decides low ∙ e)
 
     first_some : less [] (part ci m.offset m.key) ≡ true
     first_some = empty-below m.key ci m.offset some (there n).first-in
 
   -- no bound before: it opens
-  pub opens-first : opened_of m [] ci ≡ Sound (length (records_in ci)) (last_start (map length (records_in ci)))
+  pub opens-first : opened_of m [] ci ≡ Some (opened (length (records_in ci)) (last_start (map length (records_in ci))))
   opens-first = go (eqb (length (records_in ci)) 0) refl
     where
-      go : (b : Bool) → eqb (length (records_in ci)) 0 ≡ b → opened_of m [] ci ≡ Sound (length (records_in ci)) (last_start (map length (records_in ci)))
+      go : (b : Bool) → eqb (length (records_in ci)) 0 ≡ b → opened_of m [] ci ≡ Some (opened (length (records_in ci)) (last_start (map length (records_in ci))))
       go true e = opens-empty [] (eqb-true (length (records_in ci)) 0 e)
       go false e = opens-above (eqb-false (length (records_in ci)) 0 e) [] true (first_some (eqb-false (length (records_in ci)) 0 e))
 
 -- an unsound interval does not open
-pub opens_not : (m : Measures) (low ci : List ℕ) → sound m ci ≡ false → Bad ≡ opened_of m low ci
+pub opens_not : (m : Measures) (low ci : List ℕ) → sound m ci ≡ false → None ≡ opened_of m low ci
 unfolding opened_of
 opens_not m low ci e = rw e
 
 -- A separator was compared with as many bytes of the key from place a on as it has: that is how its bound stands to the whole key.
-pub compared : (K : ℕ) (ci sep : List ℕ) (a : ℕ) (o : Order) → length sep ≤ K → a + K ≤ length ci → Octets ci
+pub compared : (K : ℕ) (ci sep : List ℕ) (a : ℕ) (o : Ordering) → length sep ≤ K → a + K ≤ length ci → Octets ci
     → o ≡ order_of sep (take (a + length sep - a) (drop a ci)) → less (bound K sep) (part ci a K) ≡ is_less o
 compared K ci sep a o h i b e =
     let t : take (a + length sep - a) (drop a ci) ≡ take (length sep) (part ci a K) = part-is ci a (length sep) ∙ sym (take-take (length sep) K (drop a ci) h) in
@@ -199,26 +203,26 @@ compared K ci sep a o h i b e =
 
 -- the ways out of `opens` and of `closes`, as they are left
 module _ (m : Measures) (ci : List ℕ) (some : 1 ≤ m.key) (inside : m.offset + m.key ≤ m.least) (count last : ℕ) (t : Told m ci count last) where
-  told_is : Sound (length (records_in ci)) (last_start (map length (records_in ci))) ≡ Sound count last
+  told_is : Some (opened (length (records_in ci)) (last_start (map length (records_in ci)))) ≡ Some (opened count last)
   told_is = rw (t.many, t.final)
 
-  pub way-first : (first : Bool) (low : List ℕ) → first ≡ true → Sound count last ≡ opened_of m (pick first [] low) ci
+  pub way-first : (first : Bool) (low : List ℕ) → first ≡ true → Some (opened count last) ≡ opened_of m (pick first [] low) ci
   way-first first low e = rw e (sym (opens-first m ci some inside t.stands ∙ told_is))
 
-  pub way-empty : (low : List ℕ) → count ≡ 0 → Sound count last ≡ opened_of m low ci
+  pub way-empty : (low : List ℕ) → count ≡ 0 → Some (opened count last) ≡ opened_of m low ci
   way-empty low e = sym (opens-empty m ci some inside t.stands low (sym t.many ∙ e) ∙ told_is)
 
   pub shut-empty : (high : List ℕ) → count ≡ 0 → true ≡ up_to high (keys_of m (records_in ci))
   shut-empty high e = closes-empty m ci some inside t.stands high (sym t.many ∙ e)
 
   module _ (n : count ≡ 0 → ⊥) where
-    pub some-there : Some m ci some inside t.stands
+    pub some-there : Ends m ci some inside t.stands
     some-there = there m ci some inside t.stands (λ e. n (t.many ∙ e))
 
-    pub way_above : (first : Bool) (low : List ℕ) → first ≡ false → less low (part ci m.offset m.key) ≡ true → Sound count last ≡ opened_of m (pick first [] low) ci
+    pub way_above : (first : Bool) (low : List ℕ) → first ≡ false → less low (part ci m.offset m.key) ≡ true → Some (opened count last) ≡ opened_of m (pick first [] low) ci
     way_above first low f e = rw f (sym (opens-above m ci some inside t.stands (λ z. n (t.many ∙ z)) low true e ∙ told_is))
 
-    pub way-below : (first : Bool) (low : List ℕ) → first ≡ false → less low (part ci m.offset m.key) ≡ false → Bad ≡ opened_of m (pick first [] low) ci
+    pub way-below : (first : Bool) (low : List ℕ) → first ≡ false → less low (part ci m.offset m.key) ≡ false → None ≡ opened_of m (pick first [] low) ci
     way-below first low f e = rw f (sym (opens-above m ci some inside t.stands (λ z. n (t.many ∙ z)) low false e))
 
     pub last-inside : last + m.offset + m.key ≤ length ci

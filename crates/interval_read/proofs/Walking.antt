@@ -17,9 +17,9 @@ use Rattle.measures.specs.declared.Measures.{Measures}
 use Rattle.interval.specs.Records.{ascend_from}
 use Rattle.interval.specs.Reading.{Rdf, rdfs, well_formed, lengths}
 use Rattle.rdf.proofs.Fronts.{Step}
-use Rattle.interval_read.specs.Verdict.{last_start}
+use Rattle.std.specs.Prelude.{Some, None}
+use Rattle.interval_read.specs.Verdict.{last_start, verdict}
 use Rattle.interval_read.specs.AidWalk.{keys_at, keys_from, judged, walked}
-use Rattle.interval_read.specs.declared.Verdict.TheVariants.{Sound, Unsound}
 use Rattle.interval_read.proofs.Keys.{keys_none, ascend-none}
 
 -- where the last record begins, of records from a place on of which one was passed
@@ -118,7 +118,7 @@ module _ (m : Measures) (ci : List ℕ) (d : ℕ) (all : List Rdf) where
 
   -- nothing more to judge
   pub ended : (many at seen last : ℕ) → Come m.offset m.key m.least m.most ci d all [] at seen last
-      → walked m ci d many all ≡ pick (eqb at d) (Sound seen d many last) Unsound
+      → walked m ci d many all ≡ pick (eqb at d) (Some (verdict seen d many last)) None
   unfolding walked judged lengths well_formed sum keys_from ascend_from last_from
   ended many at seen last k =
       let e : at + 0 ≡ at = omega arith in
@@ -127,18 +127,18 @@ module _ (m : Measures) (ci : List ℕ) (d : ℕ) (all : List Rdf) where
       rw (j ∙ both_true (eqb at d), n, k.lasts)
 
   module _ (many p n at seen last : ℕ) (k : Come m.offset m.key m.least m.most ci d all (rdfs ci p n) at seen last) (some : 0 < n) where
-    unsound : judged m.offset m.key m.least m.most ci d at (key_before m.offset m.key ci seen last) (rdfs ci p n) ≡ false → walked m ci d many all ≡ Unsound
+    unsound : judged m.offset m.key m.least m.most ci d at (key_before m.offset m.key ci seen last) (rdfs ci p n) ≡ false → walked m ci d many all ≡ None
     unfolding walked
     unsound e = rw (k.judges ∙ e)
 
     -- the next RDFs make no sound group
-    pub no-group : well_formed m.least m.most (rdfs ci p n) ≡ false → walked m ci d many all ≡ Unsound
+    pub no-group : well_formed m.least m.most (rdfs ci p n) ≡ false → walked m ci d many all ≡ None
     unfolding judged
     no-group e = unsound (rw e)
 
     module _ (l c u : ℕ) (s : Step ci p n m.least m.most some l c u) (counted : 1 ≤ c) (long : 1 ≤ l) where
       -- its records run past the bytes that the records may have
-      pub too_long : d < at + l * c → walked m ci d many all ≡ Unsound
+      pub too_long : d < at + l * c → walked m ci d many all ≡ None
       unfolding judged
       too_long h =
           unsound
@@ -153,7 +153,7 @@ module _ (m : Measures) (ci : List ℕ) (d : ℕ) (all : List Rdf) where
           (keys-runs m.offset m.key ci (key_before m.offset m.key ci seen last) at l c (lengths (rdfs ci p (n - u))) (omega arith))
 
       -- its keys do not ascend
-      pub falls : ascend_from (key_before m.offset m.key ci seen last) (keys_at m.key ci (at + m.offset) l c) ≡ false → walked m ci d many all ≡ Unsound
+      pub falls : ascend_from (key_before m.offset m.key ci seen last) (keys_at m.key ci (at + m.offset) l c) ≡ false → walked m ci d many all ≡ None
       unfolding judged
       falls h =
           unsound

@@ -17,9 +17,10 @@ use Rattle.room.specs.Room.{described, Group, all_counted}
 use Rattle.interval.specs.Records.{within, all_within}
 use Rattle.interval.specs.Reading.{Rdf, rdfs, well_formed, lengths}
 use Rattle.interval.proofs.Groups.{rdf, group_rdfs, rdfs_of, lengths-rdfs_of, within_len, within-rest, formed-rdfs_of, Grouped, grouped}
-use Rattle.rdf.specs.AidFront.{front_of}
+use Rattle.std.specs.Prelude.{Option, Some, None}
+use Rattle.rdf.specs.AidFront.{run, front_of}
 use Rattle.rdf.specs.declared.Front.{Front}
-use Rattle.rdf.specs.declared.Front.TheVariants.{Run, Damaged}
+use Rattle.rdf.proofs.Fronts.{runs-same}
 use Rattle.interval_find.proofs.Runs.{no-damage}
 use Rattle.interval_walk.specs.AidSpots.{group_from, group_to}
 
@@ -171,22 +172,22 @@ shape_of b q g u h k e = go (leb g.count 1) refl k e
 
 -- ---- the first group of some RDFs
 
-run-damaged : (l c u : ℕ) → Run l c u ≡ Damaged → ⊥
+run-damaged : (l c u : ℕ) → Some (run l c u) ≡ None → ⊥
 run-damaged l c u e = let z : ◌≡◌ {A = ℕ} 0 1 = cc in omega arith
 
 module _ (least most : ℕ) (b : List ℕ) where
-  pub front-shape : (p n l c u : ℕ) → Run l c u ≡ front_of least most (rdfs b p n) → Shape b (p + 3 * (n - u)) l c u × (u ≤ n)
+  pub front-shape : (p n l c u : ℕ) → Some (run l c u) ≡ front_of least most (rdfs b p n) → Shape b (p + 3 * (n - u)) l c u × (u ≤ n)
   unfolding rdfs
   front-shape p zero l c u e = absurd (run-damaged l c u e)
   front-shape p (suc zero) l c u e =
       go (within least most (number 2 b (p + 3 * 0 + 1))) (eqb (get_or b (p + 3 * 0) 0) 0) (eqb (get_or b (p + 3 * 0) 0) 64) refl e
     where
-      go : (w a x : Bool) → eqb (get_or b (p + 3 * 0) 0) 0 ≡ a → Run l c u ≡ pick w (pick a (Run (number 2 b (p + 3 * 0 + 1)) 1 1) (pick x Damaged Damaged)) Damaged
+      go : (w a x : Bool) → eqb (get_or b (p + 3 * 0) 0) 0 ≡ a → Some (run l c u) ≡ pick w (pick a (Some (run (number 2 b (p + 3 * 0 + 1)) 1 1)) (pick x None None)) None
           → Shape b (p + 3 * (1 - u)) l c u × (u ≤ 1)
       go true true x f e =
-          let k : u ≡ 1 = cc in
+          let (x, y, k) = runs-same e in
           let q : p + 3 * (1 - u) ≡ p + 3 * 0 = omega arith in
-          (rw q (alone (cc) k (eqb-true _ 0 f) (cc)), omega arith)
+          (rw q (alone y k (eqb-true _ 0 f) (sym x)), omega arith)
       go true false true f e = absurd (run-damaged l c u e)
       go true false false f e = absurd (run-damaged l c u e)
       go false a x f e = absurd (run-damaged l c u e)
@@ -197,37 +198,36 @@ module _ (least most : ℕ) (b : List ℕ) where
     where
       go : (w a x y z : Bool) → eqb (get_or b (p + 3 * suc n) 0) 0 ≡ a → eqb (get_or b (p + 3 * suc n) 0) 64 ≡ x → eqb (get_or b (p + 3 * n) 0) 8 ≡ y
           → leb 2 (number 2 b (p + 3 * n + 1)) ≡ z
-          → Run l c u
-          ≡ pick w (pick a (Run (number 2 b (p + 3 * suc n + 1)) 1 1) (pick x (pick (both y z) (Run (number 2 b (p + 3 * suc n + 1)) (number 2 b (p + 3 * n + 1)) 2) Damaged) Damaged))
-          Damaged
+          → Some (run l c u)
+          ≡ pick w (pick a (Some (run (number 2 b (p + 3 * suc n + 1)) 1 1)) (pick x (pick (both y z) (Some (run (number 2 b (p + 3 * suc n + 1)) (number 2 b (p + 3 * n + 1)) 2)) None) None))
+          None
           → Shape b (p + 3 * (suc (suc n) - u)) l c u × (u ≤ suc (suc n))
       go true true x y z f g h i e =
-          let k : u ≡ 1 = cc in
+          let (v, w, k) = runs-same e in
           let q : p + 3 * (suc (suc n) - u) ≡ p + 3 * suc n = omega arith in
-          (rw q (alone (cc) k (eqb-true _ 0 f) (cc)), omega arith)
+          (rw q (alone w k (eqb-true _ 0 f) (sym v)), omega arith)
       go true false true true true f g h i e =
-          let k : u ≡ 2 = cc in
+          let (v, m, k) = runs-same e in
           let q : p + 3 * (suc (suc n) - u) ≡ p + 3 * n = omega arith in
           let s : p + 3 * n + 3 ≡ p + 3 * suc n = omega arith in
           let t : p + 3 * n + 4 ≡ p + 3 * suc n + 1 = omega arith in
-          let m : c ≡ number 2 b (p + 3 * n + 1) = cc in
-          (rw q (paired (omega (arith, m, leb-true 2 (number 2 b (p + 3 * n + 1)) i)) k (eqb-true _ 8 h) (sym m) (rw s (eqb-true _ 64 g)) (rw t (cc))), omega arith)
+          (rw q (paired (omega (arith, m, leb-true 2 (number 2 b (p + 3 * n + 1)) i)) k (eqb-true _ 8 h) (sym m) (rw s (eqb-true _ 64 g)) (rw t (sym v))), omega arith)
       go true false true true false f g h i e = absurd (run-damaged l c u e)
       go true false true false z f g h i e = absurd (run-damaged l c u e)
       go true false false y z f g h i e = absurd (run-damaged l c u e)
       go false a x y z f g h i e = absurd (run-damaged l c u e)
 
   -- RDFs that are well formed, and some, begin with a group
-  pub front-there : (p n : ℕ) → 0 < n → well_formed least most (rdfs b p n) ≡ true → (l : ℕ) × (c : ℕ) × (u : ℕ) × (Run l c u ≡ front_of least most (rdfs b p n))
+  pub front-there : (p n : ℕ) → 0 < n → well_formed least most (rdfs b p n) ≡ true → (l : ℕ) × (c : ℕ) × (u : ℕ) × (Some (run l c u) ≡ front_of least most (rdfs b p n))
   front-there p n h w = go (front_of least most (rdfs b p n)) refl
     where
-      go : (f : Front) → f ≡ front_of least most (rdfs b p n) → (l : ℕ) × (c : ℕ) × (u : ℕ) × (Run l c u ≡ front_of least most (rdfs b p n))
-      go (Run l c u) e = (l, c, u, e)
-      go Damaged e = absurd (no-damage least most b p n w h e)
+      go : (f : Option Front) → f ≡ front_of least most (rdfs b p n) → (l : ℕ) × (c : ℕ) × (u : ℕ) × (Some (run l c u) ≡ front_of least most (rdfs b p n))
+      go (Some f) e = (f.len, f.count, f.used, e)
+      go None e = absurd (no-damage least most b p n w h e)
 
 -- the limits of lengths make no difference to a length that is within both
-pub front_same : (least most least' most' : ℕ) (b : List ℕ) (p n l c u : ℕ) → Run l c u ≡ front_of least most (rdfs b p n) → least' ≤ l → l ≤ most'
-    → Run l c u ≡ front_of least' most' (rdfs b p n)
+pub front_same : (least most least' most' : ℕ) (b : List ℕ) (p n l c u : ℕ) → Some (run l c u) ≡ front_of least most (rdfs b p n) → least' ≤ l → l ≤ most'
+    → Some (run l c u) ≡ front_of least' most' (rdfs b p n)
 unfolding rdfs
 front_same least most least' most' b p zero l c u e h k = e
 front_same least most least' most' b p (suc n) l c u e h k =
@@ -235,7 +235,7 @@ front_same least most least' most' b p (suc n) l c u e h k =
     let x : p + 3 * (suc n - u) + 3 * u - 3 + 1 ≡ p + 3 * n + 1 = omega (arith, s.1, shape-some b (p + 3 * (suc n - u)) l c u s.0) in
     let y : number 2 b (p + 3 * n + 1) ≡ l = sym (ap (number 2 b) x) ∙ shape-long b (p + 3 * (suc n - u)) l c u s.0 in
     let r : Rdf = rdf (get_or b (p + 3 * n) 0) (number 2 b (p + 3 * n + 1)) in
-    let t = pick_true (within least most r.num) _ Damaged (Run l c u) (sym e) (λ (z : Damaged ≡ Run l c u). run-damaged l c u (sym z)) in
+    let t = pick_true (within least most r.num) _ None (Some (run l c u)) (sym e) (λ (z : None ≡ Some (run l c u)). run-damaged l c u (sym z)) in
     let w : within least' most' r.num ≡ true = both-join _ _ (le-leb least' r.num (omega (arith, y))) (le-leb r.num most' (omega (arith, y))) in
     rw w (sym t.1)
 

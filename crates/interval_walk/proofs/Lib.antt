@@ -4,4 +4,5 @@ pub mod Standing
 pub mod Stepping
 pub mod Seeking
 pub mod Landing
+pub mod Lengths
 pub mod Unique

@@ -12,8 +12,8 @@ use Rattle.measures.specs.declared.Measures.{Measures}
 use Rattle.interval.specs.Reading.{rdfs_at, rdfs_many, rdfs, well_formed, lengths, records_in, Readable}
 use Rattle.interval.specs.Search.{start_of}
 use Rattle.interval.proofs.Readable.{readable-rdfs, readable-formed}
-use Rattle.rdf.specs.AidFront.{front_of, Small}
-use Rattle.rdf.specs.declared.Front.TheVariants.{Run}
+use Rattle.std.specs.Prelude.{Some}
+use Rattle.rdf.specs.AidFront.{run, front_of, Small}
 use Rattle.interval_find.proofs.Runs.{Passed, passed-more, more-done, run-starts, each_long, run_fits}
 use Rattle.interval_walk.specs.AidSpots.{spot, group_to, SpotOf}
 use Rattle.interval_walk.proofs.Edges.{rdfs-append, formed-before, formed-cut, Shape, shape-from, shape-to, front-shape}
@@ -69,7 +69,7 @@ module _ (m : Measures) (ci : List ℕ) (r : Readable m ci) (p left : ℕ) (at :
       (sym (formed-before m.least m.most (rdfs ci (p + 3 * left) k) (rdfs ci p left) read-formed).1 ∙ ap lengths (sym apart) ∙ sym (lengths-all m ci r) ∙ sym g.all)
 
   -- the run that the record lies in
-  module _ (some : 0 < left) (l n u : ℕ) (e : Run l n u ≡ front_of m.least m.most (rdfs ci p left)) (s : Small left (Run l n u)) (j : ℕ) (h : j < n) where
+  module _ (some : 0 < left) (l n u : ℕ) (e : Some (run l n u) ≡ front_of m.least m.most (rdfs ci p left)) (s : Small left (Some (run l n u))) (j : ℕ) (h : j < n) where
     shape : Shape ci (p + 3 * (left - u)) l n u
     shape = (front-shape m.least m.most ci p left l n u e).0
 

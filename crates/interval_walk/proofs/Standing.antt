@@ -15,8 +15,8 @@ use Rattle.interval.specs.Reading.{Rdf, rdfs_at, rdfs_many, rdfs, rdfs_in, well_
 use Rattle.interval.specs.Search.{start_of}
 use Rattle.interval.proofs.Backward.{read-lengths}
 use Rattle.interval.proofs.Readable.{readable-form}
-use Rattle.rdf.specs.AidFront.{front_of}
-use Rattle.rdf.specs.declared.Front.TheVariants.{Run}
+use Rattle.std.specs.Prelude.{Some}
+use Rattle.rdf.specs.AidFront.{run, front_of}
 use Rattle.rdf.proofs.Fronts.{steps}
 use Rattle.interval_find.proofs.Runs.{record-inside, key-inside}
 use Rattle.interval_walk.specs.declared.Spot.{Spot}
@@ -150,7 +150,7 @@ module _ (least most : ℕ) (b : List ℕ) where
           ∙ ap length (formed-before least most (rdfs b q j) (rdfs b p (k - j)) v).1
           ∙ length-append (lengths (rdfs b q j)) (lengths (rdfs b p (k - j)))
 
-      least-one : (l c u : ℕ) → Run l c u ≡ front_of least most (rdfs b p (k - j)) → length (lengths (rdfs b q j)) + group_to b q ≤ length (lengths (rdfs b p k))
+      least-one : (l c u : ℕ) → Some (run l c u) ≡ front_of least most (rdfs b p (k - j)) → length (lengths (rdfs b q j)) + group_to b q ≤ length (lengths (rdfs b p k))
       least-one l c u e =
           let t = front-shape least most b p (k - j) l c u e in
           let x : p + 3 * (k - j - u) + 3 * u ≡ q = omega (arith, t.1, h, o) in

@@ -4,12 +4,12 @@
 
 ghost use Rattle.std.specs.Prelude.{◌+◌, ◌≤◌, ◌≡◌, length};
 ghost use Rattle.interval.specs.Reading.{records_in, Readable};
-ghost use Rattle.interval_walk.specs.AidSpots.{no_spot, end_of, left_of, right_of, first_of, last_of, after_of, before_of, SpotOf};
+ghost use Rattle.interval_walk.specs.AidSpots.{some_of, end_of, left_of, right_of, first_of, last_of, after_of, before_of, SpotOf};
 
 use measures::Measures;
 use rdf::{Control, Front};
 
-// A record: where it begins in the interval, how long it is (0 where there is none), how many records of its run are still to come in the direction, and where the
+// A record: where it begins in the interval, how long it is, how many records of its run are still to come in the direction, and where the
 // run's RDFs end in that direction: forwards where they begin, backwards where they end.
 #[derive(Clone, Copy)]
 pub struct Spot {
@@ -19,133 +19,121 @@ pub struct Spot {
     pub at: usize,
 }
 
-// No record.
-pub(crate) fn nothing() -> Spot
-    ensures { result ≡ no_spot }
+// A record of so many bytes; none if there are no bytes, as no record is empty.
+pub(crate) fn some_spot(start: usize, len: usize, left: usize, at: usize) -> Option<Spot>
+    ensures { result ≡ some_of start len left at }
 {
-    Spot {
-        start: 0,
-        len: 0,
-        left: 0,
-        at: 0,
+    if len == 0 {
+        return None;
     }
+    Some(Spot {
+        start,
+        len,
+        left,
+        at,
+    })
 }
 
 // The first record of the group whose RDFs end at place q; it begins at `start`. The RDFs begin where the CIDF says.
-pub(crate) fn group_left(ci: &[u8], start: usize, q: usize) -> Spot
+pub(crate) fn group_left(ci: &[u8], start: usize, q: usize) -> Option<Spot>
     requires { q + 4 ≤ length ci.now }
     ensures { result ≡ left_of ci.now start q }
 {
-    let n = ci.len();
-    let unused = rdf::below_flag(fields::read_two(ci, n - 2));
-    let p = fields::read_two(ci, n - 4) + unused;
+    let p = rdf::rdfs_begin(ci);
     if q < p + 3 {
-        return nothing();
+        return None;
     }
-    let Front::Run { len, count, used } = rdf::group_before(ci, q, (q - p) / 3, 1, 65535) else {
-        return nothing();
-    };
-    Spot {
+    let Front { len, count, used } = rdf::group_before(ci, q, (q - p) / 3, 1, 65535)?;
+    Some(Spot {
         start,
         len,
         left: count - 1,
         at: q - 3 * used,
-    }
+    })
 }
 
 // The last record of a group of so many records of one length, which ends at `end`; its RDFs end at place q.
-pub(crate) fn group_end(end: usize, len: usize, count: usize, q: usize) -> Spot
+pub(crate) fn group_end(end: usize, len: usize, count: usize, q: usize) -> Option<Spot>
     ensures { result ≡ end_of end len count q }
 {
     if end < len || count == 0 {
-        return nothing();
+        return None;
     }
-    Spot {
-        start: end - len,
-        len,
-        left: count - 1,
-        at: q,
-    }
+    some_spot(end - len, len, count - 1, q)
 }
 
 // The last record of the group whose RDFs begin at place q; it ends at `end`. A count stands left of its length.
-pub(crate) fn group_right(ci: &[u8], end: usize, q: usize) -> Spot
+pub(crate) fn group_right(ci: &[u8], end: usize, q: usize) -> Option<Spot>
     requires { 4 ≤ length ci.now }
     ensures { result ≡ right_of ci.now end q }
 {
     let e = ci.len() - 4;
     if e < q || e - q < 3 {
-        return nothing();
+        return None;
     }
-    let first = fields::read_two(ci, q + 1);
+    let first = fields::read::<2>(ci, q + 1);
     match rdf::take_apart(ci[q]) {
-        Control::Single => group_end(end, first, 1, q + 3),
-        Control::Count => {
+        Some(Control::Single) => group_end(end, first, 1, q + 3),
+        Some(Control::Count) => {
             if e - q < 6 {
-                return nothing();
+                return None;
             }
-            group_end(end, fields::read_two(ci, q + 4), first, q + 6)
+            group_end(end, fields::read::<2>(ci, q + 4), first, q + 6)
         }
-        Control::Paired => nothing(),
-        Control::Bad => nothing(),
+        Some(Control::Paired) => None,
+        None => None,
     }
 }
 
 // The first record of an interval.
-pub fn first(ci: &[u8]) -> Spot
+pub fn first(ci: &[u8]) -> Option<Spot>
     ensures { result ≡ first_of ci.now }
 {
     if ci.len() < 4 {
-        return nothing();
+        return None;
     }
     group_left(ci, 0, ci.len() - 4)
 }
 
 // The last record of an interval.
-pub fn last(ci: &[u8]) -> Spot
+pub fn last(ci: &[u8]) -> Option<Spot>
     ensures { result ≡ last_of ci.now }
 {
     let n = ci.len();
     if n < 4 {
-        return nothing();
+        return None;
     }
-    let unused = rdf::below_flag(fields::read_two(ci, n - 2));
-    let bytes = fields::read_two(ci, n - 4);
-    group_right(ci, bytes, bytes + unused)
+    let bytes = fields::read::<2>(ci, n - 4);
+    group_right(ci, bytes, rdf::rdfs_begin(ci))
 }
 
 // The record after one.
-pub fn after(ci: &[u8], s: Spot) -> Spot
+pub fn after(ci: &[u8], s: Spot) -> Option<Spot>
     ensures { result ≡ after_of ci.now s }
 {
     let n = ci.len();
     if n < s.start || n - s.start < s.len {
-        return nothing();
+        return None;
     }
     let start = s.start + s.len;
     if 0 < s.left {
-        return Spot {
-            start,
-            len: s.len,
-            left: s.left - 1,
-            at: s.at,
-        };
+        return some_spot(start, s.len, s.left - 1, s.at);
     }
     if n < 4 || n - 4 < s.at {
-        return nothing();
+        return None;
     }
     group_left(ci, start, s.at)
 }
 
 // The record before one.
-pub fn before(ci: &[u8], s: Spot) -> Spot
+pub fn before(ci: &[u8], s: Spot) -> Option<Spot>
     ensures { result ≡ before_of ci.now s }
 {
     if 0 < s.left {
         return group_end(s.start, s.len, s.left, s.at);
     }
     if ci.len() < 4 {
-        return nothing();
+        return None;
     }
     group_right(ci, s.start, s.at)
 }
@@ -155,15 +143,14 @@ pub fn spot_at(ci: &[u8], m: Measures, i: usize, forward: bool) -> Spot
     requires { Readable m ci.now × (i + 1 ≤ length (records_in ci.now)) }
     ensures { SpotOf m ci.now forward result i }
 {
-    let n = ci.len();
-    let unused = rdf::below_flag(fields::read_two(ci, n - 2));
-    let p = fields::read_two(ci, n - 4) + unused;
-    let mut left = (n - 4 - p) / 3;
+    let rdfs = rdf::rdfs_of(ci);
+    let p = rdfs.at;
+    let mut left = rdfs.many;
     let mut ordinal: usize = 0;
     let mut start: usize = 0;
     while 0 < left {
-        let Front::Run { len, count, used } = rdf::group_at(ci, p, left, m.least, m.most) else {
-            return nothing();
+        let Some(Front { len, count, used }) = rdf::group_at(ci, p, left, m.least, m.most) else {
+            unreachable!();
         };
         if i < ordinal + count {
             let j = i - ordinal;
@@ -180,5 +167,5 @@ pub fn spot_at(ci: &[u8], m: Measures, i: usize, forward: bool) -> Spot
         start += count * len;
         left -= used;
     }
-    nothing()
+    unreachable!()
 }

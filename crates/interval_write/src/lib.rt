@@ -1,20 +1,23 @@
 // The writer of a data interval: document 01, 'Data interval'. Every byte of the interval is written.
 #![tactic(auto)]
 
-ghost use Rattle.std.specs.Prelude.{◌+◌, ◌-◌, ◌*◌, ◌≤◌, ◌<◌, ◌≡◌, length, take};
+ghost use Rattle.std.specs.Prelude.{◌+◌, ◌-◌, ◌≤◌, ◌<◌, ◌≡◌, length, take};
 ghost use Rattle.fields.specs.Bytes.{splice};
 ghost use Rattle.fields.specs.Lists.{sum};
 ghost use Rattle.room.specs.Room.{groups, need};
 ghost use Rattle.interval.specs.Layout.{rdf_bytes, group_bytes, groups_bytes, cidf, form};
 ghost use Rattle.interval.specs.Reading.{cut};
+ghost use Rattle.rdf.specs.Control.{byte_of};
 
-// Stores an RDF: whether a paired one stands to its left, whether its number is a count, its number.
-pub(crate) fn put_rdf(ci: &mut [u8], at: usize, paired: u8, counts: u8, num: usize)
-    requires { (at + 3 ≤ length ci.old) × (paired < 2) × (counts < 2) × (num < 65536) }
-    ensures { ci.new ≡ splice ci.old at (rdf_bytes (paired * 64 + counts * 8) num) }
+use rdf::Control;
+
+// Stores an RDF: its kind and its number.
+pub(crate) fn put_rdf(ci: &mut [u8], at: usize, kind: Control, num: usize)
+    requires { (at + 3 ≤ length ci.old) × (num < 65536) }
+    ensures { ci.new ≡ splice ci.old at (rdf_bytes (byte_of kind) num) }
 {
-    fields::write_two(ci, at + 1, num);
-    ci[at] = rdf::put_together(paired, counts);
+    fields::write(ci, at + 1, 2, num);
+    ci[at] = rdf::control_byte(kind);
 }
 
 // Stores a group's RDFs so that they end at a place, and gives the place where they begin.
@@ -24,12 +27,12 @@ pub(crate) fn put_group(ci: &mut [u8], end: usize, len: usize, count: usize) -> 
     ensures bytes { ci.new ≡ splice ci.old result (group_bytes record { len = len; count = count }) }
 {
     if count <= 1 {
-        put_rdf(ci, end - 3, 0, 0, len);
+        put_rdf(ci, end - 3, Control::Single, len);
         return end - 3;
     }
     // RDFs run right to left: the count of a run stands left of its length.
-    put_rdf(ci, end - 3, 1, 0, len);
-    put_rdf(ci, end - 6, 0, 1, count);
+    put_rdf(ci, end - 3, Control::Paired, len);
+    put_rdf(ci, end - 6, Control::Count, count);
     end - 6
 }
 
@@ -54,8 +57,8 @@ pub(crate) fn put_cidf(ci: &mut [u8], at: usize, displacement: usize, unused: us
     requires { (at + 4 ≤ length ci.old) × (displacement < 65536) × (unused < 32768) }
     ensures { ci.new ≡ splice ci.old at (cidf displacement unused) }
 {
-    fields::write_two(ci, at, displacement);
-    fields::write_two(ci, at + 2, rdf::with_flag(0, unused));
+    fields::write(ci, at, 2, displacement);
+    fields::write(ci, at + 2, 2, rdf::with_flag(0, unused));
 }
 
 // Writes what follows the records of an interval, whose bytes lie at its front: zeros in the unused space, the RDFs of their lengths grouped

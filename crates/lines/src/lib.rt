@@ -7,49 +7,43 @@ ghost use Rattle.lines.specs.Hex.{hex_text_of, HexWritten, digit_of};
 
 use requests::Answer;
 
-// What a request line comes to: it is no request, or the register has told its answer.
-#[derive(Clone, Copy)]
-pub enum Line {
-    Bad,
-    Told(Answer),
-}
-
-// One line: a letter G, I, U or E, a length byte, and the key (G, E) or the record (I, U), whatever lies past the length. Only a line
+// One line, and what the register answers where it is a request: a letter G, I, U or E, a length byte, and the key (G, E) or the record
+// (I, U), whatever lies past the length. Only a line
 // that is 64 bytes long can hold all 62 bytes that a length may promise.
-pub fn step(area: &mut [u8], request: &[u8], out: &mut [u8]) -> Line
+pub fn step(area: &mut [u8], request: &[u8], out: &mut [u8]) -> Option<Answer>
     ensures { Serves (served_of area.old request.now out.old) result area.new out.new }
 {
     if request.len() != 64 {
-        return Line::Bad;
+        return None;
     }
     let letter = request[0];
     let len = request[1] as usize;
     if 62 < len {
-        return Line::Bad;
+        return None;
     }
     let e = 2 + len;
     if letter == b'G' {
-        return Line::Told(register::get(area, 512, 0, 8, 60, &request[2..e], out));
+        return Some(register::get(area, 512, 0, 8, 60, &request[2..e], out));
     }
     if letter == b'I' {
-        return Line::Told(register::insert(area, 512, 0, 8, 60, &request[2..e]));
+        return Some(register::insert(area, 512, 0, 8, 60, &request[2..e]));
     }
     if letter == b'U' {
-        return Line::Told(register::update(area, 512, 0, 8, 60, &request[2..e]));
+        return Some(register::update(area, 512, 0, 8, 60, &request[2..e]));
     }
     if letter == b'E' {
-        return Line::Told(register::erase(area, 512, 0, 8, 60, &request[2..e]));
+        return Some(register::erase(area, 512, 0, 8, 60, &request[2..e]));
     }
-    Line::Bad
+    None
 }
 
 // The number that a depot reads: 10 for a bad line, else the register's own.
-pub fn number(line: Line) -> usize
+pub fn number(line: Option<Answer>) -> usize
     ensures { result ≡ line_number line }
 {
     match line {
-        Line::Bad => 10,
-        Line::Told(answer) => requests::number(answer),
+        None => 10,
+        Some(answer) => requests::number(answer),
     }
 }
 

@@ -1,4 +1,5 @@
 -- From area to area by lines served: none, one, and one lot after another; and what that says of the records.
+use Rattle.std.specs.Prelude.{Option}
 use Prim.Native.Nat.{ℕ}
 use mathlib.Core.Path.{◌≡◌, refl, ◌∙◌}
 use mathlib.Core.List.{List, [], ◌∷◌, ◌++◌}
@@ -7,15 +8,15 @@ use Rattle.area.specs.Content.{Content, records_of}
 use Rattle.area.specs.Example.{depot}
 use Rattle.promises.specs.Trace.{accepted_in, Sound, Stands}
 use Rattle.lines.specs.Lines.{served_of, Serves}
-use Rattle.lines.specs.declared.Line.{Line}
 use Rattle.lines_history.specs.Day.{Turn, Day, evening, steps_of, Leads}
 use Rattle.lines_history.proofs.Served.{day-history}
+use Rattle.requests.specs.Answers.{Answer}
 
 pub led-nowhere : (area : List ℕ) → Leads area area
 led-nowhere area = record { turns = []; day = tt; leaves = refl }
 
 -- one line, as a caller of `lines::step` learns of it
-pub led-line : (area bytes lent : List ℕ) (line : Line) (after output : List ℕ) → Octets bytes → Serves (served_of area bytes lent) line after output → Leads area after
+pub led-line : (area bytes lent : List ℕ) (line : Option Answer) (after output : List ℕ) → Octets bytes → Serves (served_of area bytes lent) line after output → Leads area after
 led-line area bytes lent line after output o s =
     record { turns = record { bytes = bytes; lent = lent; line = line; area = after; output = output } ∷ []; day = (o, s, tt); leaves = refl }
 

@@ -1,4 +1,5 @@
 -- A depot's day is a history.
+use Rattle.std.specs.Prelude.{Some, None, Option}
 use Prim.Native.Nat.{ℕ}
 use mathlib.Core.Path.{◌≡◌, refl, ◌∙◌, sym, ap}
 use mathlib.Core.Bool.{Bool, true, false}
@@ -11,12 +12,10 @@ use Rattle.fields.specs.Choice.{pick, both}
 use Rattle.fields.proofs.Octets.{octets-part}
 use Rattle.area.specs.Content.{Content, records_of}
 use Rattle.area.specs.Example.{depot}
-use Rattle.requests.specs.declared.Answer.{Answer}
+use Rattle.requests.specs.Answers.{Answer}
 use Rattle.promises.specs.Trace.{Step, Trace, area_after, accepted_in, Sound, Stands}
 use Rattle.promises.proofs.History.{history}
 use Rattle.lines.specs.Lines.{Command, command_of, bad, get, insert, update, erase, by_letter, serve, served_of, Serves}
-use Rattle.lines.specs.declared.Line.{Line}
-use Rattle.lines.specs.declared.Line.TheVariants.{Bad, Told}
 use Rattle.lines_history.specs.Day.{Turn, Day, evening, step_for, steps_of}
 
 -- the bytes that a request hands over
@@ -27,25 +26,25 @@ handed (insert r) = r
 handed (update r) = r
 handed (erase key) = key
 
-told_same : (a b : Answer) → Told a ≡ Told b → a ≡ b
+told_same : (a b : Answer) → Some a ≡ Some b → a ≡ b
 told_same a b e = cc
 
-bad-told : (a : Answer) → Bad ≡ Told a → ⊥
+bad-told : (a : Answer) → None ≡ Some a → ⊥
 bad-told a e = let z : ◌≡◌ {A = ℕ} 0 1 = cc in omega arith
 
 module _ (area : List ℕ) (t : Turn) where
   -- one line is a step, or leaves the area
-  one : (q : Command) (l : Line) → Octets (handed q) → Serves (serve q area t.lent) l t.area t.output
+  one : (q : Command) (l : Option Answer) → Octets (handed q) → Serves (serve q area t.lent) l t.area t.output
       → Trace depot area (step_for q l t) × (area_after area (step_for q l t) ≡ t.area)
   one bad l o s = (tt, sym s.leaves)
-  one (get key) Bad o s = absurd (bad-told _ s.tells)
-  one (get key) (Told a) o s = (((s.leaves, record { answers = told_same _ _ s.tells; outputs = s.outputs }), tt), refl)
-  one (insert r) Bad o s = absurd (bad-told _ s.tells)
-  one (insert r) (Told a) o s = (((o, record { answers = told_same _ _ s.tells; leaves = s.leaves }), tt), refl)
-  one (update r) Bad o s = absurd (bad-told _ s.tells)
-  one (update r) (Told a) o s = (((o, record { answers = told_same _ _ s.tells; leaves = s.leaves }), tt), refl)
-  one (erase key) Bad o s = absurd (bad-told _ s.tells)
-  one (erase key) (Told a) o s = (((o, record { answers = told_same _ _ s.tells; leaves = s.leaves }), tt), refl)
+  one (get key) None o s = absurd (bad-told _ s.tells)
+  one (get key) (Some a) o s = (((s.leaves, record { answers = told_same _ _ s.tells; outputs = s.outputs }), tt), refl)
+  one (insert r) None o s = absurd (bad-told _ s.tells)
+  one (insert r) (Some a) o s = (((o, record { answers = told_same _ _ s.tells; leaves = s.leaves }), tt), refl)
+  one (update r) None o s = absurd (bad-told _ s.tells)
+  one (update r) (Some a) o s = (((o, record { answers = told_same _ _ s.tells; leaves = s.leaves }), tt), refl)
+  one (erase key) None o s = absurd (bad-told _ s.tells)
+  one (erase key) (Some a) o s = (((o, record { answers = told_same _ _ s.tells; leaves = s.leaves }), tt), refl)
 
 -- what a line hands over are bytes of it
 chosen : (t : Bool) (p q : Command) → Octets (handed p) → Octets (handed q) → Octets (handed (pick t p q))

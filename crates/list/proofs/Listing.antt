@@ -1,4 +1,5 @@
 -- The list, line by line: from each place on, the steps give the records that are still to be printed.
+use Rattle.std.specs.Prelude.{Ok}
 use Prim.Native.Nat.{ℕ, zero, suc, ◌+◌, ◌-◌, ◌≤◌, ◌<◌}
 use mathlib.Core.Path.{◌≡◌, refl, ◌∙◌, sym, ap}
 use mathlib.Core.Bool.{Bool, true, false}
@@ -16,11 +17,9 @@ use Rattle.requests.specs.Words.{Small}
 use Rattle.requests.proofs.Bounded.{check-small}
 use Rattle.requests.proofs.Items.{none, items-long}
 use Rattle.requests.proofs.Walks.{walk-all}
-use Rattle.walk.specs.AidGives.{Gives, Begins}
+use Rattle.walk.specs.AidGives.{Gives, Begins, Begun}
 use Rattle.walk.specs.AidSteps.{next_of, record_of, steps_from}
 use Rattle.walk.specs.declared.Place.{Place}
-use Rattle.walk.specs.declared.Begun.{Begun}
-use Rattle.walk.specs.declared.Begun.TheVariants.{At}
 use Rattle.walk.proofs.Promised.{never, placed-gives}
 use Rattle.list.specs.Listed.{given_by, depot, list_of, Line, Closing, Lists}
 
@@ -34,7 +33,7 @@ list-small area = go (opening_of depot area) (check-small depot area)
     go (holding m c) s = rw (walk-all m c, items-long m c.filled) s.many
 
 -- A walk from the low end that begins at a place lists the area from there.
-pub end-lists : (area : List ℕ) (r : Begun) (p : Place) → r ≡ At p → Begins area 512 true (walk_end_of depot area true) r → Lists area p
+pub end-lists : (area : List ℕ) (r : Begun) (p : Place) → r ≡ Ok p → Begins area 512 true (walk_end_of depot area true) r → Lists area p
 unfolding list_of
 end-lists area r p at = go (walk_end_of depot area true)
   where

@@ -7,12 +7,12 @@ mod print;
 ghost use Rattle.list.specs.Listed.{Lists};
 
 use depot_io::End;
-use fields::Order;
 use measures::Numbers;
+use std::cmp::Ordering;
 use std::env::FillError;
 use std::io::Result;
 use std::rt::{Env, Files};
-use walk::{Begun, Place};
+use walk::Place;
 
 // How the depot's areas are measured: intervals of 512 bytes, keys of 8 bytes at the front of records of at most 60.
 const MEASURES: Numbers = Numbers {
@@ -46,8 +46,8 @@ fn ended(printed: Result<()>) -> End {
 // The list, or the line for an area that is refused.
 fn listed(rt: &impl Print, area: &[u8], with_text: bool) -> End {
     match walk::walk_end(area, MEASURES, true) {
-        Begun::At(p) => ended(records(rt, area, p, with_text)),
-        Begun::Refused(answer) => depot_io::refused(rt, answer),
+        Ok(p) => ended(records(rt, area, p, with_text)),
+        Err(refusal) => depot_io::refused(rt, Err(refusal)),
     }
 }
 
@@ -62,11 +62,7 @@ enum Kind {
 // Whether the program was started with this word or with more.
 fn given(rt: &impl Env, place: usize) -> bool {
     let mut word = [0u8; 8];
-    match rt.arg(place, &mut word) {
-        Ok(_) => true,
-        Err(FillError::TooLong) => true,
-        Err(FillError::NotPresent) => false,
-    }
+    !matches!(rt.arg(place, &mut word), Err(FillError::NotPresent))
 }
 
 fn wanted(rt: &impl Env) -> Kind {
@@ -80,11 +76,10 @@ fn wanted(rt: &impl Env) -> Kind {
     let Ok(n) = rt.arg(1, &mut word) else {
         return Kind::Unknown;
     };
-    match fields::compare(&word[..n], b"--text") {
-        Order::Same => Kind::Text,
-        Order::Less => Kind::Unknown,
-        Order::Greater => Kind::Unknown,
-    }
+    let Ordering::Equal = fields::compare(&word[..n], b"--text") else {
+        return Kind::Unknown;
+    };
+    Kind::Text
 }
 
 // One byte more than the largest area, so that a longer file shows: no area has that length.

@@ -18,13 +18,12 @@ fn text(rt: &impl Print, bytes: &[u8]) -> Result<()> {
     if line.len() < bytes.len() {
         return Err(Error::from_raw_os_error(0));
     }
-    let mut i = 0;
-    while i < bytes.len() {
+    let n = bytes.len();
+    for i in 0..n {
         line[i] = shown(bytes[i]);
-        i += 1;
     }
     words(rt, b" ")?;
-    words(rt, &line[..i])
+    words(rt, &line[..n])
 }
 
 // The line for one record: its place, its key, all of it; and as text, if that is asked for. The area is there for the contract: it is the record with that place that

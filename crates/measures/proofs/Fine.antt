@@ -1,6 +1,7 @@
 -- What refusal 1 means: the test holds exactly where document 01's sentence does.
+use Rattle.std.specs.Prelude.{None, Option}
 use Prim.Native.Nat.{ℕ, ◌+◌, ◌-◌, ◌*◌, ◌/◌, ◌%◌, ◌≤◌, ◌<◌}
-use mathlib.Core.Path.{◌≡◌, refl, sym}
+use mathlib.Core.Path.{◌≡◌, refl, sym, ap}
 use mathlib.Core.Bool.{Bool, true, false}
 use mathlib.Core.Logic.{◌⊎◌, inl, inr}
 use lib.Dec.{eqb, leb}
@@ -10,10 +11,9 @@ use borrow.Author.Tests.{eqb-true, leb-true, eq-eqb, le-leb}
 use Rattle.fields.specs.Choice.{pick, both}
 use Rattle.fields.proofs.Choices.{both-split}
 use Rattle.measures.specs.Sizes.{permitted_size}
-use Rattle.measures.specs.Judgement.{fine, count_of, limit, Fits, judged_of}
+use Rattle.measures.specs.Judgement.{fine, count_of, limit, Fits, judged_of, passed}
 use Rattle.measures.specs.declared.Measures.{Measures}
 use Rattle.measures.specs.declared.Judged.{Judged}
-use Rattle.measures.specs.declared.Judged.TheVariants.{Fine, Outside}
 use Rattle.measures.proofs.Sizes.{permitted-range}
 
 -- the test gives the sentence
@@ -66,40 +66,46 @@ fits-fine m length n f =
     )
 
 -- the judgement is one of two
-pub judged-either : (m : Measures) (length : ℕ) → (judged_of m length ≡ Outside) ⊎ (judged_of m length ≡ Fine m (count_of m.size length))
+pub judged-either : (m : Measures) (length : ℕ) → (judged_of m length ≡ None) ⊎ (judged_of m length ≡ passed m (count_of m.size length))
 unfolding judged_of
 judged-either m length = go (fine m length)
   where
-    go : (t : Bool) → let x : Judged = pick t (Fine m (count_of m.size length)) Outside in (x ≡ Outside) ⊎ (x ≡ Fine m (count_of m.size length))
+    go : (t : Bool) → let x : Option Judged = pick t (passed m (count_of m.size length)) None in (x ≡ None) ⊎ (x ≡ passed m (count_of m.size length))
     go true = inr refl
     go false = inl refl
 
 -- refused exactly where the sentence does not hold, accepted with the number of intervals where it does
-pub refused : (m : Measures) (length : ℕ) → (Fits m (count_of m.size length) length → ⊥) → judged_of m length ≡ Outside
+pub refused : (m : Measures) (length : ℕ) → (Fits m (count_of m.size length) length → ⊥) → judged_of m length ≡ None
 unfolding judged_of
 refused m length n = go (fine m length) refl
   where
-    go : (t : Bool) → fine m length ≡ t → pick t (Fine m (count_of m.size length)) Outside ≡ Outside
+    go : (t : Bool) → fine m length ≡ t → pick t (passed m (count_of m.size length)) None ≡ None
     go true e = absurd (n (fine-fits m length e))
     go false e = refl
 
-pub accepted : (m : Measures) (length n : ℕ) → Fits m n length → judged_of m length ≡ Fine m n
+pub accepted : (m : Measures) (length n : ℕ) → Fits m n length → judged_of m length ≡ passed m n
 unfolding judged_of
 accepted m length n f = rw (fits-fine m length n f, fits_count m length n f)
 
+-- what is passed is told by its measures and its number
+pub passed_apart : (k m : Measures) (p n : ℕ) → passed k p ≡ passed m n → (k ≡ m) × (p ≡ n)
+passed_apart k m p n h =
+    let r : ◌≡◌ {A = Judged} (record { measures = k; count = p }) (record { measures = m; count = n }) = cc in
+    (ap (λ (j : Judged). j.measures) r, ap (λ (j : Judged). j.count) r)
+
 -- what is accepted are the measures themselves
-judged-apart : (k m : Measures) (length n : ℕ) → judged_of k length ≡ Fine m n → (k ≡ m) × Fits k n length
+judged-apart : (k m : Measures) (length n : ℕ) → judged_of k length ≡ passed m n → (k ≡ m) × Fits k n length
 unfolding judged_of
 judged-apart k m length n = go (fine k length) refl
   where
-    go : (t : Bool) → fine k length ≡ t → pick t (Fine k (count_of k.size length)) Outside ≡ Fine m n → (k ≡ m) × Fits k n length
-    go true e h = let c : count_of k.size length ≡ n = cc in (cc, rw c at (fine-fits k length e))
+    go : (t : Bool) → fine k length ≡ t → pick t (passed k (count_of k.size length)) None ≡ passed m n → (k ≡ m) × Fits k n length
+    go true e h = let p = passed_apart k m (count_of k.size length) n h in (p.0, rw p.1 at (fine-fits k length e))
     go false e h = absurd (let z : ◌≡◌ {A = ℕ} 0 1 = cc in omega arith)
 
-pub judged-same : (k m : Measures) (length n : ℕ) → judged_of k length ≡ Fine m n → k ≡ m
+pub judged-same : (k m : Measures) (length n : ℕ) → judged_of k length ≡ passed m n → k ≡ m
 judged-same k m length n j = (judged-apart k m length n j).0
 
-pub accepted-fits : (m : Measures) (length n : ℕ) → judged_of m length ≡ Fine m n → Fits m n length
+pub accepted-fits : (m : Measures) (length n : ℕ) → judged_of m length ≡ passed m n → Fits m n length
 accepted-fits m length n j = (judged-apart m m length n j).1
 
 -- a whole number of intervals leaves no remainder

@@ -1,31 +1,37 @@
 -- Laws of `any_below`, and the stepping rule at each entry of the table.
 use Prim.Native.Nat.{ℕ, zero, suc, ◌+◌, ◌-◌, ◌*◌, ◌≤◌, ◌<◌}
-use mathlib.Core.Path.{◌≡◌, refl}
-use mathlib.Core.Bool.{Bool, true, false}
-use mathlib.Core.Logic.{⊎_elim}
-use lib.ListN.{get_or}
+use mathlib.Core.Path.{◌≡◌, refl, ◌∙◌, sym, ap}
+use mathlib.Core.Bool.{Bool, true, false, ◌||◌}
+use mathlib.Core.List.{List, [], ◌∷◌}
+use Rattle.std.specs.List.{list_any}
+use lib.ListN.{get_or, length}
 use lib.Dec.{eqb, eqb→eq, ltb}
-use native.Mathlib.Nat.{le_of_suc-le-suc, not-suc-le-zero, eq-or-lt_of_le}
-use native.Mathlib.Numerals.{add-one}
 use native.Mathlib.Omega.{arith}
 use borrow.Author.Tests.{eqb-true, ltb-true}
 use Rattle.fields.specs.Choice.{pick, either}
 use Rattle.fields.proofs.Tables.{at}
 use Rattle.measures.specs.Sizes.{any_below, size_at, permitted_size, sizes}
 
-either_true : (b : Bool) → either b true ≡ true
-either_true true = refl
-either_true false = refl
+either_swap : (a b c : Bool) → either a (either b c) ≡ either b (either a c)
+either_swap true true c = refl
+either_swap true false c = refl
+either_swap false b c = refl
 
-pub any_here : (f : ℕ → Bool) (n i : ℕ) → i < n → f i ≡ true → any_below f n ≡ true
+-- the first number apart
+any-first : (f : ℕ → Bool) (n : ℕ) → any_below f (suc n) ≡ either (f 0) (any_below (λ k. f (suc k)) n)
 unfolding any_below
-any_here f zero i h e = absurd (not-suc-le-zero h)
-any_here f (suc n) i h e =
-    ⊎_elim (λ (p : i ≡ n). rw (← p, e)) (λ l. rw (any_here f n i l e) (either_true (f n))) (eq-or-lt_of_le (le_of_suc-le-suc h))
+any-first f zero = refl
+any-first f (suc n) = ap (either (f (suc n))) (any-first f n) ∙ either_swap (f (suc n)) (f 0) (any_below (λ k. f (suc k)) n)
 
-pub any-more : (f : ℕ → Bool) (n : ℕ) → any_below f n ≡ false → f n ≡ false → any_below f (n + 1) ≡ false
+-- some entry of a list passes a test exactly if the entry at some place does
+pub any-listed : (f : ℕ → Bool) (xs : List ℕ) → list_any f xs ≡ any_below (λ k. f (get_or xs k 0)) (length xs)
 unfolding any_below
-any-more f n h e = rw (add-one, e, h)
+any-listed f [] = refl
+any-listed f (x ∷ xs) = go (f x) (any-listed f xs) ∙ sym (any-first (λ k. f (get_or (x ∷ xs) k 0)) (length xs))
+  where
+    go : (b : Bool) → list_any f xs ≡ any_below (λ k. f (get_or xs k 0)) (length xs) → b || list_any f xs ≡ either b (any_below (λ k. f (get_or xs k 0)) (length xs))
+    go true e = refl
+    go false e = e
 
 right : ℕ → ℕ → Bool
 right k x = eqb x (size_at k)
@@ -34,6 +40,11 @@ right k x = eqb x (size_at k)
 pub stepping : (k : ℕ) → k < 28 → get_or sizes k 0 ≡ size_at k
 unfolding right
 stepping k h = eqb→eq (get_or sizes k 0) (size_at k) (at right sizes tt k h)
+
+-- the table has the sizes of the stepping rule
+pub listed : (size : ℕ) → list_any (λ x. eqb x size) sizes ≡ permitted_size size
+unfolding permitted_size any_below
+listed size = any-listed (λ x. eqb x size) sizes
 
 -- what passes a test at each number below n
 any-means : (f : ℕ → Bool) (P : Type 0) (n : ℕ) → ((i : ℕ) → i < n → f i ≡ true → P) → any_below f n ≡ true → P

@@ -1,11 +1,10 @@
 -- Refusal 1, in unbounded arithmetic: document 01, 'The area we lend'.
-use Rattle.std.specs.Prelude.{ℕ, ◌+◌, ◌-◌, ◌*◌, ◌/◌, ◌≤◌, ◌≡◌, Bool, true, eqb, leb}
+use Rattle.std.specs.Prelude.{ℕ, ◌+◌, ◌-◌, ◌*◌, ◌/◌, ◌≤◌, ◌≡◌, Bool, true, Option, Some, None, eqb, leb}
 use Rattle.fields.specs.Choice.{pick, both}
 use Rattle.measures.specs.Sizes.{permitted_size}
 use Rattle.measures.specs.declared.Measures.{Measures}
 use Rattle.measures.specs.declared.Numbers.{Numbers}
 use Rattle.measures.specs.declared.Judged.{Judged}
-use Rattle.measures.specs.declared.Judged.TheVariants.{Fine, Outside}
 
 -- the most data intervals of one area: document 02, L6
 abbrev pub limit : ℕ
@@ -49,5 +48,10 @@ pub record Fits (m : Measures) (n length : ℕ) : Type 0 where
   pub some : 1 ≤ n
   pub few : n ≤ limit
 
-unfoldable pub judged_of : Measures → ℕ → Judged
-judged_of m length = pick (fine m length) (Fine m (count_of m.size length)) Outside
+-- measures that are fine, with the number of data intervals
+abbrev pub passed : Measures → ℕ → Option Judged
+passed m n = Some (record { measures = m; count = n })
+
+-- none of refusal 1
+unfoldable pub judged_of : Measures → ℕ → Option Judged
+judged_of m length = pick (fine m length) (passed m (count_of m.size length)) None

@@ -24,10 +24,11 @@ pub struct Numbers {
     pub most: usize,
 }
 
+// Measures that are what document 01 allows, and how many data intervals the area then has.
 #[derive(Clone, Copy)]
-pub enum Judged {
-    Fine { measures: Measures, count: usize },
-    Outside,
+pub struct Judged {
+    pub measures: Measures,
+    pub count: usize,
 }
 
 // The most data intervals that one control area has.
@@ -53,20 +54,13 @@ const SIZES: [usize; 28] = [
 pub fn permitted(size: usize) -> bool
     ensures { result ≡ permitted_size size }
 {
-    let mut i: usize = 0;
-    while i < 28 {
-        if SIZES[i] == size {
-            return true;
-        }
-        i += 1;
-    }
-    false
+    SIZES.contains(&size)
 }
 
-// Refusal 1, of the measures as one value: whether they and the buffer's length are what document 01 allows, and the
+// Refusal 1 is none, of the measures as one value: whether they and the buffer's length are what document 01 allows, and the
 // shortest record holds its key and is no longer than the longest; with the number of data intervals.
 // The size is judged before anything is divided by it.
-pub fn judge_measures(m: Measures, length: usize) -> Judged
+pub fn judge_measures(m: Measures, length: usize) -> Option<Judged>
     ensures { result ≡ judged_of m length }
 {
     let size = m.size;
@@ -75,45 +69,45 @@ pub fn judge_measures(m: Measures, length: usize) -> Judged
     let least = m.least;
     let most = m.most;
     if !permitted(size) {
-        return Judged::Outside;
+        return None;
     }
     if key < 1 {
-        return Judged::Outside;
+        return None;
     }
     if 255 < key {
-        return Judged::Outside;
+        return None;
     }
     if size - 7 < most {
-        return Judged::Outside;
+        return None;
     }
     if most < least {
-        return Judged::Outside;
+        return None;
     }
     if least < key {
-        return Judged::Outside;
+        return None;
     }
     if least - key < offset {
-        return Judged::Outside;
+        return None;
     }
     if length % size != 0 {
-        return Judged::Outside;
+        return None;
     }
     let whole = length / size;
     if whole < 2 {
-        return Judged::Outside;
+        return None;
     }
     if LIMIT + 1 < whole {
-        return Judged::Outside;
+        return None;
     }
-    Judged::Fine {
+    Some(Judged {
         measures: m,
         count: whole - 1,
-    }
+    })
 }
 
-// Refusal 1, of the four numbers of a request: the shortest record ends with its key. The sum is taken only of what is
+// Refusal 1 is none, of the four numbers of a request: the shortest record ends with its key. The sum is taken only of what is
 // known to be small.
-pub fn judge(numbers: Numbers, length: usize) -> Judged
+pub fn judge(numbers: Numbers, length: usize) -> Option<Judged>
     ensures { result ≡ judged_of (asked numbers) length }
 {
     let size = numbers.size;
@@ -121,10 +115,10 @@ pub fn judge(numbers: Numbers, length: usize) -> Judged
     let key = numbers.key;
     let most = numbers.most;
     if most < key {
-        return Judged::Outside;
+        return None;
     }
     if most - key < offset {
-        return Judged::Outside;
+        return None;
     }
     let m = Measures {
         size,

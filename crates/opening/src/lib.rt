@@ -5,42 +5,30 @@ ghost use Rattle.std.specs.Prelude.{◌≡◌};
 ghost use Rattle.measures.specs.Judgement.{asked};
 ghost use Rattle.opening.specs.AidOpened.{opened_of};
 
-use area::Checked;
-use measures::{Judged, Measures, Numbers};
-use requests::Answer;
+use measures::{Measures, Numbers};
+use requests::Refusal;
 
-// A sound area with its measures and how many data intervals, records and free intervals it has; or refusal 1 or 2.
+// A sound area: its measures, and how many data intervals, records and free intervals it has.
 #[derive(Clone, Copy)]
-pub enum Opened {
-    Whole {
-        measures: Measures,
-        count: usize,
-        records: usize,
-        free: usize,
-    },
-    Refused {
-        answer: Answer,
-    },
+pub struct Whole {
+    pub measures: Measures,
+    pub count: usize,
+    pub records: usize,
+    pub free: usize,
 }
 
-// Judges the four numbers, then checks the area.
-pub fn open(area: &[u8], numbers: Numbers) -> Opened
+// Judges the four numbers, then checks the area: refusals 1 and 2.
+pub fn open(area: &[u8], numbers: Numbers) -> Result<Whole, Refusal>
     ensures { result ≡ opened_of (asked numbers) area.now }
 {
-    let Judged::Fine { measures, count } = measures::judge(numbers, area.len()) else {
-        return Opened::Refused {
-            answer: Answer::Outside,
-        };
+    let Some(fine) = measures::judge(numbers, area.len()) else {
+        return Err(Refusal::Outside);
     };
-    match area_read::check(area, measures, count) {
-        Checked::Intact { records, free } => Opened::Whole {
-            measures,
-            count,
-            records,
-            free,
-        },
-        Checked::Damaged { place } => Opened::Refused {
-            answer: Answer::Damaged(place),
-        },
-    }
+    let holds = area_read::check(area, fine.measures, fine.count)?;
+    Ok(Whole {
+        measures: fine.measures,
+        count: fine.count,
+        records: holds.records,
+        free: holds.free,
+    })
 }

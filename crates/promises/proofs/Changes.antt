@@ -1,4 +1,5 @@
 -- What an accepted change does: the fewest intervals, and no byte written but in those that it names.
+use Rattle.std.specs.Prelude.{Ok}
 use Prim.Native.Nat.{ℕ, ◌+◌, ◌-◌, ◌≤◌, ◌<◌}
 use mathlib.Core.Path.{◌≡◌, refl, ◌∙◌, sym, ap}
 use mathlib.Core.List.{List, [], ◌∷◌, ◌++◌, Memᴰ}
@@ -28,12 +29,11 @@ use Rattle.change.proofs.Planning.{planned}
 use Rattle.change.proofs.After.{after-meaning}
 use Rattle.change.proofs.Fitted.{fit-laid, edited-parting, one-to-three}
 use Rattle.change.proofs.Made.{made-laid, made-whole, made-fewest, made-only-named, made-written, made-index, made-count, made-numbers}
-use Rattle.requests.specs.Answers.{number_of}
+use Rattle.requests.specs.Answers.{Answer, number_of}
 use Rattle.requests.specs.Model.{Change}
 use Rattle.requests.specs.Reading.{check_of}
 use Rattle.requests.specs.Changing.{Outcome, bytes_of, key_in, edit_of}
-use Rattle.requests.specs.declared.Answer.{Answer}
-use Rattle.requests.specs.declared.Answer.TheVariants.{Done, Intact}
+use Rattle.requests.specs.declared.Done.TheVariants.{Changed, Intact}
 use Rattle.requests.proofs.Edits.{led_to}
 use Rattle.requests.proofs.Ways.{Carried, carried}
 use Rattle.requests.specs.Allowed.{ChangeAllowed}
@@ -78,7 +78,7 @@ module _ (m : Measures) (n : ℕ) (area : List ℕ) (c : Content) (s : Sound m n
   old-records = new-records m c (led_to c (key_in m ch)) ps some ∙ (edited-parting m n area c e fits).whole
 
   -- what it is answered with, and what it leaves alone
-  told-so : a ≡ Done (written_of did.ss)
+  told-so : a ≡ Ok (Changed (written_of did.ss))
   told-so = (change-makes m area after ch a k).answers ∙ ap (λ (o : Outcome). o.answer) did.leaves
 
   framed : Framed m.size area after a
@@ -191,6 +191,6 @@ old-told m before after c d a old w = rw w.told ((w.intervals old).1 (inl refl))
 
 -- A check of a sound area tells how many records and how many free intervals it has.
 pub check-true : (m : Measures) (n : ℕ) (area : List ℕ) (c : Content) → Sound m n area c → (a : Answer)
-    → a ≡ check_of m area → a ≡ Intact (length (records_of c.filled)) (length c.free)
+    → a ≡ check_of m area → a ≡ Ok (Intact (length (records_of c.filled)) (length c.free))
 unfolding check_of
 check-true m n area c s a e = e ∙ rw (s.judges, s.reads)

@@ -1,5 +1,6 @@
 -- What areas written out are read as, what each change of them is answered, and what it leaves: computed from the definitions, and nothing more.
-use Prim.Native.Nat.{ℕ, ◌+◌}
+use Rattle.std.specs.Prelude.{Ok, Err}
+use Prim.Native.Nat.{ℕ}
 use mathlib.Core.Path.{◌≡◌, refl}
 use mathlib.Core.Bool.{true, false}
 use mathlib.Core.List.{List, [], ◌∷◌, ◌++◌}
@@ -36,17 +37,17 @@ use Rattle.change.specs.Stores.{stored}
 use Rattle.change.specs.Written.{among, in_order, carrying}
 use Rattle.requests.specs.Records.{with_key}
 use Rattle.fields.proofs.Octets.{all_octets}
-use Rattle.measures.specs.Judgement.{count_of, width_for, fine, judged_of}
+use Rattle.measures.specs.Judgement.{count_of, width_for, fine, judged_of, passed}
 use Rattle.measures.specs.declared.Measures.{Measures}
-use Rattle.measures.specs.declared.Judged.TheVariants.{Fine}
 use Rattle.area.specs.Content.{Content, records_of}
 use Rattle.area.specs.Reading.{damaged, whole, read_area}
 use Rattle.area.specs.Leads.{index_sound, entries_for, interval_for, sound_for}
-use Rattle.requests.specs.Model.{Change, insert, update, erase, make_change, replace, lost}
+use Rattle.requests.specs.Model.{Change, insert, update, erase, make_change, replace}
 use Rattle.requests.specs.Changing.{bytes_of, change_of}
 use Rattle.requests.specs.Answers.{number_of}
 use Rattle.requests.specs.Allowed.{get, changes}
-use Rattle.requests.specs.declared.Answer.TheVariants.{Done, NoInterval, NoRoom, Absent, Found, Damaged}
+use Rattle.requests.specs.declared.Done.TheVariants.{Changed, Found}
+use Rattle.requests.specs.declared.Refusal.TheVariants.{Damaged, Absent, NoInterval, NoRoom}
 use Rattle.promises.specs.Home.{LengthFine}
 use Rattle.promises.specs.Changes.{unit_at}
 use Rattle.promises.specs.Instances.{alone, all_key, between, eight, ninth, ten, shorter, high, certificate, certificates}
@@ -58,7 +59,7 @@ use Rattle.promises.specs.Instances as at
 -- an area that is read as a content, and a change of a lawful length
 pub record Shown (m : Measures) (area : List ℕ) (c : Content) (ch : Change) : Type 0 where
   pub octets : all_octets area ≡ true
-  pub judges : judged_of m (length area) ≡ Fine m (count_of m.size (length area))
+  pub judges : judged_of m (length area) ≡ passed m (count_of m.size (length area))
   pub reads : read_area m (count_of m.size (length area)) area ≡ whole c
   pub handed : all_octets (bytes_of ch) ≡ true
   pub long : LengthFine m ch
@@ -91,15 +92,15 @@ areas = record {
 
 -- what each change is answered
 pub record Answers : Type 0 where
-  pub crowded : (change_of depot at.crowded (insert ninth)).answer ≡ NoInterval
-  pub roomy : (change_of depot at.roomy (insert ninth)).answer ≡ Done (carrying (0 ∷ 1 ∷ 2 ∷ []))
-  pub even : (change_of depot at.even (update shorter)).answer ≡ Done (carrying (0 ∷ 1 ∷ 2 ∷ []))
-  pub inserted : change_of depot bytes (insert third) ≡ record { answer = Done (carrying (1 ∷ [])); area = together }
-  pub erased : (change_of depot bytes (erase (key_of depot first))).answer ≡ Done (carrying (1 ∷ []))
-  pub brimful : (change_of all_key at.brimful (insert (high 0x32))).answer ≡ Done (carrying (0 ∷ 2 ∷ 3 ∷ []))
-  pub overfull : (change_of all_key at.overfull (insert (high 0x32))).answer ≡ NoRoom
-  pub got-first : (get_of depot bytes (key_of depot first) (replicate 60 0)).answer ≡ Found 10
-  pub got-second : (get_of depot bytes (key_of depot second) (replicate 60 0)).answer ≡ Found 14
+  pub crowded : (change_of depot at.crowded (insert ninth)).answer ≡ Err NoInterval
+  pub roomy : (change_of depot at.roomy (insert ninth)).answer ≡ Ok (Changed (carrying (0 ∷ 1 ∷ 2 ∷ [])))
+  pub even : (change_of depot at.even (update shorter)).answer ≡ Ok (Changed (carrying (0 ∷ 1 ∷ 2 ∷ [])))
+  pub inserted : change_of depot bytes (insert third) ≡ record { answer = Ok (Changed (carrying (1 ∷ []))); area = together }
+  pub erased : (change_of depot bytes (erase (key_of depot first))).answer ≡ Ok (Changed (carrying (1 ∷ [])))
+  pub brimful : (change_of all_key at.brimful (insert (high 0x32))).answer ≡ Ok (Changed (carrying (0 ∷ 2 ∷ 3 ∷ [])))
+  pub overfull : (change_of all_key at.overfull (insert (high 0x32))).answer ≡ Err NoRoom
+  pub got-first : (get_of depot bytes (key_of depot first) (replicate 60 0)).answer ≡ Ok (Found 10)
+  pub got-second : (get_of depot bytes (key_of depot second) (replicate 60 0)).answer ≡ Ok (Found 14)
 
 pub answers : Answers
 unfolding bytes splice number digits sum concat swap every order_of common width_for fine judged_of any_below permitted_size described rdf_count push groups need
@@ -173,22 +174,22 @@ pub record Damages : Type 0 where
       (interval_for depot (count_of 512 (length beyond_bound)) beyond_bound (key_of depot first))
       ≡ false
   pub beyond-told : number_of (looks_away beyond_bound (get (key_of depot first) (replicate 60 0))).answer ≡ 0
-  pub got-scratched : (get_of depot scratched (key_of depot first) (replicate 60 0)).answer ≡ Found 10
-  pub got-beyond : (get_of depot beyond_bound (key_of depot first) (replicate 60 0)).answer ≡ Damaged 1
-  pub got-stray : (get_of depot beyond_bound (key_of depot second) (replicate 60 0)).answer ≡ Absent
+  pub got-scratched : (get_of depot scratched (key_of depot first) (replicate 60 0)).answer ≡ Ok (Found 10)
+  pub got-beyond : (get_of depot beyond_bound (key_of depot first) (replicate 60 0)).answer ≡ Err (Damaged 1)
+  pub got-stray : (get_of depot beyond_bound (key_of depot second) (replicate 60 0)).answer ≡ Err Absent
   pub lost-octets : all_octets half_lost ≡ true
   pub lost-key : all_octets (key_of depot sought) ≡ true
-  pub lost-judges : judged_of depot (length half_lost) ≡ Fine depot (count_of 512 (length half_lost))
+  pub lost-judges : judged_of depot (length half_lost) ≡ passed depot (count_of 512 (length half_lost))
   pub lost-damaged : read_area depot (count_of 512 (length half_lost)) half_lost ≡ damaged 2
   pub lost-index : index_sound depot (count_of 512 (length half_lost)) half_lost ≡ true
   pub lost-there : sound_for depot (entries_for depot (count_of 512 (length half_lost)) half_lost) (key_of depot sought)
       (interval_for depot (count_of 512 (length half_lost)) half_lost (key_of depot sought))
       ≡ true
   pub lost-records : records_in (interval_for depot (count_of 512 (length half_lost)) half_lost (key_of depot sought)) ≡ certificates 2 0x31 60
-  pub got-lost : get_of depot half_lost (key_of depot sought) (replicate 60 0) ≡ record { answer = Found 60; output = sought }
-  pub left-told : (leaves_output half_lost seeking).answer ≡ Found 60
+  pub got-lost : get_of depot half_lost (key_of depot sought) (replicate 60 0) ≡ record { answer = Ok (Found 60); output = sought }
+  pub left-told : (leaves_output half_lost seeking).answer ≡ Ok (Found 60)
   pub left-given : (leaves_output half_lost seeking).output ≡ replicate 60 0
-  pub before-told : (record_before half_lost seeking).answer ≡ Found 60
+  pub before-told : (record_before half_lost seeking).answer ≡ Ok (Found 60)
   pub before-given : (record_before half_lost seeking).output ≡ certificate 0x31 60
 
 pub damages : Damages

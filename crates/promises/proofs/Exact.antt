@@ -1,4 +1,5 @@
 -- Refusals are exact: every request answers with the number of the first condition of its table that holds, and with 0 if none does.
+use Rattle.std.specs.Prelude.{None}
 use Prim.Native.Nat.{ℕ}
 use mathlib.Core.Path.{◌≡◌, refl, ◌∙◌, sym, ap}
 use mathlib.Core.Bool.{Bool, true, false}
@@ -7,22 +8,19 @@ use mathlib.Core.Logic.{inl, inr}
 use lib.ListN.{length}
 use Rattle.fields.specs.Bytes.{Octets}
 use Rattle.fields.proofs.Choices.{false-true}
-use Rattle.measures.specs.Judgement.{judged_of, count_of}
+use Rattle.measures.specs.Judgement.{judged_of, count_of, passed}
 use Rattle.measures.specs.declared.Measures.{Measures}
-use Rattle.measures.specs.declared.Judged.TheVariants.{Fine}
-use Rattle.measures.specs.declared.Judged.TheVariants as judged
 use Rattle.interval.specs.Records.{key_of}
 use Rattle.area.specs.Content.{Content, records_of}
 use Rattle.area.specs.Reading.{damaged, whole, read_area}
 use Rattle.change.specs.Parts.{Edit}
 use Rattle.change.specs.Plan.{plan_of}
 use Rattle.change.proofs.Made.{erase-stays-put}
-use Rattle.requests.specs.Answers.{number_of}
+use Rattle.requests.specs.Answers.{Answer, number_of}
 use Rattle.requests.specs.Records.{with_key}
 use Rattle.requests.specs.Model.{Change, insert, update, erase, Legal}
 use Rattle.requests.specs.Finding.{Keyed}
 use Rattle.requests.specs.Changing.{bytes_of, length_fine, edit_of, carry_out, change_of}
-use Rattle.requests.specs.declared.Answer.{Answer}
 use Rattle.requests.proofs.Gets.{with-keyed}
 use Rattle.requests.proofs.Proper.{some_first}
 use Rattle.requests.proofs.Ways.{unlawful, Decided, way-length, way-keyed, way-planned}
@@ -43,16 +41,16 @@ module _ (m : Measures) (area : List ℕ) where
   abbrev told : Change → ℕ
   told ch = number_of (change_of m area ch).answer
 
-  change-outside : (ch : Change) → judged_of m (length area) ≡ judged.Outside → told ch ≡ 1
+  change-outside : (ch : Change) → judged_of m (length area) ≡ None → told ch ≡ 1
   unfolding change_of
   change-outside ch o = rw o
 
-  change-damaged : (ch : Change) → judged_of m (length area) ≡ Fine m n → (p : ℕ) → read_area m n area ≡ damaged p → told ch ≡ 2
+  change-damaged : (ch : Change) → judged_of m (length area) ≡ passed m n → (p : ℕ) → read_area m n area ≡ damaged p → told ch ≡ 2
   unfolding change_of
   change-damaged ch j p d = rw (j, d)
 
   module _ (o : Octets area) where
-    sound : (c : Content) → judged_of m (length area) ≡ Fine m n → read_area m n area ≡ whole c → Sound m n area c
+    sound : (c : Content) → judged_of m (length area) ≡ passed m n → read_area m n area ≡ whole c → Sound m n area c
     sound c j w = record { octets = o; judges = j; reads = w }
 
     module _ (c : Content) (s : Sound m n area c) where
@@ -131,7 +129,7 @@ module _ (m : Measures) (area : List ℕ) where
         → First (row 1 (OutsideLimits m area) (row 2 (DamagedSomewhere m area) (row 3 (LengthFine m ch → ⊥) (last_rows ch)))) (told ch)
     all-rows ch b =
         first_two m area (row 3 (LengthFine m ch → ⊥) (last_rows ch)) (told ch) (change-outside ch) (change-damaged ch)
-        (λ (j : judged_of m (length area) ≡ Fine m n) (c : Content) (w : read_area m n area ≡ whole c).
+        (λ (j : judged_of m (length area) ≡ passed m n) (c : Content) (w : read_area m n area ≡ whole c).
         by_length c (sound c j w) ch (last_rows ch) (last-rows c (sound c j w) ch b))
 
     change-rows : (ch : Change) → Octets (bytes_of ch) → First (change_table m area ch) (told ch)

@@ -1,4 +1,5 @@
 -- What a request leaves: every interval that its answer does not name, byte for byte as it was: document 02, L9. On any area of bytes, sound or not.
+use Rattle.std.specs.Prelude.{Ok}
 use Prim.Native.Nat.{ℕ}
 use mathlib.Core.Path.{◌≡◌, refl, ◌∙◌, sym, ap}
 use mathlib.Core.Bool.{Bool, true, false}
@@ -9,13 +10,12 @@ use Rattle.fields.specs.Bytes.{Octets}
 use Rattle.measures.specs.declared.Measures.{Measures}
 use Rattle.change.specs.Written.{written_of}
 use Rattle.change.proofs.Made.{made-frame}
-use Rattle.requests.specs.Answers.{number_of}
+use Rattle.requests.specs.Answers.{Answer, number_of}
 use Rattle.requests.specs.Model.{Change}
 use Rattle.requests.specs.Changing.{edit_of, change_of, Makes}
 use Rattle.requests.specs.Accepted.{Accepted}
 use Rattle.requests.specs.Allowed.{Request, check, get, get_at, changes, ChangeAllowed, Allowed}
-use Rattle.requests.specs.declared.Answer.{Answer}
-use Rattle.requests.specs.declared.Answer.TheVariants.{Done}
+use Rattle.requests.specs.declared.Done.TheVariants.{Changed}
 use Rattle.requests.proofs.Accepted.{accepted}
 use Rattle.promises.specs.Changes.{told_written, unit_at, Framed}
 use Rattle.promises.proofs.Refused.{change-harmless}
@@ -36,10 +36,10 @@ module _ (m : Measures) (area : List ℕ) where
 
       done : Accepted m area ch (change_of m area ch) → Framed m.size area after a
       done t k d =
-          let told : a ≡ Done (written_of t.ss) = makes.answers ∙ t.answers in
+          let told : a ≡ Ok (Changed (written_of t.ss)) = makes.answers ∙ t.answers in
           let fits = accepted-fits-area m area ch (change_of m area ch) o t in
           ap (λ (b : List ℕ). unit_at m.size b k) (makes.leaves ∙ t.leaves)
-          ∙ made-frame m t.n area t.c (edit_of m t.c ch) fits t.ss t.planned k (λ (i : Memᴰ k (told_written (Done (written_of t.ss)))). d (rw told i))
+          ∙ made-frame m t.n area t.c (edit_of m t.c ch) fits t.ss t.planned k (λ (i : Memᴰ k (told_written (Ok (Changed (written_of t.ss))))). d (rw told i))
 
       go : (t : Bool) → eqb (number_of a) 0 ≡ t → Framed m.size area after a
       go true z =

@@ -1,4 +1,5 @@
 -- Over any requests one after another a sound area stays sound, and its records are the opening ones with just the accepted changes made: demand 3.
+use Rattle.std.specs.Prelude.{Err}
 use Prim.Native.Nat.{ℕ, zero, suc, ◌+◌, ◌≤◌, ◌<◌}
 use mathlib.Core.Path.{◌≡◌, refl, ◌∙◌, sym, ap}
 use mathlib.Core.List.{List, [], ◌∷◌, ◌++◌}
@@ -7,7 +8,7 @@ use native.Mathlib.Omega.{arith}
 use Rattle.fields.specs.Bytes.{Octets}
 use Rattle.fields.proofs.Choices.{both-split}
 use Rattle.measures.specs.declared.Measures.{Measures}
-use Rattle.measures.specs.declared.Judged.TheVariants.{Fine}
+use Rattle.measures.proofs.Fine.{passed_apart}
 use Rattle.index.specs.Meaning.{named, count, below, once, named_once}
 use Rattle.index.proofs.Counting.{once-each, count-out}
 use Rattle.area.specs.Content.{Content, records_of, meaning_of, base_of}
@@ -16,14 +17,13 @@ use Rattle.area.proofs.Ascending.{records-ascend, numbers-once}
 use Rattle.change.specs.Parts.{Edit}
 use Rattle.change.specs.Content.{content_after}
 use Rattle.change.proofs.Made.{made-whole, made-records, made-lent}
-use Rattle.requests.specs.Answers.{number_of}
+use Rattle.requests.specs.Answers.{Answer, number_of}
 use Rattle.requests.specs.Model.{Change, insert, update, erase, make_change, make_all, Legal, total, gained_all, lost_all}
 use Rattle.requests.specs.Reading.{Given, get_of, get_at_of, Gives}
 use Rattle.requests.specs.Finding.{Keyed, Lies, Finds}
 use Rattle.requests.specs.Changing.{Outcome, bytes_of, edit_of, change_of, Makes}
 use Rattle.requests.specs.Accepted.{Accepted}
-use Rattle.requests.specs.declared.Answer.{Answer}
-use Rattle.requests.specs.declared.Answer.TheVariants.{Absent, NoRecord}
+use Rattle.requests.specs.declared.Refusal.TheVariants.{Absent, NoRecord}
 use Rattle.requests.proofs.Making.{total-all}
 use Rattle.requests.proofs.Gets.{get-finds as area-get-finds, get-at-finds as area-get-at-finds}
 use Rattle.requests.proofs.Accepted.{accepted}
@@ -64,8 +64,7 @@ module _ (m : Measures) where
     change-left before c s ch o a =
         let f = accepted-fits-area m before ch o s.octets a in
         let e : Edit = edit_of m a.c ch in
-        let j : Fine m a.n ≡ Fine m n = sym a.judges ∙ s.judges in
-        let en : n ≡ a.n = cc in
+        let en : n ≡ a.n = sym (passed_apart m m a.n n (sym a.judges ∙ s.judges)).1 in
         let w : read_area m a.n before ≡ whole c = rw (← en) s.reads in
         let v : whole c ≡ whole a.c = sym w ∙ a.reads in
         let ec : c ≡ a.c = cc in
@@ -173,7 +172,7 @@ module _ (m : Measures) where
         -- the output's front, or its length is told where the output is too short, or that there is none.
         pub get-finds : (wanted : List ℕ) → length wanted ≡ m.key
             → Trace m area (ss ++ (record { request = get wanted lent; answer = a; area = after; output = out } ∷ rest))
-            → Finds (Keyed m wanted (make_all m (accepted_in ss) (records_of c.filled))) Absent lent (record { answer = a; output = out })
+            → Finds (Keyed m wanted (make_all m (accepted_in ss) (records_of c.filled))) (Err Absent) lent (record { answer = a; output = out })
         get-finds wanted l t =
             let p = trace-apart ss (record { request = get wanted lent; answer = a; area = after; output = out } ∷ rest) area t in
             let h = history ss area c s p.0 in
@@ -184,7 +183,7 @@ module _ (m : Measures) where
         -- At any step of a history a get by address finds exactly the record whose first byte has that address in the area as it then is read.
         pub get-at-finds : (address : ℕ)
             → Trace m area (ss ++ (record { request = get_at address lent; answer = a; area = after; output = out } ∷ rest))
-            → (d : Content) → read_area m n (area_after area ss) ≡ whole d → Finds (Lies m (base_of d) address d.filled) NoRecord lent (record { answer = a; output = out })
+            → (d : Content) → read_area m n (area_after area ss) ≡ whole d → Finds (Lies m (base_of d) address d.filled) (Err NoRecord) lent (record { answer = a; output = out })
         get-at-finds address t d w =
             let p = trace-apart ss (record { request = get_at address lent; answer = a; area = after; output = out } ∷ rest) area t in
             let h = history ss area c s p.0 in

@@ -1,13 +1,12 @@
 -- Want of an interval and want of room on areas written out: for each one where it holds, and one where it just does not. What the areas
 -- hold and what each change comes to is computed apart; here it is the promises that speak.
+use Rattle.std.specs.Prelude.{Err}
 use Prim.Native.Nat.{ℕ}
 use mathlib.Core.Path.{◌≡◌, refl, sym, ap}
 use mathlib.Core.List.{List, [], ◌∷◌}
 use mathlib.Core.Logic.{◌↔◌}
 use lib.ListN.{length}
 use native.Mathlib.Omega.{arith}
-use Rattle.interval.specs.Search.{holds}
-use Rattle.index.specs.Bounds.{separator}
 use Rattle.area.specs.Example.{bytes}
 use Rattle.requests.specs.Records.{with_key}
 use Rattle.fields.proofs.Octets.{all-octets}
@@ -16,11 +15,10 @@ use Rattle.measures.specs.declared.Measures.{Measures}
 use Rattle.area.specs.Content.{Content, records_of}
 use Rattle.area.specs.Example.{depot, held}
 use Rattle.requests.specs.Model.{Change, insert, update, Legal}
-use Rattle.requests.specs.Answers.{number_of}
+use Rattle.requests.specs.Answers.{Answer, number_of}
 use Rattle.requests.specs.Changing.{change_of}
 use Rattle.requests.specs.Allowed.{ChangeAllowed}
-use Rattle.requests.specs.declared.Answer.{Answer}
-use Rattle.requests.specs.declared.Answer.TheVariants.{NoInterval, NoRoom}
+use Rattle.requests.specs.declared.Refusal.TheVariants.{NoInterval, NoRoom}
 use Rattle.promises.specs.Trace.{Sound}
 use Rattle.promises.specs.Tables.{WantOfInterval, WantOfRoom}
 use Rattle.promises.specs.Instances.{alone, all_key, between, eight, ninth, crowded, roomy, ten, shorter, even, high, brimful, overfull}
@@ -61,7 +59,7 @@ module _ (m : Measures) (area : List ℕ) (c : Content) where
 
 -- Want of an interval: the ninth certificate needs a second one, and none is free; with one free it needs no more than there are.
 pub six-holds : WantOfInterval depot crowded (insert ninth)
-six-holds = (six-right depot crowded (alone [] eight) ninth areas.crowded none-there.0 NoInterval answers.crowded).0 refl
+six-holds = (six-right depot crowded (alone [] eight) ninth areas.crowded none-there.0 (Err NoInterval) answers.crowded).0 refl
 
 pub six-just-not : WantOfInterval depot roomy (insert ninth) → ⊥
 six-just-not w =
@@ -71,7 +69,7 @@ six-just-not w =
 -- the two areas with keys of 240 bytes have no want of an interval
 overfull-enough : WantOfInterval all_key overfull (insert (high 0x32)) → ⊥
 overfull-enough w =
-    let z : ◌≡◌ {A = ℕ} 7 6 = (six-right all_key overfull (between 233) (high 0x32) areas.overfull none-there.4 NoRoom answers.overfull).1 w in
+    let z : ◌≡◌ {A = ℕ} 7 6 = (six-right all_key overfull (between 233) (high 0x32) areas.overfull none-there.4 (Err NoRoom) answers.overfull).1 w in
     omega arith
 
 brimful-enough : WantOfInterval all_key brimful (insert (high 0x32)) → ⊥
@@ -81,7 +79,7 @@ brimful-enough w =
 
 -- Want of room: the renewed index record would have 506 bytes, one more than there are; with a separator one byte shorter it has them all.
 pub seven-holds : WantOfRoom all_key overfull (insert (high 0x32))
-seven-holds = (seven-right all_key overfull (between 233) (high 0x32) areas.overfull none-there.4 overfull-enough NoRoom answers.overfull).0 refl
+seven-holds = (seven-right all_key overfull (between 233) (high 0x32) areas.overfull none-there.4 overfull-enough (Err NoRoom) answers.overfull).0 refl
 
 pub seven-just-not : WantOfRoom all_key brimful (insert (high 0x32)) → ⊥
 seven-just-not w =

@@ -1,5 +1,6 @@
 -- What a get by key depends on: the index record and the interval that the key leads to. Damage elsewhere does not matter to it: where these two are fine it
 -- finds what that interval says, where it tells of damage there is damage, and on a sound area its table speaks of all records.
+use Rattle.std.specs.Prelude.{Err}
 use Prim.Native.Nat.{ℕ, ◌+◌, ◌≤◌, ◌<◌}
 use mathlib.Core.Path.{◌≡◌, refl, ◌∙◌, sym, ap}
 use mathlib.Core.Bool.{Bool, true, false}
@@ -12,9 +13,8 @@ use borrow.Author.Tests.{eqb-true, eqb-false, ltb-true}
 use Rattle.fields.specs.Bytes.{Octets}
 use Rattle.fields.specs.Lists.{every}
 use Rattle.fields.proofs.Choices.{both-split, false-true}
-use Rattle.measures.specs.Judgement.{judged_of, count_of, width_for}
+use Rattle.measures.specs.Judgement.{judged_of, count_of, width_for, passed}
 use Rattle.measures.specs.declared.Measures.{Measures}
-use Rattle.measures.specs.declared.Judged.TheVariants.{Fine}
 use Rattle.measures.proofs.Fine.{accepted, fits-small}
 use Rattle.interval.specs.Reading.{records_in}
 use Rattle.interval.specs.Role.{sound_used}
@@ -33,13 +33,12 @@ use Rattle.area.proofs.Intervals.{laid-used, laid-used-reads, used-laid}
 use Rattle.area.proofs.Laying.{index-sound, index_read, index-laid}
 use Rattle.area.proofs.Parts.{length-data, octets-data}
 use Rattle.area.proofs.Sounding.{sound-apart}
-use Rattle.requests.specs.Answers.{number_of, values_of}
+use Rattle.requests.specs.Answers.{Answer, number_of, values_of}
 use Rattle.requests.specs.Records.{with_key}
 use Rattle.requests.specs.Reading.{Given, refused, get_of}
 use Rattle.requests.specs.Finding.{Keyed, Finds}
-use Rattle.requests.specs.declared.Answer.{Answer}
-use Rattle.requests.specs.declared.Answer.TheVariants.{Damaged}
-use Rattle.requests.specs.declared.Answer.TheVariants as answer
+use Rattle.requests.specs.declared.Refusal.TheVariants.{Damaged}
+use Rattle.requests.specs.declared.Refusal.TheVariants as refusal
 use Rattle.requests.specs.Allowed.{get, Allowed}
 use Rattle.requests.proofs.Gets.{judged-key, keyed-among, among-keyed, get-index-damaged, get-there-damaged}
 use Rattle.requests.proofs.Gets.{get-there-finds as there-finds}
@@ -119,7 +118,7 @@ module _ (m : Measures) (area : List ℕ) where
     small : m.size ≤ 32768
     small = fits-small lent.fits
 
-    fine : judged_of m (length area) ≡ Fine m n
+    fine : judged_of m (length area) ≡ passed m n
     fine = accepted m (length area) n lent.fits
 
     -- the index record is unsound exactly where no layout explains it
@@ -222,7 +221,7 @@ module _ (m : Measures) (area : List ℕ) where
       -- A get by key finds exactly what the key's own interval says, whatever damage lies elsewhere: where one of its records has the key, that is handed out
       -- at the output's front and the output stays behind it, or its length is told where the output is too short; where none has it, that is told.
       pub get-there-finds : (rs : List (List ℕ)) → FineHome m n area wanted rs → (lent : List ℕ) (a : Answer) (after out : List ℕ)
-          → Allowed m area (get wanted lent) a after out → Finds (Keyed m wanted rs) answer.Absent lent (record { answer = a; output = out })
+          → Allowed m area (get wanted lent) a after out → Finds (Keyed m wanted rs) (Err refusal.Absent) lent (record { answer = a; output = out })
       get-there-finds rs f lent a after out w =
           let h = f.home in
           rw (given_is (get_of m area wanted lent) a out w.1, ← home-reads f.interval h rs f.laid)
@@ -252,11 +251,11 @@ module _ (m : Measures) (area : List ℕ) where
       abbrev got : Given
       got = get_of m area wanted out
 
-      home-told : (k : ℕ) → DamagedHome m n area wanted k → got ≡ refused (Damaged (k + 1)) out
+      home-told : (k : ℕ) → DamagedHome m n area wanted k → got ≡ refused (Err (Damaged (k + 1))) out
       home-told k d =
           let h = d.home in
           get-there-damaged m area n fine wanted out (home-index wanted b k h) h.long (damaged-there wanted b k d)
-          ∙ ap (λ (j : ℕ). refused (Damaged (j + 1)) out) (number_is wanted b k h)
+          ∙ ap (λ (j : ℕ). refused (Err (Damaged (j + 1))) out) (number_is wanted b k h)
 
       -- 2 is told of the index record, or of the key's interval where the index record is sound and the key's length right
       told-two : (k : ℕ) → First (get_table m area wanted out) k → k ≡ 2
@@ -280,7 +279,7 @@ module _ (m : Measures) (area : List ℕ) where
       -- Damage is told to a get by key where it is: place 0 exactly if no index layout fits; else the place of the interval to which the key belongs, exactly if no
       -- layout explains it in its role. Damage of any other interval is not told to it.
       pub get-damage-placed : (a : Answer) (after put : List ℕ) → Allowed m area (get wanted out) a after put
-          → ((a ≡ Damaged 0) ↔ ((ix : Meaning) → IndexInterval m n ix (index_in m area) → ⊥)) × ((k : ℕ) → (a ≡ Damaged (k + 1)) ↔ DamagedHome m n area wanted k)
+          → ((a ≡ Err (Damaged 0)) ↔ ((ix : Meaning) → IndexInterval m n ix (index_in m area) → ⊥)) × ((k : ℕ) → (a ≡ Err (Damaged (k + 1))) ↔ DamagedHome m n area wanted k)
       get-damage-placed a after put w = ((index-told, index_back), λ (k : ℕ). (home_here k, home-back k))
         where
           is : a ≡ got.answer
@@ -289,19 +288,19 @@ module _ (m : Measures) (area : List ℕ) where
           exact : First (get_table m area wanted out) (number_of a)
           exact = get-exact m area wanted out a put w.1
 
-          by_index : DamagedIndex m area → a ≡ Damaged 0
+          by_index : DamagedIndex m area → a ≡ Err (Damaged 0)
           by_index d = is ∙ ap (λ (g : Given). g.answer) (get-index-damaged m area n fine wanted out d)
 
-          by_home : (k : ℕ) → DamagedHome m n area wanted k → a ≡ Damaged (k + 1)
+          by_home : (k : ℕ) → DamagedHome m n area wanted k → a ≡ Err (Damaged (k + 1))
           by_home k h = is ∙ ap (λ (g : Given). g.answer) (home-told k h)
 
-          two-told : (p : ℕ) → a ≡ Damaged p → DamagedIndex m area ⊎ ((index_sound m n area ≡ true) × (length wanted ≡ m.key) × DamagedThere m area wanted)
+          two-told : (p : ℕ) → a ≡ Err (Damaged p) → DamagedIndex m area ⊎ ((index_sound m n area ≡ true) × (length wanted ≡ m.key) × DamagedThere m area wanted)
           two-told p e = told-two (number_of a) exact (ap number_of e)
 
-          same_place : (p q : ℕ) → a ≡ Damaged p → a ≡ Damaged q → p ≡ q
+          same_place : (p q : ℕ) → a ≡ Err (Damaged p) → a ≡ Err (Damaged q) → p ≡ q
           same_place p q e f = let z : p ∷ [] ≡ q ∷ [] = ap values_of (sym e ∙ f) in cc
 
-          index-told : a ≡ Damaged 0 → (ix : Meaning) → IndexInterval m n ix (index_in m area) → ⊥
+          index-told : a ≡ Err (Damaged 0) → (ix : Meaning) → IndexInterval m n ix (index_in m area) → ⊥
           index-told e = go (two-told 0 e)
             where
               go : DamagedIndex m area ⊎ ((index_sound m n area ≡ true) × (length wanted ≡ m.key) × DamagedThere m area wanted)
@@ -309,10 +308,10 @@ module _ (m : Measures) (area : List ℕ) where
               go (inl d) = index-unlaid.0 d
               go (inr x) = absurd (omega (arith, same_place 0 (number_for m n area wanted + 1) e (by_home (number_for m n area wanted) (damaged-home wanted b x.0 x.1 x.2))))
 
-          index_back : ((ix : Meaning) → IndexInterval m n ix (index_in m area) → ⊥) → a ≡ Damaged 0
+          index_back : ((ix : Meaning) → IndexInterval m n ix (index_in m area) → ⊥) → a ≡ Err (Damaged 0)
           index_back none = by_index (index-unlaid.1 none)
 
-          home_here : (k : ℕ) → a ≡ Damaged (k + 1) → DamagedHome m n area wanted k
+          home_here : (k : ℕ) → a ≡ Err (Damaged (k + 1)) → DamagedHome m n area wanted k
           home_here k e = go (two-told (k + 1) e)
             where
               go : DamagedIndex m area ⊎ ((index_sound m n area ≡ true) × (length wanted ≡ m.key) × DamagedThere m area wanted)
@@ -323,5 +322,5 @@ module _ (m : Measures) (area : List ℕ) where
                   let q : number_for m n area wanted ≡ k = omega (arith, same_place (k + 1) (number_for m n area wanted + 1) e (by_home (number_for m n area wanted) h)) in
                   rw q at h
 
-          home-back : (k : ℕ) → DamagedHome m n area wanted k → a ≡ Damaged (k + 1)
+          home-back : (k : ℕ) → DamagedHome m n area wanted k → a ≡ Err (Damaged (k + 1))
           home-back k h = by_home k h

@@ -1,4 +1,5 @@
 -- Refused requests do no harm: demand 1. One proof for the three changes, one for the two gets.
+use Rattle.std.specs.Prelude.{Ok, Err, Some, None, Option}
 use Prim.Native.Nat.{ℕ, ◌+◌}
 use mathlib.Core.Path.{◌≡◌, refl, ◌∙◌, ap}
 use mathlib.Core.Bool.{Bool, true, false}
@@ -11,21 +12,20 @@ use Rattle.fields.specs.Bytes.{splice}
 use Rattle.measures.specs.Judgement.{judged_of}
 use Rattle.measures.specs.declared.Measures.{Measures}
 use Rattle.measures.specs.declared.Judged.{Judged}
-use Rattle.measures.specs.declared.Judged.TheVariants as judged
 use Rattle.interval.specs.Reading.{records_in}
 use Rattle.index.specs.Meaning.{Entry}
 use Rattle.index.specs.Search.{entry_for}
 use Rattle.area.specs.Content.{records_of, base_of}
 use Rattle.area.specs.Leads.{index_sound, entries_for, interval_for, sound_for}
 use Rattle.change.specs.Plan.{plan_of}
-use Rattle.requests.specs.Answers.{number_of}
+use Rattle.requests.specs.Answers.{Answer, number_of}
 use Rattle.requests.specs.Records.{with_key, lying_at}
 use Rattle.requests.specs.Model.{Change, insert, update, erase, Legal}
 use Rattle.requests.specs.Opening.{Opening, shut, holding, opening_of}
 use Rattle.requests.specs.Reading.{Given, refused, hand_out, get_there, get_in, get_judged, get_of, get_at_opened, get_at_of, Gives}
 use Rattle.requests.specs.Changing.{Outcome, kept, key_in, length_fine, edit_of, carry_out, if_keyed, change_opened, change_of, Makes}
-use Rattle.requests.specs.declared.Answer.{Answer}
-use Rattle.requests.specs.declared.Answer.TheVariants.{Found, Damaged, Short, WrongLength, Absent, NoRecord}
+use Rattle.requests.specs.declared.Done.TheVariants.{Found}
+use Rattle.requests.specs.declared.Refusal.TheVariants.{Damaged, WrongLength, Absent, Short, NoRecord}
 use Rattle.requests.proofs.Order.{refused-spares as carry-spares}
 use Rattle.requests.proofs.Ways.{unlawful, Decided, legal-decided}
 use Rattle.promises.specs.Harmless.{Refusal, RefusedHarmless}
@@ -41,7 +41,7 @@ SparesOutput out g = Refusal g.answer → g.output ≡ out
 
 -- Whatever the opening: where it is shut nothing has been done yet; where it holds a content, the length, the key and the plan are asked before any store.
 change-opened : (d : Opening) (area : List ℕ) (ch : Change) → Spares area (change_opened d area ch)
-change-opened (shut a) area ch n = refl
+change-opened (shut r) area ch n = refl
 change-opened (holding m c) area ch n = by_length (length_fine m ch) n
   where
     made : Outcome
@@ -54,7 +54,7 @@ change-opened (holding m c) area ch n = by_length (length_fine m ch) n
     by_key (inl d) = rw d.1 (carry-spares m area (plan_of m c (edit_of m c ch)))
     by_key (inr d) = rw d.1 (λ (n : Refusal (unlawful ch)). refl)
 
-    by_length : (t : Bool) → Spares area (pick t keyed (kept WrongLength area))
+    by_length : (t : Bool) → Spares area (pick t keyed (kept (Err WrongLength) area))
     by_length true n = by_key (legal-decided m ch (records_of c.filled) area made) n
     by_length false n = refl
 
@@ -73,7 +73,7 @@ hand-spares : (none : Answer) (ws : List (List ℕ)) (out : List ℕ) → Spares
 hand-spares none [] out n = refl
 hand-spares none (r ∷ ws) out n = go (leb (length r) (length out)) n
   where
-    go : (t : Bool) → SparesOutput out (pick t (record { answer = Found (length r); output = splice out 0 r }) (refused (Short (length r)) out))
+    go : (t : Bool) → SparesOutput out (pick t (record { answer = Ok (Found (length r)); output = splice out 0 r }) (refused (Err (Short (length r))) out))
     go true n = absurd (n refl)
     go false n = refl
 
@@ -82,8 +82,8 @@ there-spares : (m : Measures) (es : List Entry) (wanted ci out : List ℕ) → S
 unfolding get_there
 there-spares m es wanted ci out = go (sound_for m es wanted ci)
   where
-    go : (t : Bool) → SparesOutput out (pick t (hand_out Absent (with_key m wanted (records_in ci)) out) (refused (Damaged ((entry_for wanted es).num + 1)) out))
-    go true n = hand-spares Absent (with_key m wanted (records_in ci)) out n
+    go : (t : Bool) → SparesOutput out (pick t (hand_out (Err Absent) (with_key m wanted (records_in ci)) out) (refused (Err (Damaged ((entry_for wanted es).num + 1))) out))
+    go true n = hand-spares (Err Absent) (with_key m wanted (records_in ci)) out n
     go false n = refl
 
 in-spares : (m : Measures) (n : ℕ) (area wanted out : List ℕ) → SparesOutput out (get_in m n area wanted out)
@@ -91,18 +91,18 @@ unfolding get_in
 in-spares m n area wanted out = go (index_sound m n area) (eqb (length wanted) m.key)
   where
     go : (t u : Bool) → SparesOutput out
-        (pick t (pick u (get_there m (entries_for m n area) wanted (interval_for m n area wanted) out) (refused WrongLength out)) (refused (Damaged 0) out))
+        (pick t (pick u (get_there m (entries_for m n area) wanted (interval_for m n area wanted) out) (refused (Err WrongLength) out)) (refused (Err (Damaged 0)) out))
     go true true k = there-spares m (entries_for m n area) wanted (interval_for m n area wanted) out k
     go true false k = refl
     go false u k = refl
 
-get-judged : (d : Judged) (area wanted out : List ℕ) → SparesOutput out (get_judged d area wanted out)
-get-judged judged.Outside area wanted out n = refl
-get-judged (judged.Fine m k) area wanted out n = in-spares m k area wanted out n
+get-judged : (d : Option Judged) (area wanted out : List ℕ) → SparesOutput out (get_judged d area wanted out)
+get-judged None area wanted out n = refl
+get-judged (Some j) area wanted out n = in-spares j.measures j.count area wanted out n
 
 get-at-opened : (d : Opening) (address : ℕ) (out : List ℕ) → SparesOutput out (get_at_opened d address out)
-get-at-opened (shut a) address out n = refl
-get-at-opened (holding m c) address out n = hand-spares NoRecord (lying_at m (base_of c) address c.filled) out n
+get-at-opened (shut r) address out n = refl
+get-at-opened (holding m c) address out n = hand-spares (Err NoRecord) (lying_at m (base_of c) address c.filled) out n
 
 -- any result that a get's contract allows
 given : (g : Given) (out : List ℕ) → SparesOutput out g → (a : Answer) (after : List ℕ) → Gives g a after → Refusal a → after ≡ out

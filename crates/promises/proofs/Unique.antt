@@ -4,7 +4,7 @@ use mathlib.Core.Path.{◌≡◌, refl, ◌∙◌, sym}
 use mathlib.Core.List.{List, [], ◌∷◌}
 use native.Mathlib.Omega.{arith}
 use Rattle.measures.specs.declared.Measures.{Measures}
-use Rattle.requests.specs.declared.Answer.{Answer}
+use Rattle.requests.specs.Answers.{Answer}
 use Rattle.requests.specs.Allowed.{Request, check, get, get_at, changes, Allowed}
 use Rattle.promises.specs.Trace.{Step, Trace}
 use Rattle.promises.specs.Alike.{handed_back, requests_in, answers_in, areas_in, outputs_in}

@@ -1,4 +1,5 @@
 -- The values that come with a refusal are exact.
+use Rattle.std.specs.Prelude.{Ok, Err, None}
 use Prim.Native.Nat.{ℕ}
 use mathlib.Core.Path.{◌≡◌, refl, ◌∙◌, sym, ap}
 use mathlib.Core.Bool.{Bool, true, false}
@@ -8,20 +9,19 @@ use lib.ListN.{length}
 use lib.Dec.{eqb, leb}
 use native.Mathlib.Omega.{arith}
 use borrow.Author.Tests.{eqb-true, eqb-false, leb-true, leb-false}
-use Rattle.measures.specs.Judgement.{judged_of, count_of}
+use Rattle.measures.specs.Judgement.{judged_of, count_of, passed}
 use Rattle.measures.specs.declared.Measures.{Measures}
-use Rattle.measures.specs.declared.Judged.TheVariants.{Fine}
-use Rattle.measures.specs.declared.Judged.TheVariants as judged
 use Rattle.measures.proofs.Fine.{judged-either}
 use Rattle.area.specs.Leads.{index_sound, entries_for, interval_for, sound_for}
-use Rattle.requests.specs.Answers.{number_of, values_of}
+use Rattle.requests.specs.Answers.{Answer, number_of, values_of}
 use Rattle.requests.specs.Model.{Change}
 use Rattle.requests.specs.Opening.{Opening, shut, opening_of}
 use Rattle.requests.specs.Reading.{Given, refused, check_opened, check_of, get_of, get_at_opened, get_at_of}
 use Rattle.requests.specs.Finding.{Keyed, Finds}
 use Rattle.requests.specs.Changing.{change_opened, change_of}
-use Rattle.requests.specs.declared.Answer.{Answer}
-use Rattle.requests.specs.declared.Answer.TheVariants as answer
+use Rattle.requests.specs.declared.Refusal.{Refusal}
+use Rattle.requests.specs.declared.Done.TheVariants.{Changed, Found, Intact}
+use Rattle.requests.specs.declared.Refusal.TheVariants.{Outside, Damaged, WrongLength, Present, Absent, NoInterval, NoRoom, Short, NoRecord}
 use Rattle.requests.proofs.Gets.{get-index-damaged, get-length-wrong, get-there-damaged, get-there-finds, get-at-finds}
 use Rattle.requests.specs.Allowed.{Request, check, get, get_at, changes, Allowed}
 use Rattle.promises.specs.Tables.{records_there}
@@ -30,18 +30,18 @@ use Rattle.promises.proofs.History.{change-makes}
 
 -- An answer that is not done and has neither of the two numbers has no values.
 no-values : (a : Answer) → (number_of a ≡ 0 → ⊥) → (number_of a ≡ 2 → ⊥) → (number_of a ≡ 8 → ⊥) → values_of a ≡ []
-no-values (answer.Done w) x y z = absurd (x refl)
-no-values (answer.Found l) x y z = absurd (x refl)
-no-values (answer.Intact r f) x y z = absurd (x refl)
-no-values answer.Outside x y z = refl
-no-values (answer.Damaged p) x y z = absurd (y refl)
-no-values answer.WrongLength x y z = refl
-no-values answer.Present x y z = refl
-no-values answer.Absent x y z = refl
-no-values answer.NoInterval x y z = refl
-no-values answer.NoRoom x y z = refl
-no-values (answer.Short l) x y z = absurd (z refl)
-no-values answer.NoRecord x y z = refl
+no-values (Ok (Changed w)) x y z = absurd (x refl)
+no-values (Ok (Found l)) x y z = absurd (x refl)
+no-values (Ok (Intact r f)) x y z = absurd (x refl)
+no-values (Err Outside) x y z = refl
+no-values (Err (Damaged p)) x y z = absurd (y refl)
+no-values (Err WrongLength) x y z = refl
+no-values (Err Present) x y z = refl
+no-values (Err Absent) x y z = refl
+no-values (Err NoInterval) x y z = refl
+no-values (Err NoRoom) x y z = refl
+no-values (Err (Short l)) x y z = absurd (z refl)
+no-values (Err NoRecord) x y z = refl
 
 -- Where what is wanted is found to be too long, its length is told.
 needed-length : (Wanted : List ℕ → Type 0) (none : Answer) (out : List ℕ) (g : Given) → Finds Wanted none out g → number_of g.answer ≡ 8 → (r : List ℕ) → Wanted r
@@ -57,7 +57,7 @@ module _ (m : Measures) (area : List ℕ) where
   n = count_of m.size (length area)
 
   abbrev FineHere : Type 0
-  FineHere = judged_of m (length area) ≡ Fine m n
+  FineHere = judged_of m (length area) ≡ passed m n
 
   -- the request's own answer, as its contract gives it
   abbrev own : Request → Answer
@@ -73,27 +73,27 @@ module _ (m : Measures) (area : List ℕ) where
   own_is (changes ch) a after out k = (change-makes m area after ch a k).answers
 
   -- what is told where a request comes no further than the opening; a get by key has its own way
-  check-shut : (a : Answer) → opening_of m area ≡ shut a → check_of m area ≡ a
+  check-shut : (r : Refusal) → opening_of m area ≡ shut r → check_of m area ≡ Err r
   unfolding check_of
-  check-shut a e = ap check_opened e
+  check-shut r e = ap check_opened e
 
-  get-at-shut : (address : ℕ) (lent : List ℕ) (a : Answer) → opening_of m area ≡ shut a → (get_at_of m area address lent).answer ≡ a
+  get-at-shut : (address : ℕ) (lent : List ℕ) (r : Refusal) → opening_of m area ≡ shut r → (get_at_of m area address lent).answer ≡ Err r
   unfolding get_at_of
-  get-at-shut address lent a e = ap (λ (d : Opening). (get_at_opened d address lent).answer) e
+  get-at-shut address lent r e = ap (λ (d : Opening). (get_at_opened d address lent).answer) e
 
-  change-shut : (ch : Change) (a : Answer) → opening_of m area ≡ shut a → (change_of m area ch).answer ≡ a
+  change-shut : (ch : Change) (r : Refusal) → opening_of m area ≡ shut r → (change_of m area ch).answer ≡ Err r
   unfolding change_of
-  change-shut ch a e = ap (λ (d : Opening). (change_opened d area ch).answer) e
+  change-shut ch r e = ap (λ (d : Opening). (change_opened d area ch).answer) e
 
-  get-outside : (wanted lent : List ℕ) → judged_of m (length area) ≡ judged.Outside → (get_of m area wanted lent).answer ≡ answer.Outside
+  get-outside : (wanted lent : List ℕ) → judged_of m (length area) ≡ None → (get_of m area wanted lent).answer ≡ Err Outside
   unfolding get_of
   get-outside wanted lent o = rw o
 
-  own-outside : (q : Request) → judged_of m (length area) ≡ judged.Outside → own q ≡ answer.Outside
-  own-outside check o = check-shut answer.Outside (rw o)
+  own-outside : (q : Request) → judged_of m (length area) ≡ None → own q ≡ Err Outside
+  own-outside check o = check-shut Outside (rw o)
   own-outside (get wanted lent) o = get-outside wanted lent o
-  own-outside (get_at address lent) o = get-at-shut address lent answer.Outside (rw o)
-  own-outside (changes ch) o = change-shut ch answer.Outside (rw o)
+  own-outside (get_at address lent) o = get-at-shut address lent Outside (rw o)
+  own-outside (changes ch) o = change-shut ch Outside (rw o)
 
   -- ---- a get by key
 
@@ -118,41 +118,41 @@ module _ (m : Measures) (area : List ℕ) where
             ∙ rw d.2
         go false e =
             absurd
-            (omega (arith, told answer.WrongLength 2 (get-length-wrong m area n j wanted lent d.0 (eqb-false (length wanted) m.key e)) z))
+            (omega (arith, told (Err WrongLength) 2 (get-length-wrong m area n j wanted lent d.0 (eqb-false (length wanted) m.key e)) z))
 
     -- and 8 of a record of that interval, with its length.
     got-needed : number_of got.answer ≡ 8 → (r : List ℕ) → Asked m area (get wanted lent) r → values_of got.answer ≡ length r ∷ []
     got-needed z r k = go (index_sound m n area) (eqb (length wanted) m.key) sound_there refl refl refl
       where
         go : (t u v : Bool) → index_sound m n area ≡ t → eqb (length wanted) m.key ≡ u → sound_there ≡ v → values_of got.answer ≡ length r ∷ []
-        go false u v i e d = absurd (omega (arith, told (answer.Damaged 0) 8 (get-index-damaged m area n j wanted lent i) z))
+        go false u v i e d = absurd (omega (arith, told (Err (Damaged 0)) 8 (get-index-damaged m area n j wanted lent i) z))
         go true false v i e d =
-            absurd (omega (arith, told answer.WrongLength 8 (get-length-wrong m area n j wanted lent i (eqb-false (length wanted) m.key e)) z))
+            absurd (omega (arith, told (Err WrongLength) 8 (get-length-wrong m area n j wanted lent i (eqb-false (length wanted) m.key e)) z))
         go true true false i e d =
             absurd (omega (arith, told _ 8 (get-there-damaged m area n j wanted lent i (eqb-true (length wanted) m.key e) d) z))
         go true true true i e d =
-            needed-length (Keyed m wanted (records_there m area wanted)) answer.Absent lent got
+            needed-length (Keyed m wanted (records_there m area wanted)) (Err Absent) lent got
             (get-there-finds m area n j wanted lent i (eqb-true (length wanted) m.key e) d) z r k
 
   -- ---- all requests
 
   own-place : (q : Request) → FineHere → number_of (own q) ≡ 2 → (p : ℕ) → DamagedFor m area q p → values_of (own q) ≡ p ∷ []
-  own-place check j z p d = ap values_of (check-shut (answer.Damaged p) (rw (j, d)))
+  own-place check j z p d = ap values_of (check-shut (Damaged p) (rw (j, d)))
   own-place (get wanted lent) j z p d = got-place wanted lent j z p d
-  own-place (get_at address lent) j z p d = ap values_of (get-at-shut address lent (answer.Damaged p) (rw (j, d)))
-  own-place (changes ch) j z p d = ap values_of (change-shut ch (answer.Damaged p) (rw (j, d)))
+  own-place (get_at address lent) j z p d = ap values_of (get-at-shut address lent (Damaged p) (rw (j, d)))
+  own-place (changes ch) j z p d = ap values_of (change-shut ch (Damaged p) (rw (j, d)))
 
   own-needed : (q : Request) → FineHere → number_of (own q) ≡ 8 → (r : List ℕ) → Asked m area q r → values_of (own q) ≡ length r ∷ []
   own-needed check j z r k = absurd k
   own-needed (get wanted lent) j z r k = got-needed wanted lent j z r k
-  own-needed (get_at address lent) j z r k = needed-length _ answer.NoRecord lent _ (get-at-finds m area n k.0 j k.1 address lent) z r k.2
+  own-needed (get_at address lent) j z r k = needed-length _ (Err NoRecord) lent _ (get-at-finds m area n k.0 j k.1 address lent) z r k.2
   own-needed (changes ch) j z r k = absurd k
 
   -- What comes back with a refusal is the place of the damage, the length of the record asked for, or nothing, as the number says.
   pub values-exact : (q : Request) (a : Answer) (after out : List ℕ) → Allowed m area q a after out → ValuesExact m area q a
   values-exact q a after out k = rw (own_is q a after out k) (go (judged-either m (length area)))
     where
-      go : (judged_of m (length area) ≡ judged.Outside) ⊎ FineHere → ValuesExact m area q (own q)
+      go : (judged_of m (length area) ≡ None) ⊎ FineHere → ValuesExact m area q (own q)
       go (inl o) =
           let e : number_of (own q) ≡ 1 = ap number_of (own-outside q o) in
           record {

@@ -13,10 +13,9 @@ use Rattle.sections.specs.Layout.{LaidOut}
 use Rattle.sections.specs.Form.{packed_all, index_size}
 use Rattle.sections.proofs.Shortest.{closings, laid-fits}
 use Rattle.area.specs.Content.{Content, records_of, entries_of, meaning_of, width_in}
-use Rattle.requests.specs.Answers.{number_of}
+use Rattle.requests.specs.Answers.{Answer, number_of}
 use Rattle.requests.specs.Model.{Change, Legal}
 use Rattle.requests.specs.Changing.{length_fine}
-use Rattle.requests.specs.declared.Answer.{Answer}
 use Rattle.requests.proofs.Ways.{way-planned}
 use Rattle.requests.specs.Allowed.{ChangeAllowed}
 use Rattle.promises.specs.Trace.{Sound}

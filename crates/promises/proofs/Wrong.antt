@@ -1,4 +1,5 @@
 -- The promises are not empty: each wrong register breaks one of them on an area written out, and so breaks its contracts.
+use Rattle.std.specs.Prelude.{Ok, Err}
 use Prim.Native.Nat.{ℕ, ◌+◌, ◌≤◌}
 use mathlib.Core.Path.{◌≡◌, refl, ◌∙◌, sym, ap, subst}
 use mathlib.Core.List.{List, [], ◌∷◌, ◌++◌, map, Memᴰ}
@@ -13,11 +14,10 @@ use Rattle.fields.proofs.Octets.{all-octets}
 use Rattle.measures.specs.Judgement.{count_of}
 use Rattle.measures.specs.declared.Measures.{Measures}
 use Rattle.measures.proofs.Fine.{accepted, accepted-fits, fits_count}
-use Rattle.room.specs.Room.{rdf_count, push, groups, need, fits}
+use Rattle.room.specs.Room.{rdf_count, push, groups, need}
 use Rattle.interval.specs.Records.{key_of}
 use Rattle.interval.specs.Layout.{form}
-use Rattle.interval.specs.Reading.{records_in, sound}
-use Rattle.index.specs.Meaning.{count}
+use Rattle.interval.specs.Reading.{records_in}
 use Rattle.division.specs.Fewest.{Fewest}
 use Rattle.division.proofs.Intervals.{fewest-one, fewest-unique}
 use Rattle.area.specs.Content.{Filled, Content, records_of}
@@ -29,7 +29,8 @@ use Rattle.requests.specs.Answers.{number_of, values_of}
 use Rattle.requests.specs.Model.{Change, insert, erase, add, remove, make_change, make_all, update, replace, total, gained, gained_all, lost, lost_all}
 use Rattle.requests.specs.Reading.{Given}
 use Rattle.requests.specs.Finding.{Keyed, Finds}
-use Rattle.requests.specs.declared.Answer.TheVariants.{Intact, Absent, Done, NoInterval, NoRoom, Found}
+use Rattle.requests.specs.declared.Done.TheVariants.{Changed, Found, Intact}
+use Rattle.requests.specs.declared.Refusal.TheVariants.{Absent, NoInterval, NoRoom}
 use Rattle.requests.proofs.Making.{count_add}
 use Rattle.requests.specs.Allowed.{Request, check, get, get_at, changes, Allowed}
 use Rattle.promises.specs.Trace.{Step, Trace, accepted_in, Sound, Stands}
@@ -37,21 +38,17 @@ use Rattle.promises.specs.Changes.{told_written, unit_at, Framed, WrittenTrue}
 use Rattle.promises.specs.Home.{Home}
 use Rattle.promises.specs.Local.{FineHome}
 use Rattle.promises.specs.Tables.{First, Holding, Crowded, changed, table_for, WantOfInterval, WantOfRoom}
-use Rattle.promises.proofs.History.{history, get-finds, total-bytes}
+use Rattle.promises.proofs.History.{history, get-finds}
 use Rattle.promises.proofs.Changes.{check-true, spreads-fewest, written-true}
 use Rattle.promises.proofs.Computed.{nine, halves, answers, left, damages}
 use Rattle.promises.proofs.Exact.{refusals-exact}
 use Rattle.promises.proofs.Local.{rows_whole, fine-home, get-there-finds}
-use Rattle.interval.specs.Search.{holds}
-use Rattle.division.specs.Division.{counts}
-use Rattle.change.specs.Parts.{divided}
 use Rattle.change.specs.Written.{carrying, numbers_of}
 use Rattle.requests.specs.Records.{with_key}
-use Rattle.promises.specs.Instances.{alone, all_key, eight, ninth, roomy, ten, shorter, even, high, brimful, certificate, certificates}
-use Rattle.promises.proofs.Wants.{want-of-interval, want-of-room}
+use Rattle.promises.specs.Instances.{alone, all_key, eight, ninth, roomy, ten, shorter, even, high, brimful, certificates}
 use Rattle.interval.proofs.Form.{interval-reads-back}
 use Rattle.promises.specs.Wrong.{run, Breaks, handed_by, rightly, refuses_all, calls_damaged, always_full, full_too_soon, cramped_at_home}
-use Rattle.promises.specs.Wrong.{cramped_at_brim, invents_counts, invents_written, misnames_written, forgets_index, same_record, third, together, untouched_done, keeps_revoked, constant_bytes}
+use Rattle.promises.specs.Wrong.{cramped_at_brim, invents_counts, invents_written, misnames_written, forgets_index, same_record, third, untouched_done, keeps_revoked, constant_bytes}
 use Rattle.promises.specs.Wrong.{loses_last, ReadsBack, scratched, vouches_for_all, beyond_bound, looks_away, half_lost, sought, seeking, leaves_output, record_before}
 use Rattle.promises.proofs.Instances.{six-just-not, home-not-seven, seven-just-not, roomy-six, home-seven, brimful-seven, even-sound, roomy-sound}
 
@@ -129,21 +126,21 @@ always-full (inr (a, inr (b, inr (d, inr (e, inr (f, inl x)))))) = omega (arith,
 always-full (inr (a, inr (b, inr (d, inr (e, inr (f, inr x)))))) = omega (arith, x.1)
 
 -- Version three breaks `want-of-interval`: an interval must be divided, one is free, which is enough, and it says 6.
-full-answer : (full_too_soon roomy (changes (insert ninth))).answer ≡ NoInterval
+full-answer : (full_too_soon roomy (changes (insert ninth))).answer ≡ Err NoInterval
 full-answer = rw answers.roomy refl
 
 pub full-too-soon : ((number_of (full_too_soon roomy (changes (insert ninth))).answer ≡ 6) ↔ WantOfInterval depot roomy (insert ninth)) → ⊥
 full-too-soon w = six-just-not (w.0 (ap number_of full-answer))
 
 -- A register that looks for room in the index record where the change stays in its interval breaks `want-of-room`.
-home-answer : (cramped_at_home bytes (changes (insert third))).answer ≡ NoRoom
+home-answer : (cramped_at_home bytes (changes (insert third))).answer ≡ Err NoRoom
 home-answer = rw answers.inserted refl
 
 pub cramped-at-home : ((number_of (cramped_at_home bytes (changes (insert third))).answer ≡ 7) ↔ WantOfRoom depot bytes (insert third)) → ⊥
 cramped-at-home w = home-not-seven (w.0 (ap number_of home-answer))
 
 -- And so does one that finds no room where the renewed record just fits.
-brim-answer : (cramped_at_brim brimful (changes (insert (high 0x32)))).answer ≡ NoRoom
+brim-answer : (cramped_at_brim brimful (changes (insert (high 0x32)))).answer ≡ Err NoRoom
 brim-answer = rw (left.brimful, answers.brimful) refl
 
 pub cramped-at-brim : ((number_of (cramped_at_brim brimful (changes (insert (high 0x32)))).answer ≡ 7) ↔ WantOfRoom all_key brimful (insert (high 0x32))) → ⊥
@@ -152,7 +149,7 @@ cramped-at-brim w = seven-just-not (w.0 (ap number_of brim-answer))
 -- ---- counts
 
 -- A register that invents counts breaks `check-true`.
-pub invents-counts : (invents_counts bytes check).answer ≡ Intact (length (records_of held.filled)) (length held.free) → ⊥
+pub invents-counts : (invents_counts bytes check).answer ≡ Ok (Intact (length (records_of held.filled)) (length held.free)) → ⊥
 unfolding records_of
 invents-counts e = let z : ◌≡◌ {A = ℕ} 7 2 = cc in omega arith
 
@@ -170,7 +167,7 @@ invents-written old t =
     omega (arith, u.most)
 
 -- One that tells the right count, but each interval by the number behind it, breaks it too: the key's interval is 0, in the buffer 1, and 2 was told.
-misnamed : (misnames_written bytes (changes (insert third))).answer ≡ Done (carrying (2 ∷ []))
+misnamed : (misnames_written bytes (changes (insert third))).answer ≡ Ok (Changed (carrying (2 ∷ [])))
 misnamed = rw answers.inserted refl
 
 pub misnames-written : (h : Home depot held (key_of depot third))
@@ -184,7 +181,7 @@ misnames-written h t =
     omega (arith, ap (λ (x : Filled). x.num) o)
 
 -- And so does one that leaves out the index record: an interval is free no longer.
-forgot : (forgets_index roomy (changes (insert ninth))).answer ≡ Done (carrying (1 ∷ 2 ∷ []))
+forgot : (forgets_index roomy (changes (insert ninth))).answer ≡ Ok (Changed (carrying (1 ∷ 2 ∷ [])))
 forgot = rw answers.roomy refl
 
 forgot-left : (forgets_index roomy (changes (insert ninth))).area ≡ (rightly depot roomy (changes (insert ninth))).area
@@ -225,16 +222,16 @@ forgot-read = rw forgot-left left.halved
 -- ---- gets
 
 -- A register that hands out the same certificate each time breaks `get-finds`: the second one was asked for.
-same_answer : (same_record bytes (get (key_of depot second) (replicate 60 0))).answer ≡ Found 10
+same_answer : (same_record bytes (get (key_of depot second) (replicate 60 0))).answer ≡ Ok (Found 10)
 same_answer = rw answers.got-second refl
 
-pub same-record : Finds (Keyed depot (key_of depot second) (make_all depot (accepted_in []) (records_of held.filled))) Absent (replicate 60 0)
+pub same-record : Finds (Keyed depot (key_of depot second) (make_all depot (accepted_in []) (records_of held.filled))) (Err Absent) (replicate 60 0)
     (record { answer = (same_record bytes (get (key_of depot second) (replicate 60 0))).answer; output = (same_record bytes (get (key_of depot second) (replicate 60 0))).output })
     → ⊥
 unfolding records_of make_all
 same-record f =
     let g = ap (λ (x : Given). values_of x.answer) (f.found second (record { among = mathlib.Core.List.Memᴰ.tail (mathlib.Core.List.Memᴰ.head refl); has = refl }) (omega arith)) in
-    let h : values_of (Found 10) ≡ values_of (Found 14) = sym (ap values_of same_answer) ∙ g in
+    let h : values_of (Ok (Found 10)) ≡ values_of (Ok (Found 14)) = sym (ap values_of same_answer) ∙ g in
     let z : ◌≡◌ {A = ℕ} 10 14 = cc in
     omega arith
 
@@ -243,7 +240,7 @@ revoked-taken : accepted_in (keeps_revoked bytes (changes (erase (key_of depot f
 revoked-taken = rw answers.erased refl
 
 pub keeps-revoked : Finds
-    (Keyed depot (key_of depot first) (make_all depot (accepted_in (keeps_revoked bytes (changes (erase (key_of depot first))) ∷ [])) (records_of held.filled))) Absent
+    (Keyed depot (key_of depot first) (make_all depot (accepted_in (keeps_revoked bytes (changes (erase (key_of depot first))) ∷ [])) (records_of held.filled))) (Err Absent)
     (replicate 60 0)
     (record { answer = (keeps_revoked bytes (get (key_of depot first) (replicate 60 0))).answer; output = (keeps_revoked bytes (get (key_of depot first) (replicate 60 0))).output })
     → ⊥
@@ -294,7 +291,7 @@ lost-fine =
 
 -- what a register must come to there where it keeps its contracts: the certificate itself
 abbrev pub FindsSought : Step → Type 0
-FindsSought x = Finds (Keyed depot (key_of depot sought) (certificates 2 0x31 60)) Absent (replicate 60 0) (record { answer = x.answer; output = x.output })
+FindsSought x = Finds (Keyed depot (key_of depot sought) (certificates 2 0x31 60)) (Err Absent) (replicate 60 0) (record { answer = x.answer; output = x.output })
 
 sought-out : (x : Step) → FindsSought x → x.output ≡ sought
 sought-out x f = ap (λ (g : Given). g.output) (f.found sought (record { among = mathlib.Core.List.Memᴰ.tail (mathlib.Core.List.Memᴰ.head refl); has = refl }) (omega arith))

@@ -1,7 +1,7 @@
 -- What comes back for requests one after another, as lists, so that two runs can be held beside each other: document 01, 'How far each statement must
 -- reach'.
 use Rattle.std.specs.Prelude.{ℕ, List, [], map}
-use Rattle.requests.specs.declared.Answer.{Answer}
+use Rattle.requests.specs.Answers.{Answer}
 use Rattle.requests.specs.Allowed.{Request, check, get, get_at, changes}
 use Rattle.promises.specs.Trace.{Step}
 

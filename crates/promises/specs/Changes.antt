@@ -1,5 +1,5 @@
 -- What an accepted change did to an area: demand 3; document 01, 'Dividing an interval'. c is its content before, d after. Nothing here plans or stores.
-use Rattle.std.specs.Prelude.{ℕ, ◌+◌, ◌*◌, ◌≤◌, ◌<◌, ◌≡◌, length, get_or, ◌⊎◌, ◌↔◌}
+use Rattle.std.specs.Prelude.{ℕ, ◌+◌, ◌*◌, ◌≤◌, ◌<◌, ◌≡◌, length, get_or, ◌⊎◌, ◌↔◌, Ok, Err}
 use mathlib.Core.List.{List, [], ◌∷◌, ◌++◌, Memᴰ}
 use Rattle.fields.specs.Bytes.{part}
 use Rattle.measures.specs.declared.Measures.{Measures}
@@ -11,10 +11,11 @@ use Rattle.division.specs.Fewest.{Fewest}
 use Rattle.area.specs.Content.{Filled, Content, records_of, entries_of, meaning_of, index_in, data_in, width_in}
 use Rattle.requests.specs.Model.{Change, make_change}
 use Rattle.requests.specs.Changing.{key_in}
-use Rattle.requests.specs.declared.Answer.{Answer}
+use Rattle.requests.specs.Answers.{Answer}
 use Rattle.change.specs.Written.{Ascend, numbers_of}
 use Rattle.change.specs.declared.Written.{Written}
-use Rattle.requests.specs.declared.Answer.TheVariants.{Done, Found, Intact, Damaged, Short, Outside, WrongLength, Present, Absent, NoInterval, NoRoom, NoRecord}
+use Rattle.requests.specs.declared.Done.TheVariants.{Changed, Found, Intact}
+use Rattle.requests.specs.declared.Refusal.TheVariants.{Outside, Damaged, WrongLength, Present, Absent, NoInterval, NoRoom, Short, NoRecord}
 use Rattle.promises.specs.Entries.{records_by, seps_by}
 use Rattle.promises.specs.Home.{Home}
 use Rattle.promises.specs.Prescribed.{brought_by, PrescribedParts}
@@ -61,18 +62,18 @@ pub record OnlyNamedWritten (m : Measures) (before after : List ℕ) (c d : Cont
 
 -- the buffer numbers that an answer carries: those of a done change, none with a refusal, a get or a check
 abbrev pub told_written : Answer → List ℕ
-told_written (Done w) = numbers_of w
-told_written (Found length) = []
-told_written (Intact records free) = []
-told_written (Damaged place) = []
-told_written (Short needed) = []
-told_written Outside = []
-told_written WrongLength = []
-told_written Present = []
-told_written Absent = []
-told_written NoInterval = []
-told_written NoRoom = []
-told_written NoRecord = []
+told_written (Ok (Changed w)) = numbers_of w
+told_written (Ok (Found length)) = []
+told_written (Ok (Intact records free)) = []
+told_written (Err (Damaged place)) = []
+told_written (Err (Short needed)) = []
+told_written (Err Outside) = []
+told_written (Err WrongLength) = []
+told_written (Err Present) = []
+told_written (Err Absent) = []
+told_written (Err NoInterval) = []
+told_written (Err NoRoom) = []
+told_written (Err NoRecord) = []
 
 -- interval k of the buffer: 0 is the index record, i + 1 data interval i
 abbrev pub unit_at : ℕ → List ℕ → ℕ → List ℕ
@@ -82,12 +83,12 @@ unit_at S area k = part area (k * S) S
 abbrev pub Framed : ℕ → List ℕ → List ℕ → Answer → Type 0
 Framed S before after a = (k : ℕ) → (Memᴰ k (told_written a) → ⊥) → unit_at S after k ≡ unit_at S before k
 
--- Done tells which intervals were written, ascending, four at the most, and how many: the index record exactly if the free list got shorter; a data interval
+-- Changed tells which intervals were written, ascending, four at the most, and how many: the index record exactly if the free list got shorter; a data interval
 -- exactly if it is the one to which the key belongs, or was free and no longer is. Every other is as it was. Said over what the area was read as before (c) and
 -- after (d); old is the number of the key's interval.
 pub record WrittenTrue (m : Measures) (before after : List ℕ) (c d : Content) (a : Answer) (old : ℕ) : Type 0 where
   pub written : Written
-  pub told : a ≡ Done written
+  pub told : a ≡ Ok (Changed written)
   pub many : written.count ≡ length (numbers_of written)
   pub most : written.count ≤ 4
   pub padded : (i : ℕ) → written.count ≤ i → get_or (written.first ∷ written.second ∷ written.third ∷ written.fourth ∷ []) i 0 ≡ 0

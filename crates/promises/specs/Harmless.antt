@@ -1,10 +1,9 @@
 -- A refusal leaves everything as it was: demand 1; document 01, 'How far each statement must reach'. Said of any result that a request's contract allows.
 use Rattle.std.specs.Prelude.{ℕ, ◌≡◌, List}
 use Rattle.measures.specs.declared.Measures.{Measures}
-use Rattle.requests.specs.Answers.{number_of}
+use Rattle.requests.specs.Answers.{Answer, number_of}
 use Rattle.requests.specs.Reading.{get_of, get_at_of, Gives}
 use Rattle.requests.specs.Changing.{insert_of, update_of, erase_of, Makes}
-use Rattle.requests.specs.declared.Answer.{Answer}
 
 -- the answer's number is not 0
 abbrev pub Refusal : Answer → Type 0

@@ -2,16 +2,14 @@
 -- statement must reach'. Nothing here searches or writes.
 use Rattle.std.specs.Prelude.{ℕ, zero, suc, ◌≡◌, true, List, [], ◌∷◌, length}
 use Rattle.fields.specs.Bytes.{Octets}
-use Rattle.measures.specs.Judgement.{judged_of}
+use Rattle.measures.specs.Judgement.{judged_of, passed}
 use Rattle.measures.specs.declared.Measures.{Measures}
-use Rattle.measures.specs.declared.Judged.TheVariants.{Fine}
 use Rattle.interval.specs.Records.{keys_of, ascending}
 use Rattle.area.specs.Content.{Content, records_of}
 use Rattle.area.specs.Reading.{whole, read_area}
-use Rattle.requests.specs.Answers.{number_of}
+use Rattle.requests.specs.Answers.{Answer, number_of}
 use Rattle.requests.specs.Model.{Change, make_all, AllLegal}
 use Rattle.requests.specs.Allowed.{Request, check, get, get_at, changes, Allowed}
-use Rattle.requests.specs.declared.Answer.{Answer}
 
 -- a request with what came back: the answer, the area and the output at exit (a check and a change are lent no output)
 pub record Step : Type 0 where
@@ -50,7 +48,7 @@ accepted_in (s ∷ ss) = taking s.request (number_of s.answer) (accepted_in ss)
 -- the area is of bytes, is not refused as outside the limits, and is read as c
 pub record Sound (m : Measures) (n : ℕ) (area : List ℕ) (c : Content) : Type 0 where
   pub octets : Octets area
-  pub judges : judged_of m (length area) ≡ Fine m n
+  pub judges : judged_of m (length area) ≡ passed m n
   pub reads : read_area m n area ≡ whole c
 
 -- After changes made of opening records: the area is sound and as long as it was; its records are the opening ones with just these changes made one after

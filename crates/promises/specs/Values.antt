@@ -4,9 +4,8 @@ use Rattle.measures.specs.declared.Measures.{Measures}
 use Rattle.area.specs.Content.{Content, base_of}
 use Rattle.area.specs.Reading.{damaged, read_area}
 use Rattle.area.specs.Leads.{index_sound, number_for}
-use Rattle.requests.specs.Answers.{number_of, values_of}
+use Rattle.requests.specs.Answers.{Answer, number_of, values_of}
 use Rattle.requests.specs.Finding.{Keyed, Lies}
-use Rattle.requests.specs.declared.Answer.{Answer}
 use Rattle.requests.specs.Allowed.{Request, check, get, get_at, changes}
 use Rattle.promises.specs.Tables.{many, Holding, DamagedIndex, DamagedThere, records_there}
 

@@ -1,6 +1,6 @@
 -- Registers that must not pass, each as a function from an area and a request to a step: document 01, 'How far each statement must reach'. Each looks at
 -- what it is asked and does what the contracts say, but for its one fault.
-use Rattle.std.specs.Prelude.{ℕ, ◌+◌, ◌-◌, ◌*◌, ◌≤◌, ◌≡◌, Bool, true, false, List, [], ◌∷◌, ◌++◌, map, length, get_or, replicate, take, drop, eqb, ltb}
+use Rattle.std.specs.Prelude.{ℕ, ◌+◌, ◌-◌, ◌*◌, ◌≤◌, ◌≡◌, Bool, true, false, List, [], ◌∷◌, ◌++◌, map, length, get_or, replicate, take, drop, eqb, ltb, Ok, Err}
 use Rattle.fields.specs.Choice.{pick, both}
 use Rattle.fields.specs.Bytes.{splice}
 use Rattle.measures.specs.Judgement.{count_of}
@@ -20,14 +20,13 @@ use Rattle.change.specs.Parts.{entry_at}
 use Rattle.change.specs.Places.{nexts}
 use Rattle.change.specs.Written.{carrying}
 use Rattle.requests.specs.Model.{Change, insert, update, erase, make_change}
-use Rattle.requests.specs.Answers.{number_of, values_of}
+use Rattle.requests.specs.Answers.{Answer, number_of, values_of}
 use Rattle.requests.specs.Opening.{Opening, shut, holding, opening_of}
 use Rattle.requests.specs.Records.{with_key}
 use Rattle.requests.specs.Reading.{Given, refused, hand_out, check_of, get_of, get_at_of}
 use Rattle.requests.specs.Changing.{Outcome, kept, bytes_of, key_in, change_of}
-use Rattle.requests.specs.declared.Answer.{Answer}
-use Rattle.requests.specs.declared.Answer.TheVariants.{Done, Found, Intact, Damaged, Short, Outside, WrongLength, Present, Absent, NoInterval, NoRoom}
-use Rattle.requests.specs.declared.Answer.TheVariants.{NoRecord}
+use Rattle.requests.specs.declared.Done.TheVariants.{Changed, Found, Intact}
+use Rattle.requests.specs.declared.Refusal.TheVariants.{Outside, Damaged, WrongLength, Present, Absent, NoInterval, NoRoom, Short, NoRecord}
 use Rattle.requests.specs.Allowed.{Request, check, get, get_at, changes}
 use Rattle.promises.specs.Trace.{Step, Trace}
 use Rattle.promises.specs.Changes.{told_written}
@@ -89,18 +88,18 @@ getting_by f area (changes ch) = rightly depot area (changes ch)
 
 -- how many intervals an answer says were written: none where it is a refusal, one where the change stays in its interval, more where it divides
 abbrev pub written_by : Answer → ℕ
-written_by (Done w) = w.count
-written_by (Found l) = 0
-written_by (Intact records free) = 0
-written_by Outside = 0
-written_by (Damaged place) = 0
-written_by WrongLength = 0
-written_by Present = 0
-written_by Absent = 0
-written_by NoInterval = 0
-written_by NoRoom = 0
-written_by (Short needed) = 0
-written_by NoRecord = 0
+written_by (Ok (Changed w)) = w.count
+written_by (Ok (Found l)) = 0
+written_by (Ok (Intact records free)) = 0
+written_by (Err Outside) = 0
+written_by (Err (Damaged place)) = 0
+written_by (Err WrongLength) = 0
+written_by (Err Present) = 0
+written_by (Err Absent) = 0
+written_by (Err NoInterval) = 0
+written_by (Err NoRoom) = 0
+written_by (Err (Short needed)) = 0
+written_by (Err NoRecord) = 0
 
 -- the fault shows where a change is made, where it stays in its interval, where it divides; elsewhere the outcome is right
 abbrev if_made : Outcome → Outcome → Outcome
@@ -134,23 +133,23 @@ saying a area q = record { request = q; answer = a; area = area; output = lent_b
 
 -- refuses everything: no certificate is ever there
 abbrev pub refuses_all : Register
-refuses_all = saying Absent
+refuses_all = saying (Err Absent)
 
 -- calls everything damaged
 abbrev pub calls_damaged : Register
-calls_damaged = saying (Damaged 0)
+calls_damaged = saying (Err (Damaged 0))
 
 -- says that the register is full, whatever is free
 abbrev pub always_full : Register
-always_full = changing_by (λ (area : List ℕ) (ch : Change) (o : Outcome). kept NoInterval area) depot
+always_full = changing_by (λ (area : List ℕ) (ch : Change) (o : Outcome). kept (Err NoInterval) area) depot
 
 -- version three: an interval must be divided, enough are free, and it says that none is
 abbrev pub full_too_soon : Register
-full_too_soon = changing_by (λ (area : List ℕ) (ch : Change) (o : Outcome). if_divides o (kept NoInterval area)) depot
+full_too_soon = changing_by (λ (area : List ℕ) (ch : Change) (o : Outcome). if_divides o (kept (Err NoInterval) area)) depot
 
 -- looks for room in the index record where nothing of it is renewed
 abbrev pub cramped_at_home : Register
-cramped_at_home = changing_by (λ (area : List ℕ) (ch : Change) (o : Outcome). if_stays o (kept NoRoom area)) depot
+cramped_at_home = changing_by (λ (area : List ℕ) (ch : Change) (o : Outcome). if_stays o (kept (Err NoRoom) area)) depot
 
 -- whether an area's index record fills its interval to the last byte before the control fields
 abbrev filled : Reading → Bool
@@ -163,13 +162,13 @@ fills_index area = filled (read_area all_key (count_of 512 (length area)) area)
 -- finds no room where the renewed index record just fits
 abbrev pub cramped_at_brim : Register
 cramped_at_brim =
-    changing_by (λ (area : List ℕ) (ch : Change) (o : Outcome). pick (fills_index o.area) (if_divides o (kept NoRoom area)) o) all_key
+    changing_by (λ (area : List ℕ) (ch : Change) (o : Outcome). pick (fills_index o.area) (if_divides o (kept (Err NoRoom) area)) o) all_key
 
 -- ---- counts and gets
 
 -- invents how many records and free intervals there are
 abbrev pub invents_counts : Register
-invents_counts area check = record { request = check; answer = Intact 7 7; area = area; output = [] }
+invents_counts area check = record { request = check; answer = Ok (Intact 7 7); area = area; output = [] }
 invents_counts area (get wanted out) = rightly depot area (get wanted out)
 invents_counts area (get_at address out) = rightly depot area (get_at address out)
 invents_counts area (changes ch) = rightly depot area (changes ch)
@@ -178,17 +177,17 @@ invents_counts area (changes ch) = rightly depot area (changes ch)
 abbrev pub invents_written : Register
 invents_written =
     changing_by
-    (λ (area : List ℕ) (ch : Change) (o : Outcome). if_made o (record { answer = Done (record { count = 7; first = 0; second = 1; third = 2; fourth = 3 }); area = o.area })) depot
+    (λ (area : List ℕ) (ch : Change) (o : Outcome). if_made o (record { answer = Ok (Changed (record { count = 7; first = 0; second = 1; third = 2; fourth = 3 })); area = o.area })) depot
 
 -- tells as many intervals as a change wrote, but each by the number of the one behind it
 abbrev pub misnames_written : Register
 misnames_written =
-    changing_by (λ (area : List ℕ) (ch : Change) (o : Outcome). if_made o (record { answer = Done (carrying (nexts (told_written o.answer))); area = o.area })) depot
+    changing_by (λ (area : List ℕ) (ch : Change) (o : Outcome). if_made o (record { answer = Ok (Changed (carrying (nexts (told_written o.answer)))); area = o.area })) depot
 
 -- leaves out the index record where a change wrote it
 abbrev pub forgets_index : Register
 forgets_index =
-    changing_by (λ (area : List ℕ) (ch : Change) (o : Outcome). if_divides o (record { answer = Done (carrying (drop 1 (told_written o.answer))); area = o.area })) depot
+    changing_by (λ (area : List ℕ) (ch : Change) (o : Outcome). if_divides o (record { answer = Ok (Changed (carrying (drop 1 (told_written o.answer)))); area = o.area })) depot
 
 -- hands out the same certificate to whoever asks for one that is there
 abbrev pub same_record : Register
@@ -196,7 +195,7 @@ same_record =
     getting_by
     (λ (area wanted out : List ℕ) (right : Given).
     pick (eqb (number_of right.answer) 0)
-    (record { answer = Found (length first); output = first ++ drop (length first) out }) right)
+    (record { answer = Ok (Found (length first)); output = first ++ drop (length first) out }) right)
 
 -- ---- gets that judge more than they read, or less: document 02, L4
 
@@ -210,7 +209,7 @@ scratched = splice bytes 1024 (replicate 512 0)
 
 -- what a get comes to that reads the whole area first, as gets did before: damage wherever it lies refuses it
 abbrev vouched : Opening → List ℕ → Given → Given
-vouched (shut a) out right = refused a out
+vouched (shut r) out right = refused (Err r) out
 vouched (holding m c) out right = right
 
 -- vouches for the whole area in every get
@@ -241,7 +240,7 @@ looks_away =
     getting_by
     (λ (area wanted out : List ℕ) (right : Given).
     pick (both (eqb (number_of right.answer) 2) (ltb 0 (get_or (values_of right.answer) 0 0)))
-    (hand_out Absent (with_key depot wanted (records_for area wanted)) out) right)
+    (hand_out (Err Absent) (with_key depot wanted (records_for area wanted)) out) right)
 
 -- ---- gets that judge rightly and give wrongly, where damage lies elsewhere
 
@@ -278,7 +277,7 @@ record_before =
     getting_by
     (λ (area wanted out : List ℕ) (right : Given).
     let rs : List (List ℕ) = records_for area wanted in
-    pick (eqb (number_of right.answer) 0) (hand_out Absent (drop (lower depot wanted rs - 1) rs) out) right)
+    pick (eqb (number_of right.answer) 0) (hand_out (Err Absent) (drop (lower depot wanted rs - 1) rs) out) right)
 
 -- ---- changes
 
@@ -315,7 +314,7 @@ last_lost (holding m c) ch area =
 abbrev pub loses_last : Register
 loses_last =
     changing_by
-    (λ (area : List ℕ) (ch : Change) (o : Outcome). if_divides o (record { answer = Done (carrying (1 ∷ [])); area = last_lost (opening_of depot area) ch area }))
+    (λ (area : List ℕ) (ch : Change) (o : Outcome). if_divides o (record { answer = Ok (Changed (carrying (1 ∷ []))); area = last_lost (opening_of depot area) ch area }))
     depot
 
 -- ---- writers

@@ -1,4 +1,5 @@
 -- The records at an address: they are sought in the one interval that the address lies in.
+use Rattle.std.specs.Prelude.{Some, None, Option}
 use Prim.Native.Nat.{ℕ, zero, suc, ◌+◌, ◌-◌, ◌*◌, ◌/◌, ◌%◌, ◌≤◌, ◌<◌}
 use mathlib.Core.Path.{◌≡◌, refl, ◌∙◌, sym, ap}
 use mathlib.Core.Bool.{Bool, true, false}
@@ -20,8 +21,7 @@ use Rattle.measures.proofs.Fine.{fits-large}
 use Rattle.interval.specs.Records.{all_within, lengths_fine}
 use Rattle.interval.specs.Reading.{records_in, sound, Readable}
 use Rattle.interval.specs.Search.{starting_at, started_of}
-use Rattle.interval.specs.declared.Started.{Started}
-use Rattle.interval.specs.declared.Started.TheVariants as started
+use Rattle.std.specs.Prelude.{Option, Some, None}
 use Rattle.interval.proofs.Backward.{in_size}
 use Rattle.interval.proofs.Lengths.{within_low, within-rest}
 use Rattle.interval.proofs.Starting.{starting-before, starting-begins}
@@ -36,10 +36,10 @@ use Rattle.area.proofs.Sounding.{Sound, AllFree, AllUsed, sound-apart, sound-rul
 use Rattle.area.proofs.Places.{length-data}
 use Rattle.area.proofs.Intervals.{free-apart, used-apart}
 use Rattle.area_find.specs.AidSought.{Whole, sought_at, lying_of}
-use Rattle.area_find.specs.declared.Lying.{Lying}
-use Rattle.area_find.specs.declared.Lying.TheVariants.{Here, Nowhere}
 use Rattle.area_find.proofs.Readables.{readable}
 use Rattle.requests.specs.Records.{lying_at}
+use Rattle.area.specs.Checked.{lies_at}
+use Rattle.area.specs.declared.Lying.{Lying}
 
 -- ---- one interval
 
@@ -217,18 +217,18 @@ module _ (m : Measures) (n : ℕ) (area : List ℕ) (o : Fits m n (length area))
             ∙ rw (free-empty m n area o base address ((address - base) / m.size) ((address - base) % m.size) is small w.content.free s.free (omega arith)) (unfold starting_at in refl)
 
 -- what is told of an address is what lies there
-abbrev pub LiesAs : List ℕ → List (List ℕ) → Lying → Type 0
-LiesAs area rs (Here from len) = rs ≡ part area from len ∷ []
-LiesAs area rs Nowhere = rs ≡ []
+abbrev pub LiesAs : List ℕ → List (List ℕ) → Option Lying → Type 0
+LiesAs area rs (Some lying) = rs ≡ part area lying.from lying.length ∷ []
+LiesAs area rs None = rs ≡ []
 
 module _ (m : Measures) (n : ℕ) (area : List ℕ) (o : Fits m n (length area)) (k : ℕ) (h : k < n) (d : Readable m (data_in m area k)) where
   -- the record that begins at a place of an interval, as a part of the area
-  one-record : (place : ℕ) (rs : List (List ℕ)) → starting_at place 0 (records_in (data_in m area k)) ≡ rs → (x : Started) → started_of rs ≡ x
+  one-record : (place : ℕ) (rs : List (List ℕ)) → starting_at place 0 (records_in (data_in m area k)) ≡ rs → (x : Option ℕ) → started_of rs ≡ x
       → LiesAs area rs (lying_of ((k + 1) * m.size + place) x)
-  one-record place [] e started.Nothing y = refl
-  one-record place [] e (started.Here len) y = absurd (let z : ◌≡◌ {A = ℕ} 0 1 = cc in omega arith)
-  one-record place (r ∷ rs) e started.Nothing y = absurd (let z : ◌≡◌ {A = ℕ} 0 1 = cc in omega arith)
-  one-record place (r ∷ rs) e (started.Here len) y =
+  one-record place [] e None y = refl
+  one-record place [] e (Some len) y = absurd (let z : ◌≡◌ {A = ℕ} 0 1 = cc in omega arith)
+  one-record place (r ∷ rs) e None y = absurd (let z : ◌≡◌ {A = ℕ} 0 1 = cc in omega arith)
+  one-record place (r ∷ rs) e (Some len) y =
       let b = starting-begins m (data_in m area k) d place r rs e in
       let l : length r ≡ len = cc in
       let i : r ≡ part (data_in m area k) place len = sym (rw l at b.is) in
@@ -243,8 +243,8 @@ sought-lies m n area o w address =
   where
     go : (a b : Bool) → ltb address (base_of w.content) ≡ a → leb n ((address - base_of w.content) / m.size) ≡ b
         → LiesAs area (lying_at m (base_of w.content) address w.content.filled)
-        (pick a Nowhere
-        (pick b Nowhere
+        (pick a None
+        (pick b None
         (lying_of (((address - base_of w.content) / m.size + 1) * m.size + (address - base_of w.content) % m.size)
         (started_of (starting_at ((address - base_of w.content) % m.size) 0 (records_in (data_in m area ((address - base_of w.content) / m.size))))))))
     go true b p r =

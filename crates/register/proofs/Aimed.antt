@@ -1,5 +1,6 @@
 -- What a search says of a change, by its kind: where it is refused, its meaning is that refusal; where it is aimed at a site, its meaning is that the plan of
 -- the edit there is carried out, and that edit fits.
+use Rattle.std.specs.Prelude.{Ok, Err, Result}
 use Prim.Native.Nat.{ℕ, ◌+◌, ◌*◌, ◌≤◌, ◌<◌}
 use mathlib.Core.Path.{◌≡◌, refl, ◌∙◌, sym, ap}
 use mathlib.Core.List.{List, [], ◌∷◌, cons-ne-nil}
@@ -32,14 +33,13 @@ use Rattle.change_plan.specs.AidEdited.{edit_at, Edits}
 use Rattle.requests.specs.Records.{with_key}
 use Rattle.requests.specs.Model.{Legal}
 use Rattle.requests.specs.Changing.{kept, bytes_of, key_in, edit_for, edit_of, carry_out}
-use Rattle.requests.specs.declared.Answer.{Answer}
+use Rattle.requests.specs.Answers.{Answer}
+use Rattle.requests.specs.declared.Refusal.{Refusal}
 use Rattle.requests.proofs.Edits.{led-entry, within-least}
 use Rattle.requests.proofs.Proper.{key-fine, change-proper}
 use Rattle.register.specs.AidChange.{change_at, Asked, keyed_in, gap_site, record_site, aim_at, aim_of}
 use Rattle.register.specs.declared.Kind.{Kind}
 use Rattle.register.specs.declared.Kind.TheVariants.{Insert, Update, Erase}
-use Rattle.register.specs.declared.Aim.{Aim}
-use Rattle.register.specs.declared.Aim.TheVariants as aim
 use Rattle.register.proofs.KeyFound.{entries-are, key-found, key-absent, number_at}
 
 -- ---- what comes and goes with a kind of change
@@ -139,9 +139,9 @@ module _ (m : Measures) (n : ℕ) (area : List ℕ) (o : Fits m n (length area))
   present k is i t l e = rw is at (key-found m n area o w key long octets spot s i t l e)
 
   -- Refused as its meaning is; or made as its meaning is, at a site of its key, where it may be made.
-  abbrev Aims : Kind → List ℕ → Aim → Type 0
-  Aims kind new (aim.Not a) = keyed_in m w.content area (change_at kind key new) ≡ kept a area
-  Aims kind new (aim.At site) =
+  abbrev Aims : Kind → List ℕ → Result Site Refusal → Type 0
+  Aims kind new (Err r) = keyed_in m w.content area (change_at kind key new) ≡ kept (Err r) area
+  Aims kind new (Ok site) =
       Sited (gone_for kind) site
       × Legal m (change_at kind key new) (records_of w.content.filled)
       × (keyed_in m w.content area (change_at kind key new) ≡ carry_out m area (plan_of m w.content (edit_of m w.content (change_at kind key new))))
@@ -178,25 +178,25 @@ module _ (m : Measures) (n : ℕ) (area : List ℕ) (o : Fits m n (length area))
   long : length key ≡ m.key
   long = ap length asked.is ∙ key-fine m o.key-inside (change_at kind key new) asked.fine
 
-  told : (x : Aim) → aim_of kind spot ≡ x → Aims m n area o w key long key-bytes spot s kind new x
+  told : (x : Result Site Refusal) → aim_of kind spot ≡ x → Aims m n area o w key long key-bytes spot s kind new x
   told x e = rw e at (aims m n area o w key long key-bytes spot s kind new asked.is spot.found refl)
 
   -- Refused: that is its meaning.
-  pub aim-not : (a : Answer) → aim_of kind spot ≡ aim.Not a → keyed_in m c area (change_at kind key new) ≡ kept a area
-  aim-not a e = told (aim.Not a) e
+  pub aim-not : (r : Refusal) → aim_of kind spot ≡ Err r → keyed_in m c area (change_at kind key new) ≡ kept (Err r) area
+  aim-not r e = told (Err r) e
 
-  module _ (site : Site) (e : aim_of kind spot ≡ aim.At site) where
+  module _ (site : Site) (e : aim_of kind spot ≡ Ok site) where
     -- Aimed at a site: its meaning is that its plan is carried out, and its edit is the one at the site.
     pub aim_at_lem : (keyed_in m c area (change_at kind key new) ≡ carry_out m area (plan_of m c (edit_of m c (change_at kind key new))))
         × (edit_of m c (change_at kind key new) ≡ record { entry = site.entry; ordinal = site.ordinal; gone = site.gone; fresh = fresh_in new })
     aim_at_lem =
-        let t = told (aim.At site) e in
+        let t = told (Ok site) e in
         (t.2, edit-for m o.key-some o.key-inside key new c kind asked ∙ sym (t.0.edit (fresh_in new)))
 
     -- That edit fits.
     pub aim-edits : Octets area → Edits m n area site (fresh_in new)
     aim-edits bytes =
-        let t = told (aim.At site) e in
+        let t = told (Ok site) e in
         sited-edits m n area o w key long key-bytes spot s (gone_for kind) site (fresh_in new) bytes t.0
         (rw (← edit-for m o.key-some o.key-inside key new c kind asked)
         (change-proper m n area c reads o.key-some o.key-inside (change_at kind key new) asked.fine

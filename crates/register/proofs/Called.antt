@@ -5,7 +5,7 @@ use mathlib.Core.Path.{refl}
 use mathlib.Core.List.{[]}
 use Rattle.fields.specs.Bytes.{Octets}
 use Rattle.measures.specs.Judgement.{measures}
-use Rattle.requests.specs.declared.Answer.{Answer}
+use Rattle.requests.specs.Answers.{Answer}
 use Rattle.requests.specs.Model as model
 use Rattle.requests.specs.Allowed.{Allowed, changes}
 use Rattle.requests.specs.Allowed as asked

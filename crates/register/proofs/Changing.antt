@@ -1,5 +1,6 @@
 -- The requests that change, against their meaning: a plan carried out and told, the lengths that the measures allow, and a change by what the area was
 -- opened as.
+use Rattle.std.specs.Prelude.{Err}
 use Prim.Native.Nat.{ℕ, ◌+◌, ◌-◌, ◌≤◌, ◌<◌}
 use mathlib.Core.Path.{◌≡◌, refl, ◌∙◌, ap}
 use mathlib.Core.Bool.{Bool, true, false}
@@ -8,18 +9,20 @@ use mathlib.Core.Logic.{⊎_elim}
 use lib.ListN.{length, take, drop}
 use native.Mathlib.Omega.{arith}
 use borrow.Author.Tests.{le-leb, lt-leb, eq-eqb, ne_eqb}
+use Rattle.std.specs.Prelude.{Result}
 use Rattle.fields.proofs.Splices.{part-is}
 use Rattle.measures.specs.declared.Measures.{Measures}
 use Rattle.interval.specs.Records.{key_of, within}
 use Rattle.change.specs.Plan.{Plan, no_interval, no_room, stores}
+use Rattle.change.specs.declared.Full.{Full}
+use Rattle.change.specs.declared.Written.{Written}
 use Rattle.change_write.specs.AidCarried.{Carries}
-use Rattle.change_write.specs.declared.Made.{Made}
 use Rattle.requests.specs.Model.{Change}
 use Rattle.requests.specs.Changing.{Outcome, length_fine, carry_out, change_in, change_of, Makes}
-use Rattle.requests.specs.declared.Answer.{Answer}
-use Rattle.requests.specs.declared.Answer.TheVariants.{WrongLength}
-use Rattle.opening.specs.AidOpened.{opened_of}
-use Rattle.opening.specs.declared.Opened.TheVariants as opened
+use Rattle.requests.specs.Answers.{Answer}
+use Rattle.requests.specs.declared.Refusal.{Refusal}
+use Rattle.requests.specs.declared.Refusal.TheVariants.{WrongLength}
+use Rattle.opening.specs.AidOpened.{opened, opened_of}
 use Rattle.opening.proofs.Opening.{opened-shut, opened-whole}
 use Rattle.register.specs.AidTold.{answer_for, MakesIn}
 use Rattle.register.specs.AidChange.{change_for, change_at, Asked, keyed_in}
@@ -32,7 +35,7 @@ pub makes-as : {g h : Outcome} {a : Answer} {area : List ℕ} → g ≡ h → Ma
 makes-as e k = record { answers = k.answers ∙ ap (λ x. x.answer) e; leaves = k.leaves ∙ ap (λ x. x.area) e }
 
 -- a plan carried out, and told
-pub carried : (m : Measures) (area : List ℕ) (plan : Plan) (made : Made) (after : List ℕ) (a : Answer) → Carries m area plan made after → a ≡ answer_for made → Makes (carry_out m area plan) a after
+pub carried : (m : Measures) (area : List ℕ) (plan : Plan) (made : Result Written Full) (after : List ℕ) (a : Answer) → Carries m area plan made after → a ≡ answer_for made → Makes (carry_out m area plan) a after
 carried m area no_interval made after a k e = record { answers = e ∙ ap answer_for k.answers; leaves = k.leaves }
 carried m area no_room made after a k e = record { answers = e ∙ ap answer_for k.answers; leaves = k.leaves }
 carried m area (stores ss) made after a k e = record { answers = e ∙ ap answer_for k.answers; leaves = k.leaves }
@@ -47,13 +50,17 @@ length-short m l h = rw (lt-leb m.least l h)
 pub length-long : (m : Measures) (l : ℕ) → m.least ≤ l → m.most < l → within m.least m.most l ≡ false
 length-long m l h k = rw (le-leb m.least l h, lt-leb l m.most k)
 
+-- an answer that is the same
+pub makes-same-answer : {o : Outcome} {a b : Answer} {area : List ℕ} → a ≡ b → Makes o b area → Makes o a area
+makes-same-answer e k = record { answers = e ∙ k.answers; leaves = k.leaves }
+
 -- a refusal is the answer, and the area stays; a whole area is answered by what it holds
 module _ (k : Measures) (area : List ℕ) (ch : Change) where
-  pub change-shut : (a : Answer) → opened_of k area ≡ opened.Refused a → Makes (change_of k area ch) a area
+  pub change-shut : (r : Refusal) → opened_of k area ≡ Err r → Makes (change_of k area ch) (Err r) area
   unfolding change_of
-  change-shut a e = rw (opened-shut k area a e) (record { answers = refl; leaves = refl })
+  change-shut r e = rw (opened-shut k area r e) (record { answers = refl; leaves = refl })
 
-  pub change-whole : (m : Measures) (n records free : ℕ) → opened_of k area ≡ opened.Whole m n records free
+  pub change-whole : (m : Measures) (n records free : ℕ) → opened_of k area ≡ opened m n records free
       → (a : Answer) (after : List ℕ) → MakesIn m n area (λ c. change_in m c area ch) a after → Makes (change_of k area ch) a after
   unfolding change_of
   change-whole m n records free e a after g = let o = opened-whole k area m n records free e in rw o.1 (g o.0 o.2)
@@ -62,7 +69,7 @@ module _ (k : Measures) (area : List ℕ) (ch : Change) where
 
 module _ (m : Measures) (n : ℕ) (area : List ℕ) (ch : Change) where
   -- a wrong length is told, and the area stays
-  pub wrong-makes : length_fine m ch ≡ false → MakesIn m n area (λ c. change_in m c area ch) WrongLength area
+  pub wrong-makes : length_fine m ch ≡ false → MakesIn m n area (λ c. change_in m c area ch) (Err WrongLength) area
   wrong-makes f c w = rw f (record { answers = refl; leaves = refl })
 
   -- of a fine one the key decides

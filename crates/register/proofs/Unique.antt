@@ -1,7 +1,7 @@
 -- For each public request: any two results that its contract allows are equal, the output or the area too. `Learnt` is the contract as a caller reads it.
 use mathlib.Core.Path.{◌≡◌}
 use Rattle.fields.proofs.Choices.{agree}
-use Rattle.requests.specs.declared.Answer.{Answer}
+use Rattle.requests.specs.Answers.{Answer}
 use Rattle.register.proofs.check.Reads as check
 use Rattle.register.proofs.get.Reads as get
 use Rattle.register.proofs.get_at.Reads as get_at

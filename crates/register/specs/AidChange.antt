@@ -1,5 +1,5 @@
 -- Aids: the change that a kind and some bytes ask for, and where a search says that it is made.
-use Rattle.std.specs.Prelude.{ℕ, ◌≡◌, true, List, []}
+use Rattle.std.specs.Prelude.{ℕ, ◌≡◌, true, List, [], Err, Ok, Result}
 use Rattle.measures.specs.declared.Measures.{Measures}
 use Rattle.interval.specs.declared.Found.{Found}
 use Rattle.interval.specs.declared.Found.TheVariants.{At, Gap}
@@ -10,13 +10,12 @@ use Rattle.change.specs.Plan.{plan_of}
 use Rattle.requests.specs.Records.{with_key}
 use Rattle.requests.specs.Model.{Change, insert, update, erase}
 use Rattle.requests.specs.Changing.{Outcome, key_in, length_fine, edit_of, carry_out, if_keyed}
-use Rattle.requests.specs.declared.Answer.{Answer}
-use Rattle.requests.specs.declared.Answer.TheVariants.{Present, Absent}
+use Rattle.requests.specs.Answers.{Answer}
+use Rattle.requests.specs.declared.Refusal.{Refusal}
+use Rattle.requests.specs.declared.Refusal.TheVariants.{Present, Absent}
 use Rattle.register.specs.AidTold.{MakesIn}
 use Rattle.register.specs.declared.Kind.{Kind}
 use Rattle.register.specs.declared.Kind.TheVariants.{Insert, Update, Erase}
-use Rattle.register.specs.declared.Aim.{Aim}
-use Rattle.register.specs.declared.Aim.TheVariants as aim
 
 -- the change with the bytes that are handed over
 abbrev pub change_for : Kind → List ℕ → Change
@@ -53,15 +52,15 @@ abbrev pub record_site : ℕ → ℕ → ℕ → ℕ → ℕ → Site
 record_site entry number i s l = record { entry = entry; number = number; ordinal = i; start = s; gone = 1; span = l }
 
 -- an insert is made at a gap, the others at a record
-abbrev pub aim_at : Kind → ℕ → ℕ → Found → Aim
-aim_at Insert entry number (Gap i s) = aim.At (gap_site entry number i s)
-aim_at Insert entry number (At i s l) = aim.Not Present
-aim_at Update entry number (Gap i s) = aim.Not Absent
-aim_at Update entry number (At i s l) = aim.At (record_site entry number i s l)
-aim_at Erase entry number (Gap i s) = aim.Not Absent
-aim_at Erase entry number (At i s l) = aim.At (record_site entry number i s l)
+abbrev pub aim_at : Kind → ℕ → ℕ → Found → Result Site Refusal
+aim_at Insert entry number (Gap i s) = Ok (gap_site entry number i s)
+aim_at Insert entry number (At i s l) = Err Present
+aim_at Update entry number (Gap i s) = Err Absent
+aim_at Update entry number (At i s l) = Ok (record_site entry number i s l)
+aim_at Erase entry number (Gap i s) = Err Absent
+aim_at Erase entry number (At i s l) = Ok (record_site entry number i s l)
 
-abbrev pub aim_of : Kind → KeyPlace → Aim
+abbrev pub aim_of : Kind → KeyPlace → Result Site Refusal
 aim_of kind spot = aim_at kind spot.entry spot.number spot.found
 
 -- what that is, in a sound area

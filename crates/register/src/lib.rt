@@ -2,7 +2,7 @@
 // each answers, and a refusal leaves area and output byte for byte as they were.
 #![tactic(auto)]
 
-ghost use Rattle.std.specs.Prelude.{◌+◌, ◌≤◌, ◌≡◌, [], ◌∷◌, length};
+ghost use Rattle.std.specs.Prelude.{◌+◌, ◌≤◌, ◌≡◌, [], ◌∷◌, Err, length};
 ghost use Rattle.fields.specs.Choice.{pick};
 ghost use Rattle.fields.specs.Bytes.{part};
 ghost use Rattle.measures.specs.Judgement.{Fits, measures, asked};
@@ -10,19 +10,16 @@ ghost use Rattle.area.specs.Leads.{index_sound};
 ghost use Rattle.area_find.specs.AidSought.{Whole};
 ghost use Rattle.requests.specs.Reading.{check_of, get_in, get_of, get_at_in, get_at_of, hand_out, Gives};
 ghost use Rattle.requests.specs.Changing.{change_in, change_of, insert_of, update_of, erase_of, Makes};
-ghost use Rattle.requests.specs.declared.Answer.TheVariants.{Absent, WrongLength, Damaged};
+ghost use Rattle.requests.specs.declared.Refusal.TheVariants.{Absent, WrongLength, Damaged};
 ghost use Rattle.register.specs.AidTold.{answer_for, GivesIn, MakesIn};
 ghost use Rattle.register.specs.AidChange.{change_for, change_at, MakesKeyed, aim_of, Asked};
 
-use area_find::{KeyPlace, Lying};
-use area_seek::Looked;
-use change_write::Made;
-use index_read::Index;
+use area_find::KeyPlace;
+use change::{Full, Written};
 use interval::Found;
 use interval_edit::Site;
-use measures::{Judged, Measures, Numbers};
-use opening::Opened;
-use requests::Answer;
+use measures::{Measures, Numbers};
+use requests::{Answer, Done, Refusal};
 
 // Whether the area is sound, with how many records and free intervals it has: refusals 1 and 2.
 pub fn check(area: &[u8], size: usize, offset: usize, key: usize, most: usize) -> Answer
@@ -34,44 +31,36 @@ pub fn check(area: &[u8], size: usize, offset: usize, key: usize, most: usize) -
         key,
         most,
     };
-    match opening::open(area, numbers) {
-        Opened::Refused { answer } => answer,
-        Opened::Whole {
-            measures: _,
-            count: _,
-            records,
-            free,
-        } => Answer::Intact { records, free },
-    }
+    let whole = opening::open(area, numbers)?;
+    Ok(Done::Intact {
+        records: whole.records,
+        free: whole.free,
+    })
 }
 
 // A record of the area at the front of the output, or refusal 8 with the length that it needs.
 pub(crate) fn hand_out(area: &[u8], from: usize, bytes: usize, out: &mut [u8]) -> Answer
     requires { from + bytes ≤ length area.now }
-    ensures { Gives (hand_out Absent (part area.now from bytes ∷ []) out.old) result out.new }
+    ensures { Gives (hand_out (Err Absent) (part area.now from bytes ∷ []) out.old) result out.new }
 {
     if out.len() < bytes {
-        return Answer::Short(bytes);
+        return Err(Refusal::Short(bytes));
     }
     let to = from + bytes;
     fields::copy(out, 0, &area[from..to]);
-    Answer::Found(bytes)
+    Ok(Done::Found(bytes))
 }
 
 // A key of a wrong length: 3, if the index record is sound. Where the key would lead is then not known, so that no data interval is looked at.
 pub(crate) fn wrong_length(area: &[u8], m: Measures, n: usize) -> Answer
     requires { Fits m n (length area.now) }
-    ensures { result ≡ pick (index_sound m n area.now) WrongLength (Damaged 0) }
+    ensures { result ≡ pick (index_sound m n area.now) (Err WrongLength) (Err (Damaged 0)) }
 {
     let size = m.size;
-    let Index::Sound {
-        free: _,
-        entries: _,
-    } = index_read::check(&area[..size], m.key, n)
-    else {
-        return Answer::Damaged(0);
+    let Some(_) = index_read::check(&area[..size], m.key, n) else {
+        return Err(Refusal::Damaged(0));
     };
-    Answer::WrongLength
+    Err(Refusal::WrongLength)
 }
 
 // The record with a key, of an area whose measures were found right. Only the index record and the interval that the key leads to are judged.
@@ -82,11 +71,10 @@ pub(crate) fn get_in(area: &[u8], m: Measures, n: usize, wanted: &[u8], out: &mu
     if wanted.len() != m.key {
         return wrong_length(area, m, n);
     }
-    match area_seek::look_up(area, m, n, wanted) {
-        Looked::Damaged { place } => Answer::Damaged(place),
-        Looked::Nowhere => Answer::Absent,
-        Looked::Here { from, length } => hand_out(area, from, length, out),
-    }
+    let Some(lying) = area_seek::look_up(area, m, n, wanted)? else {
+        return Err(Refusal::Absent);
+    };
+    hand_out(area, lying.from, lying.length, out)
 }
 
 // The record with a key: refusals 1, 2 at the index record, 3, 2 at the interval that the key leads to, 5, 8. It vouches for these two places only: a caller
@@ -109,10 +97,10 @@ pub fn get(
         key,
         most,
     };
-    let Judged::Fine { measures, count } = measures::judge(numbers, area.len()) else {
-        return Answer::Outside;
+    let Some(fine) = measures::judge(numbers, area.len()) else {
+        return Err(Refusal::Outside);
     };
-    get_in(area, measures, count, wanted, out)
+    get_in(area, fine.measures, fine.count, wanted, out)
 }
 
 // In a sound area, the record at an address.
@@ -120,10 +108,10 @@ pub(crate) fn get_at_in(area: &[u8], m: Measures, n: usize, address: u64, out: &
     requires { Fits m n (length area.now) × Whole m n area.now }
     ensures { GivesIn m n area.now (λ c. get_at_in m c address out.old) result out.new }
 {
-    let Lying::Here { from, length } = area_find::record_at(area, m, n, address) else {
-        return Answer::NoRecord;
+    let Some(lying) = area_find::record_at(area, m, n, address) else {
+        return Err(Refusal::NoRecord);
     };
-    hand_out(area, from, length, out)
+    hand_out(area, lying.from, lying.length, out)
 }
 
 // The record at an address: refusals 1, 2, 9, 8.
@@ -145,15 +133,8 @@ pub fn get_at(
         key,
         most,
     };
-    match opening::open(area, numbers) {
-        Opened::Refused { answer } => answer,
-        Opened::Whole {
-            measures,
-            count,
-            records: _,
-            free: _,
-        } => get_at_in(area, measures, count, address, out),
-    }
+    let whole = opening::open(area, numbers)?;
+    get_at_in(area, whole.measures, whole.count, address, out)
 }
 
 // Which change is asked for.
@@ -164,15 +145,8 @@ pub(crate) enum Kind {
     Erase,
 }
 
-// Where a change is made, or why it may not be.
-#[derive(Clone, Copy)]
-pub(crate) enum Aim {
-    At { site: Site },
-    Not { answer: Answer },
-}
-
-// 4 where a record has the key of one that is to come, 5 where none has the key of one that is to make way or to go.
-pub(crate) fn take_aim(kind: Kind, spot: KeyPlace) -> Aim
+// Where a change is made: 4 where a record has the key of one that is to come, 5 where none has the key of one that is to make way or to go.
+pub(crate) fn take_aim(kind: Kind, spot: KeyPlace) -> Result<Site, Refusal>
     ensures { result ≡ aim_of kind spot }
 {
     let entry = spot.entry;
@@ -181,20 +155,16 @@ pub(crate) fn take_aim(kind: Kind, spot: KeyPlace) -> Aim
     match found {
         Found::Gap { ordinal, start } => {
             let Kind::Insert = kind else {
-                return Aim::Not {
-                    answer: Answer::Absent,
-                };
+                return Err(Refusal::Absent);
             };
-            Aim::At {
-                site: Site {
-                    entry,
-                    number,
-                    ordinal,
-                    start,
-                    gone: 0,
-                    span: 0,
-                },
-            }
+            Ok(Site {
+                entry,
+                number,
+                ordinal,
+                start,
+                gone: 0,
+                span: 0,
+            })
         }
         Found::At {
             ordinal,
@@ -202,32 +172,28 @@ pub(crate) fn take_aim(kind: Kind, spot: KeyPlace) -> Aim
             length,
         } => {
             if let Kind::Insert = kind {
-                return Aim::Not {
-                    answer: Answer::Present,
-                };
+                return Err(Refusal::Present);
             }
-            Aim::At {
-                site: Site {
-                    entry,
-                    number,
-                    ordinal,
-                    start,
-                    gone: 1,
-                    span: length,
-                },
-            }
+            Ok(Site {
+                entry,
+                number,
+                ordinal,
+                start,
+                gone: 1,
+                span: length,
+            })
         }
     }
 }
 
 // What a change that was carried out is answered with.
-pub(crate) fn told(made: Made) -> Answer
+pub(crate) fn told(made: Result<Written, Full>) -> Answer
     ensures { result ≡ answer_for made }
 {
     match made {
-        Made::Done(written) => Answer::Done(written),
-        Made::NoInterval => Answer::NoInterval,
-        Made::NoRoom => Answer::NoRoom,
+        Ok(written) => Ok(Done::Changed(written)),
+        Err(Full::NoInterval) => Err(Refusal::NoInterval),
+        Err(Full::NoRoom) => Err(Refusal::NoRoom),
     }
 }
 
@@ -244,10 +210,8 @@ pub(crate) fn change_at(
     requires asked { Asked m kind key.now new.now }
     ensures { MakesKeyed m n area.old (change_at kind key.now new.now) result area.new }
 {
-    match take_aim(kind, area_find::find(area, m, n, key)) {
-        Aim::Not { answer } => answer,
-        Aim::At { site } => told(change_write::change(area, m, n, site, new)),
-    }
+    let site = take_aim(kind, area_find::find(area, m, n, key))?;
+    told(change_write::change(area, m, n, site, new))
 }
 
 // In a sound area, a change with the bytes that are handed over: a record, or the key of the one that is to go.
@@ -257,12 +221,12 @@ pub(crate) fn change_in(area: &mut [u8], m: Measures, n: usize, kind: Kind, give
 {
     if let Kind::Erase = kind {
         if given.len() != m.key {
-            return Answer::WrongLength;
+            return Err(Refusal::WrongLength);
         }
         return change_at(area, m, n, kind, given, &given[..0]);
     }
     if given.len() < m.least || m.most < given.len() {
-        return Answer::WrongLength;
+        return Err(Refusal::WrongLength);
     }
     let a = m.offset;
     let e = a + m.key;
@@ -274,15 +238,8 @@ pub(crate) fn change(area: &mut [u8], numbers: Numbers, kind: Kind, given: &[u8]
     ensures { Makes (change_of (asked numbers) area.old (change_for kind given.now))
         result area.new }
 {
-    match opening::open(area, numbers) {
-        Opened::Refused { answer } => answer,
-        Opened::Whole {
-            measures,
-            count,
-            records: _,
-            free: _,
-        } => change_in(area, measures, count, kind, given),
-    }
+    let whole = opening::open(area, numbers)?;
+    change_in(area, whole.measures, whole.count, kind, given)
 }
 
 // A new record: refusals 1, 2, 3, 4, 6, 7.

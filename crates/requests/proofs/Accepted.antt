@@ -1,4 +1,5 @@
 -- What an accepted change was, and what it left: one record for insert, update and erase, for whoever follows the register through a history.
+use Rattle.std.specs.Prelude.{None}
 use Prim.Native.Nat.{ℕ}
 use mathlib.Core.Path.{◌≡◌, refl, ap}
 use mathlib.Core.List.{List}
@@ -6,9 +7,8 @@ use mathlib.Core.Logic.{◌⊎◌, inl, inr}
 use lib.ListN.{length}
 use native.Mathlib.Omega.{arith}
 use Rattle.fields.specs.Bytes.{Octets}
-use Rattle.measures.specs.Judgement.{count_of, judged_of}
+use Rattle.measures.specs.Judgement.{count_of, judged_of, passed}
 use Rattle.measures.specs.declared.Measures.{Measures}
-use Rattle.measures.specs.declared.Judged.TheVariants as judged
 use Rattle.measures.proofs.Fine.{judged-either}
 use Rattle.area.specs.Reading.{Reading, damaged, whole, read_area}
 use Rattle.requests.specs.Answers.{number_of}
@@ -28,7 +28,7 @@ module _ (m : Measures) (area : List ℕ) where
       n : ℕ
       n = count_of m.size (length area)
 
-      by-reading : judged_of m (length area) ≡ judged.Fine m n → (d : Reading) → read_area m n area ≡ d → Accepted m area ch (change_of m area ch)
+      by-reading : judged_of m (length area) ≡ passed m n → (d : Reading) → read_area m n area ≡ d → Accepted m area ch (change_of m area ch)
       by-reading j (damaged place) w = absurd (let y : number_of (change_of m area ch).answer ≡ 2 = unfold change_of in rw (j, w) in omega arith)
       by-reading j (whole c) w =
           let d = carried m area n c j w ch z in
@@ -48,6 +48,6 @@ module _ (m : Measures) (area : List ℕ) where
             leaves = ap (λ (x : Outcome). x.area) d.leaves;
           }
 
-      by-judgement : (judged_of m (length area) ≡ judged.Outside) ⊎ (judged_of m (length area) ≡ judged.Fine m n) → Accepted m area ch (change_of m area ch)
+      by-judgement : (judged_of m (length area) ≡ None) ⊎ (judged_of m (length area) ≡ passed m n) → Accepted m area ch (change_of m area ch)
       by-judgement (inl j) = absurd (let y : number_of (change_of m area ch).answer ≡ 1 = unfold change_of in rw j in omega arith)
       by-judgement (inr j) = by-reading j (read_area m n area) refl

@@ -1,4 +1,5 @@
 -- The values of a check's answer and of a get's have room in a word, whatever was handed over.
+use Rattle.std.specs.Prelude.{Ok, Err, None}
 use Prim.Native.Nat.{ℕ, zero, suc, ◌+◌, ◌*◌, ◌≤◌, ◌<◌}
 use mathlib.Core.Path.{◌≡◌, refl, ap}
 use mathlib.Core.Bool.{Bool, true, false}
@@ -12,9 +13,8 @@ use Rattle.fields.specs.Choice.{pick}
 use Rattle.fields.specs.Table.{same_list}
 use Rattle.fields.specs.Lists.{every}
 use Rattle.fields.proofs.Choices.{both-split}
-use Rattle.measures.specs.Judgement.{Fits, limit, count_of, judged_of, width_for}
+use Rattle.measures.specs.Judgement.{Fits, limit, count_of, judged_of, width_for, passed}
 use Rattle.measures.specs.declared.Measures.{Measures}
-use Rattle.measures.specs.declared.Judged.TheVariants as judged
 use Rattle.measures.proofs.Fine.{judged-either, accepted-fits, fits-small}
 use Rattle.interval.specs.Records.{key_of, within, lengths_fine}
 use Rattle.interval.specs.Reading.{records_in}
@@ -37,13 +37,14 @@ use Rattle.requests.specs.Opening.{open_read}
 use Rattle.requests.specs.Reading.{check_opened, check_of, Given, hand_out, get_there, get_in, get_of}
 use Rattle.requests.specs.Records.{with_key}
 use Rattle.requests.specs.Words.{word_of, Apart, Small}
-use Rattle.requests.specs.declared.Answer.{Answer}
-use Rattle.requests.specs.declared.Answer.TheVariants.{Intact, Damaged, Absent}
+use Rattle.requests.specs.Answers.{Answer}
+use Rattle.requests.specs.declared.Done.TheVariants.{Intact}
+use Rattle.requests.specs.declared.Refusal.TheVariants.{Damaged, Absent}
 use Rattle.requests.proofs.Words.{word-apart}
 
 -- ---- answers of either kind
 
-damaged-small : (place : ℕ) → place ≤ limit → Small (Damaged place)
+damaged-small : (place : ℕ) → place ≤ limit → Small (Err (Damaged place))
 damaged-small place h = record { few = h; many = omega arith }
 
 -- What holds at both arms of a choice holds of it.
@@ -88,7 +89,7 @@ module _ (m : Measures) (n : ℕ) (area : List ℕ) (o : Fits m n (length area))
       let most : m.most < 134217728 = omega (arith, o.most-inside, fits-small o) in
       chosen (λ (g : Given). Small g.answer) (sound_for m es wanted ci) _ _
       (λ (s : sound_for m es wanted ci ≡ true).
-      hand-small Absent m (with_key m wanted (records_in ci)) out (record { few = omega arith; many = omega arith }) most
+      hand-small (Err Absent) m (with_key m wanted (records_in ci)) out (record { few = omega arith; many = omega arith }) most
       (with-fine m wanted (records_in ci) (read-lengths-fine m ci (form-and-keys m ci (used-apart m _ _ ci s).0).0)))
       (damaged-small ((entry_for wanted es).num + 1) (omega (arith, o.few)))
 
@@ -110,7 +111,7 @@ pub get-small : (m : Measures) (area wanted out : List ℕ) → Small (get_of m 
 unfolding get_of
 get-small m area wanted out = go (judged-either m (length area))
   where
-    go : (judged_of m (length area) ≡ judged.Outside) ⊎ (judged_of m (length area) ≡ judged.Fine m (count_of m.size (length area)))
+    go : (judged_of m (length area) ≡ None) ⊎ (judged_of m (length area) ≡ passed m (count_of m.size (length area)))
         → Small (get_of m area wanted out).answer
     go (inl j) = rw j (record { few = omega arith; many = omega arith })
     go (inr j) = rw j (in_small m _ area (accepted-fits m (length area) _ j) wanted out)
@@ -132,7 +133,7 @@ module _ (m : Measures) (n : ℕ) (area : List ℕ) (o : Fits m n (length area))
       let s = both-split (ltb e.num n) (below n (numbers es)) b in
       omega (arith, interval-records low (bound m.key e.sep) e.num (ltb-true e.num n s.0) a.0, records-most (bound m.key e.sep) es s.1 a.1, length-append (records_in (data_in m area e.num)) (records_of (fill m area es)))
 
-  whole-small : (c : Content) → read_area m n area ≡ whole c → Small (Intact (length (records_of c.filled)) (length c.free))
+  whole-small : (c : Content) → read_area m n area ≡ whole c → Small (Ok (Intact (length (records_of c.filled)) (length c.free)))
   whole-small c e =
       let s = sound-apart m n area c e in
       let once = (sound-rules m n area c s).naming in
@@ -158,7 +159,7 @@ pub check-small : (m : Measures) (area : List ℕ) → Small (check_of m area)
 unfolding check_of
 check-small m area = go (judged-either m (length area))
   where
-    go : (judged_of m (length area) ≡ judged.Outside) ⊎ (judged_of m (length area) ≡ judged.Fine m (count_of m.size (length area))) → Small (check_of m area)
+    go : (judged_of m (length area) ≡ None) ⊎ (judged_of m (length area) ≡ passed m (count_of m.size (length area))) → Small (check_of m area)
     go (inl j) = rw j (record { few = omega arith; many = omega arith })
     go (inr j) = rw j (read_small m _ area (accepted-fits m (length area) _ j) _ refl)
 

@@ -1,4 +1,5 @@
 -- What the two gets give: exactly the record that is wanted, by its key or by its address.
+use Rattle.std.specs.Prelude.{Ok, Err}
 use Prim.Native.Nat.{ℕ, ◌+◌, ◌≤◌, ◌<◌}
 use mathlib.Core.Path.{◌≡◌, refl, ◌∙◌, sym, ap}
 use mathlib.Core.Bool.{Bool, true, false}
@@ -15,9 +16,8 @@ use Rattle.fields.specs.Bytes.{Octets, splice}
 use Rattle.fields.specs.Table.{same_list}
 use Rattle.fields.proofs.Splices.{splice_front}
 use Rattle.fields.proofs.Choices.{same-same, same-means}
-use Rattle.measures.specs.Judgement.{judged_of}
+use Rattle.measures.specs.Judgement.{judged_of, passed}
 use Rattle.measures.specs.declared.Measures.{Measures}
-use Rattle.measures.specs.declared.Judged.TheVariants.{Fine}
 use Rattle.measures.proofs.Fine.{accepted-fits}
 use Rattle.interval.specs.Records.{key_of, keys_of, ascending, all_within}
 use Rattle.interval.specs.Reading.{records_in}
@@ -30,8 +30,9 @@ use Rattle.area.proofs.Sounding.{sound-apart}
 use Rattle.requests.specs.Records.{with_key, lying_at}
 use Rattle.requests.specs.Reading.{Given, refused, hand_out, get_there, get_in, get_of, get_at_of}
 use Rattle.requests.specs.Finding.{Keyed, Lies, Finds}
-use Rattle.requests.specs.declared.Answer.{Answer}
-use Rattle.requests.specs.declared.Answer.TheVariants.{Found, Damaged, Short, WrongLength, Absent, NoRecord}
+use Rattle.requests.specs.Answers.{Answer}
+use Rattle.requests.specs.declared.Done.TheVariants.{Found}
+use Rattle.requests.specs.declared.Refusal.TheVariants.{Damaged, WrongLength, Absent, Short, NoRecord}
 use Rattle.requests.proofs.Quick.{there-apart, get-same}
 use Rattle.requests.proofs.Around.{standing}
 use Rattle.requests.proofs.Lying.{lying-lies, lies-lying, lying-one, whole_apart, whole-fine}
@@ -85,15 +86,15 @@ keyed-with m key rs up r k = go (with_key m key rs) refl
 -- ---- handing out
 
 -- Where the list that is handed out from is the wanted record, or empty where there is none, exactly that record is found.
-module _ (Wanted : List ℕ → Type 0) (none : Answer) (out : List ℕ) (not_found : (l : ℕ) → none ≡ Found l → ⊥) (not_IsShort : (l : ℕ) → none ≡ Short l → ⊥) where
+module _ (Wanted : List ℕ → Type 0) (none : Answer) (out : List ℕ) (not_found : (l : ℕ) → none ≡ (Ok (Found l)) → ⊥) (not_IsShort : (l : ℕ) → none ≡ (Err (Short l)) → ⊥) where
   handed : (ws : List (List ℕ)) → ((r : List ℕ) → Wanted r → ws ≡ r ∷ []) → ((x : List ℕ) (xs : List (List ℕ)) → ws ≡ x ∷ xs → Wanted x) → Finds Wanted none out (hand_out none ws out)
   handed [] w v =
       record {
         found = λ (r : List ℕ) (k : Wanted r) (h : length r ≤ length out). absurd (empty r (w r k));
         short = λ (r : List ℕ) (k : Wanted r) (h : length out < length r). absurd (empty r (w r k));
         absent = λ (n : (r : List ℕ) → Wanted r → ⊥). refl;
-        found-only = λ (l : ℕ) (e : none ≡ Found l). absurd (not_found l e);
-        short-only = λ (l : ℕ) (e : none ≡ Short l). absurd (not_IsShort l e);
+        found-only = λ (l : ℕ) (e : none ≡ (Ok (Found l))). absurd (not_found l e);
+        short-only = λ (l : ℕ) (e : none ≡ (Err (Short l))). absurd (not_IsShort l e);
         absent-only = λ (e : none ≡ none) (r : List ℕ) (k : Wanted r). empty r (w r k);
       }
     where
@@ -108,38 +109,38 @@ module _ (Wanted : List ℕ → Type 0) (none : Answer) (out : List ℕ) (not_fo
       this = v x xs refl
 
       long : Given
-      long = record { answer = Found (length x); output = splice out 0 x }
+      long = record { answer = (Ok (Found (length x))); output = splice out 0 x }
 
-      go : (t : Bool) → leb (length x) (length out) ≡ t → Finds Wanted none out (pick t long (refused (Short (length x)) out))
+      go : (t : Bool) → leb (length x) (length out) ≡ t → Finds Wanted none out (pick t long (refused (Err (Short (length x))) out))
       go true h =
           record {
             found = λ (r : List ℕ) (k : Wanted r) (l : length r ≤ length out). rw (← same r k, splice_front out x);
             short = λ (r : List ℕ) (k : Wanted r) (l : length out < length r). absurd (omega (arith, leb-true (length x) (length out) h, ap length (same r k)));
             absent = λ (n : (r : List ℕ) → Wanted r → ⊥). absurd (n x this);
-            found-only = λ (l : ℕ) (e : Found (length x) ≡ Found l). (x, this, cc, leb-true (length x) (length out) h);
-            short-only = λ (l : ℕ) (e : Found (length x) ≡ Short l). absurd (let z : ◌≡◌ {A = ℕ} 0 1 = cc in omega arith);
-            absent-only = λ (e : Found (length x) ≡ none) (r : List ℕ) (k : Wanted r). not_found (length x) (sym e);
+            found-only = λ (l : ℕ) (e : (Ok (Found (length x))) ≡ (Ok (Found l))). (x, this, cc, leb-true (length x) (length out) h);
+            short-only = λ (l : ℕ) (e : (Ok (Found (length x))) ≡ (Err (Short l))). absurd (let z : ◌≡◌ {A = ℕ} 0 1 = cc in omega arith);
+            absent-only = λ (e : (Ok (Found (length x))) ≡ none) (r : List ℕ) (k : Wanted r). not_found (length x) (sym e);
           }
       go false h =
           record {
             found = λ (r : List ℕ) (k : Wanted r) (l : length r ≤ length out). absurd (omega (arith, leb-false (length x) (length out) h, ap length (same r k)));
             short = λ (r : List ℕ) (k : Wanted r) (l : length out < length r). rw (same r k);
             absent = λ (n : (r : List ℕ) → Wanted r → ⊥). absurd (n x this);
-            found-only = λ (l : ℕ) (e : Short (length x) ≡ Found l). absurd (let z : ◌≡◌ {A = ℕ} 0 1 = cc in omega arith);
-            short-only = λ (l : ℕ) (e : Short (length x) ≡ Short l). (x, this, cc, omega (arith, leb-false (length x) (length out) h));
-            absent-only = λ (e : Short (length x) ≡ none) (r : List ℕ) (k : Wanted r). not_IsShort (length x) (sym e);
+            found-only = λ (l : ℕ) (e : (Err (Short (length x))) ≡ (Ok (Found l))). absurd (let z : ◌≡◌ {A = ℕ} 0 1 = cc in omega arith);
+            short-only = λ (l : ℕ) (e : (Err (Short (length x))) ≡ (Err (Short l))). (x, this, cc, omega (arith, leb-false (length x) (length out) h));
+            absent-only = λ (e : (Err (Short (length x))) ≡ none) (r : List ℕ) (k : Wanted r). not_IsShort (length x) (sym e);
           }
 
-absent-found : (l : ℕ) → Absent ≡ Found l → ⊥
+absent-found : (l : ℕ) → (Err Absent) ≡ (Ok (Found l)) → ⊥
 absent-found l e = let z : ◌≡◌ {A = ℕ} 0 1 = cc in omega arith
 
-absent-short : (l : ℕ) → Absent ≡ Short l → ⊥
+absent-short : (l : ℕ) → ◌≡◌ {A = Answer} (Err Absent) (Err (Short l)) → ⊥
 absent-short l e = let z : ◌≡◌ {A = ℕ} 0 1 = cc in omega arith
 
-nowhere-found : (l : ℕ) → NoRecord ≡ Found l → ⊥
+nowhere-found : (l : ℕ) → (Err NoRecord) ≡ (Ok (Found l)) → ⊥
 nowhere-found l e = let z : ◌≡◌ {A = ℕ} 0 1 = cc in omega arith
 
-nowhere-short : (l : ℕ) → NoRecord ≡ Short l → ⊥
+nowhere-short : (l : ℕ) → ◌≡◌ {A = Answer} (Err NoRecord) (Err (Short l)) → ⊥
 nowhere-short l e = let z : ◌≡◌ {A = ℕ} 0 1 = cc in omega arith
 
 fine-among : (least most : ℕ) (rs : List (List ℕ)) (r : List ℕ) → all_within least most (map length rs) ≡ true → Memᴰ r rs → least ≤ length r
@@ -150,40 +151,40 @@ fine-among least most (x ∷ rs) r a i =
 
 -- Among records whose keys ascend, found by its key is exactly the one that has the key.
 finds-among : (m : Measures) (rs : List (List ℕ)) → ascending (keys_of m rs) ≡ true → (key out : List ℕ)
-    → Finds (Keyed m key rs) Absent out (hand_out Absent (with_key m key rs) out)
+    → Finds (Keyed m key rs) (Err Absent) out (hand_out (Err Absent) (with_key m key rs) out)
 finds-among m rs up key out =
-    handed (Keyed m key rs) Absent out absent-found absent-short (with_key m key rs) (λ (r : List ℕ) (k : Keyed m key rs r). keyed-with m key rs up r k)
+    handed (Keyed m key rs) (Err Absent) out absent-found absent-short (with_key m key rs) (λ (r : List ℕ) (k : Keyed m key rs r). keyed-with m key rs up r k)
     (λ (x : List ℕ) (xs : List (List ℕ)) (e : with_key m key rs ≡ x ∷ xs). with-keyed m key rs x xs e)
 
 -- ---- the ways of a get by key
 
-module _ (m : Measures) (area : List ℕ) (n : ℕ) (j : judged_of m (length area) ≡ Fine m n) (wanted out : List ℕ) where
+module _ (m : Measures) (area : List ℕ) (n : ℕ) (j : judged_of m (length area) ≡ passed m n) (wanted out : List ℕ) where
   -- 2 at place 0 where the index record is unsound, whatever the key,
-  pub get-index-damaged : index_sound m n area ≡ false → get_of m area wanted out ≡ refused (Damaged 0) out
+  pub get-index-damaged : index_sound m n area ≡ false → get_of m area wanted out ≡ refused (Err (Damaged 0)) out
   unfolding get_of get_in
   get-index-damaged i = rw (j, i)
 
   module _ (i : index_sound m n area ≡ true) where
     -- 3 where the key has not the length of a key, whatever the data intervals are,
-    pub get-length-wrong : (length wanted ≡ m.key → ⊥) → get_of m area wanted out ≡ refused WrongLength out
+    pub get-length-wrong : (length wanted ≡ m.key → ⊥) → get_of m area wanted out ≡ refused (Err WrongLength) out
     unfolding get_of get_in
     get-length-wrong l = rw (j, i, ne_eqb (length wanted) m.key l)
 
     module _ (l : length wanted ≡ m.key) where
       -- 2 at the key's interval where that is unsound, whatever the others are,
       pub get-there-damaged : sound_for m (entries_for m n area) wanted (interval_for m n area wanted) ≡ false
-          → get_of m area wanted out ≡ refused (Damaged (number_for m n area wanted + 1)) out
+          → get_of m area wanted out ≡ refused (Err (Damaged (number_for m n area wanted + 1))) out
       unfolding get_of get_in get_there
       get-there-damaged d = rw (j, i, eq-eqb (length wanted) m.key l, d)
 
       there-handed : sound_for m (entries_for m n area) wanted (interval_for m n area wanted) ≡ true
-          → get_of m area wanted out ≡ hand_out Absent (with_key m wanted (records_in (interval_for m n area wanted))) out
+          → get_of m area wanted out ≡ hand_out (Err Absent) (with_key m wanted (records_in (interval_for m n area wanted))) out
       unfolding get_of get_in get_there
       there-handed d = rw (j, i, eq-eqb (length wanted) m.key l, d)
 
       -- and else exactly the record with the key among those of that interval.
       pub get-there-finds : sound_for m (entries_for m n area) wanted (interval_for m n area wanted) ≡ true
-          → Finds (Keyed m wanted (records_in (interval_for m n area wanted))) Absent out (get_of m area wanted out)
+          → Finds (Keyed m wanted (records_in (interval_for m n area wanted))) (Err Absent) out (get_of m area wanted out)
       get-there-finds d =
           rw (there-handed d)
           (finds-among m (records_in (interval_for m n area wanted)) (there-apart m (entries_for m n area) wanted (interval_for m n area wanted) d).1 wanted out)
@@ -205,19 +206,19 @@ module _ (m : Measures) (n : ℕ) (area : List ℕ) (c : Content) (w : read_area
       let l : m.offset + m.key ≤ length r = le_trans h (fine-among m.least m.most (records_of c.filled) r (whole-fine m n area c w) k.among) in
       rw k.has at (key-long m r l)
 
-  -- Found by its key is exactly the record of the reading that has the key.
-  pub finds-key : (key out : List ℕ) → Finds (Keyed m key (records_of c.filled)) Absent out (hand_out Absent (with_key m key (records_of c.filled)) out)
+  -- (Ok (Found by)) its key is exactly the record of the reading that has the key.
+  pub finds-key : (key out : List ℕ) → Finds (Keyed m key (records_of c.filled)) (Err Absent) out (hand_out (Err Absent) (with_key m key (records_of c.filled)) out)
   finds-key key out = finds-among m (records_of c.filled) (records-ascend m n area c w) key out
 
-  -- Found by its address is exactly the record of an interval in use whose first byte has the address.
+  -- (Ok (Found by)) its address is exactly the record of an interval in use whose first byte has the address.
   pub finds-address : 1 ≤ m.least → (address : ℕ) (out : List ℕ)
-      → Finds (Lies m (base_of c) address c.filled) NoRecord out (hand_out NoRecord (lying_at m (base_of c) address c.filled) out)
+      → Finds (Lies m (base_of c) address c.filled) (Err NoRecord) out (hand_out (Err NoRecord) (lying_at m (base_of c) address c.filled) out)
   finds-address some address out =
-      handed (Lies m (base_of c) address c.filled) NoRecord out nowhere-found nowhere-short (lying_at m (base_of c) address c.filled)
+      handed (Lies m (base_of c) address c.filled) (Err NoRecord) out nowhere-found nowhere-short (lying_at m (base_of c) address c.filled)
       (λ (r : List ℕ) (l : Lies m (base_of c) address c.filled r). lies-lying m (base_of c) address some c.filled (whole_apart m n area c w) r l)
       (λ (x : List ℕ) (xs : List (List ℕ)) (e : lying_at m (base_of c) address c.filled ≡ x ∷ xs). lying-lies m (base_of c) address some c.filled x xs e)
 
-module _ (m : Measures) (area : List ℕ) (n : ℕ) (j : judged_of m (length area) ≡ Fine m n) where
+module _ (m : Measures) (area : List ℕ) (n : ℕ) (j : judged_of m (length area) ≡ passed m n) where
   -- Measures that are judged fine have a key of at least one byte,
   pub judged-key : 1 ≤ m.key
   judged-key = (accepted-fits m (length area) n j).key-some
@@ -230,24 +231,24 @@ module _ (m : Measures) (area : List ℕ) (n : ℕ) (j : judged_of m (length are
   pub judged-least : 1 ≤ m.least
   judged-least = omega (arith, judged-key, judged-inside)
 
-module _ (m : Measures) (area : List ℕ) (n : ℕ) (c : Content) (j : judged_of m (length area) ≡ Fine m n) (w : read_area m n area ≡ whole c) where
+module _ (m : Measures) (area : List ℕ) (n : ℕ) (c : Content) (j : judged_of m (length area) ≡ passed m n) (w : read_area m n area ≡ whole c) where
   get-is : Octets area → (wanted out : List ℕ) → length wanted ≡ m.key
-      → get_of m area wanted out ≡ hand_out Absent (with_key m wanted (records_of c.filled)) out
+      → get_of m area wanted out ≡ hand_out (Err Absent) (with_key m wanted (records_of c.filled)) out
   unfolding get_of
   get-is o wanted out l = rw j (get-same m n area c w wanted (judged-key m area n j) o out ∙ rw (eq-eqb (length wanted) m.key l))
 
-  get-at-is : (address : ℕ) (out : List ℕ) → get_at_of m area address out ≡ hand_out NoRecord (lying_at m (base_of c) address c.filled) out
+  get-at-is : (address : ℕ) (out : List ℕ) → get_at_of m area address out ≡ hand_out (Err NoRecord) (lying_at m (base_of c) address c.filled) out
   unfolding get_at_of
   get-at-is address out = rw (j, w)
 
   -- On a whole area, a get by a key of the right length finds exactly the record that has the key: it is handed out if the output is long enough, else its
   -- length is told, and where there is none that is told.
   pub get-finds : Octets area → (wanted out : List ℕ) → length wanted ≡ m.key
-      → Finds (Keyed m wanted (records_of c.filled)) Absent out (get_of m area wanted out)
+      → Finds (Keyed m wanted (records_of c.filled)) (Err Absent) out (get_of m area wanted out)
   get-finds o wanted out l = rw (get-is o wanted out l) (finds-key m n area c w wanted out)
 
   -- By a key of another length it is refused,
-  pub get-wrong-length : (wanted out : List ℕ) → (length wanted ≡ m.key → ⊥) → get_of m area wanted out ≡ refused WrongLength out
+  pub get-wrong-length : (wanted out : List ℕ) → (length wanted ≡ m.key → ⊥) → get_of m area wanted out ≡ refused (Err WrongLength) out
   get-wrong-length wanted out l = get-length-wrong m area n j wanted out (sound-apart m n area c w).index l
 
   -- and no record has such a key.
@@ -255,5 +256,5 @@ module _ (m : Measures) (area : List ℕ) (n : ℕ) (c : Content) (j : judged_of
   get-wrong-none wanted l r k = l (keyed-long m n area c w (judged-inside m area n j) wanted r k)
 
   -- On a whole area, a get by address finds exactly the record of an interval in use whose first byte has the address.
-  pub get-at-finds : (address : ℕ) (out : List ℕ) → Finds (Lies m (base_of c) address c.filled) NoRecord out (get_at_of m area address out)
+  pub get-at-finds : (address : ℕ) (out : List ℕ) → Finds (Lies m (base_of c) address c.filled) (Err NoRecord) out (get_at_of m area address out)
   get-at-finds address out = rw (get-at-is address out) (finds-address m n area c w (judged-least m area n j) address out)

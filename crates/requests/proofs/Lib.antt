@@ -14,3 +14,4 @@ pub mod Accepted
 pub mod Items
 pub mod Walks
 pub mod Unique
+pub mod Exits

@@ -1,4 +1,5 @@
 -- Get by key judges only what it reads: on a sound area it answers as a get that reads all of it would, and what lies elsewhere does not matter.
+use Rattle.std.specs.Prelude.{Err, None}
 use Prim.Native.Nat.{ℕ, ◌≤◌}
 use mathlib.Core.Path.{◌≡◌, refl, ◌∙◌, sym, ap}
 use mathlib.Core.Bool.{Bool, true, false}
@@ -16,9 +17,8 @@ use Rattle.fields.specs.Table.{same_list}
 use Rattle.fields.proofs.Choices.{false-true, same-means}
 use Rattle.fields.proofs.Lists.{concat-append}
 use Rattle.fields.proofs.Octets.{octets-nil, octets-append, octets-part}
-use Rattle.measures.specs.Judgement.{fine, judged_of, count_of, width_for}
+use Rattle.measures.specs.Judgement.{fine, judged_of, count_of, width_for, passed}
 use Rattle.measures.specs.declared.Measures.{Measures}
-use Rattle.measures.specs.declared.Judged.TheVariants as judged
 use Rattle.interval.specs.Records.{key_of, keys_of, ascending}
 use Rattle.interval.specs.Reading.{records_in, form_sound}
 use Rattle.interval.specs.Role.{sound_used}
@@ -40,7 +40,7 @@ use Rattle.area.proofs.Leading.{KeyIn, key-in-one-entry}
 use Rattle.change.proofs.Between.{octets-apart}
 use Rattle.requests.specs.Records.{with_key}
 use Rattle.requests.specs.Reading.{refused, hand_out, get_there, get_in, get_judged, get_of, get_whole}
-use Rattle.requests.specs.declared.Answer.TheVariants.{Absent, WrongLength}
+use Rattle.requests.specs.declared.Refusal.TheVariants.{WrongLength, Absent}
 use Rattle.requests.proofs.Keys.{with_append, with-below, with-above}
 
 -- ---- where a key leads
@@ -174,7 +174,7 @@ module _ (m : Measures) (n : ℕ) (area : List ℕ) (c : Content) (reads : read_
         go (inr e) (inl b) = by_place b
         go (inr e) (inr f) = e ∙ sym f
 
-    there-same : (out : List ℕ) → get_there m (entries_for m n area) wanted (interval_for m n area wanted) out ≡ hand_out Absent (with_key m wanted (records_of c.filled)) out
+    there-same : (out : List ℕ) → get_there m (entries_for m n area) wanted (interval_for m n area wanted) out ≡ hand_out (Err Absent) (with_key m wanted (records_of c.filled)) out
     unfolding get_there
     there-same out = rw (there-sound, there-is-all)
 
@@ -184,8 +184,8 @@ module _ (m : Measures) (n : ℕ) (area : List ℕ) (c : Content) (reads : read_
   get-same some o out = rw s.index (go (eqb (length wanted) m.key) refl)
     where
       go : (t : Bool) → eqb (length wanted) m.key ≡ t
-          → pick t (get_there m (entries_for m n area) wanted (interval_for m n area wanted) out) (refused WrongLength out)
-          ≡ pick t (hand_out Absent (with_key m wanted (records_of c.filled)) out) (refused WrongLength out)
+          → pick t (get_there m (entries_for m n area) wanted (interval_for m n area wanted) out) (refused (Err WrongLength) out)
+          ≡ pick t (hand_out (Err Absent) (with_key m wanted (records_of c.filled)) out) (refused (Err WrongLength) out)
       go true h = there-same some o (eqb-true (length wanted) m.key h) out
       go false h = refl
 
@@ -222,7 +222,7 @@ module _ (m : Measures) (area area' wanted out : List ℕ) (long : length area' 
   unfolding get_of judged_of
   judged-alike e = rw long (go (fine m (length area)))
     where
-      go : (t : Bool) → get_judged (pick t (judged.Fine m n) judged.Outside) area' wanted out ≡ get_judged (pick t (judged.Fine m n) judged.Outside) area wanted out
+      go : (t : Bool) → get_judged (pick t (passed m n) None) area' wanted out ≡ get_judged (pick t (passed m n) None) area wanted out
       go true = e
       go false = refl
 

@@ -14,8 +14,8 @@ use Rattle.fields.specs.Choice.{pick, no}
 use Rattle.fields.specs.Bytes.{Octets}
 use Rattle.fields.specs.Order.{order_of, is_less, less, flip}
 use Rattle.fields.specs.Lists.{every}
-use Rattle.fields.specs.declared.Order.{Order}
-use Rattle.fields.specs.declared.Order.TheVariants.{Less, Same, Greater}
+use Rattle.std.specs.declared.cmp.Ordering.{Ordering}
+use Rattle.std.specs.declared.cmp.Ordering.TheVariants.{Less, Equal, Greater}
 use Rattle.fields.proofs.Choices.{both-split, both-join, false-true, no_true}
 use Rattle.fields.proofs.Orders.{and_then, order-front, order_flip, less-asym, less-irrefl, less-order}
 use Rattle.fields.proofs.Octets.{octets-take, octets-drop, octets-part}
@@ -107,10 +107,10 @@ module _ (m : Measures) (key : List ℕ) where
   from-drops [] up = sym (drop-nil (lower m key []))
   from-drops (i ∷ is) up = go (order_of (key_of m i.bytes) key) refl (from-drops is (ascend-tail (key_of m i.bytes) (keys_of m (bytes_in is)) up))
     where
-      go : (o : Order) → order_of (key_of m i.bytes) key ≡ o → kept (from m key) is ≡ drop (lower m key (bytes_in is)) is
+      go : (o : Ordering) → order_of (key_of m i.bytes) key ≡ o → kept (from m key) is ≡ drop (lower m key (bytes_in is)) is
           → pick (no (less (key_of m i.bytes) key)) (i ∷ kept (from m key) is) (kept (from m key) is) ≡ drop (lower m key (bytes_in (i ∷ is))) (i ∷ is)
       go Less e s = rw ((first-less m key i.bytes (bytes_in is) e).0, e) s
-      go Same e s = rw (first-lower m key i.bytes (bytes_in is) up (ap is_less e), e) (ap (λ (xs : List Item). i ∷ xs) (above_from is (rest-above m key i.bytes (bytes_in is) up (ap is_less e))))
+      go Equal e s = rw (first-lower m key i.bytes (bytes_in is) up (ap is_less e), e) (ap (λ (xs : List Item). i ∷ xs) (above_from is (rest-above m key i.bytes (bytes_in is) up (ap is_less e))))
       go Greater e s = rw (first-lower m key i.bytes (bytes_in is) up (ap is_less e), e) (ap (λ (xs : List Item). i ∷ xs) (above_from is (rest-above m key i.bytes (bytes_in is) up (ap is_less e))))
 
   -- those not above it the first ones.
@@ -122,7 +122,7 @@ module _ (m : Measures) (key : List ℕ) where
       after : order_of (key_of m i.bytes) key ≡ Less → reached m key (bytes_in (i ∷ is)) ≡ suc (reached m key (bytes_in is))
       after e = let f = first-less m key i.bytes (bytes_in is) e in rw (f.0, f.1) (omega arith)
 
-      here : (o : Order) → order_of (key_of m i.bytes) key ≡ o → is_less o ≡ false → reached m key (bytes_in (i ∷ is)) ≡ pick (is_same o) 1 0
+      here : (o : Ordering) → order_of (key_of m i.bytes) key ≡ o → is_less o ≡ false → reached m key (bytes_in (i ∷ is)) ≡ pick (is_same o) 1 0
       here o e l =
           let q : less (key_of m i.bytes) key ≡ false = ap is_less e ∙ l in
           rw (first-lower m key i.bytes (bytes_in is) up q, first_holds m key i.bytes (bytes_in is) up q, e) (omega arith)
@@ -130,14 +130,14 @@ module _ (m : Measures) (key : List ℕ) where
       rest : less (key_of m i.bytes) key ≡ false → kept (upto m key) is ≡ []
       rest q = above-upto is (rest-above m key i.bytes (bytes_in is) up q)
 
-      go : (o : Order) → order_of (key_of m i.bytes) key ≡ o → kept (upto m key) is ≡ take (reached m key (bytes_in is)) is
+      go : (o : Ordering) → order_of (key_of m i.bytes) key ≡ o → kept (upto m key) is ≡ take (reached m key (bytes_in is)) is
           → pick (no (less key (key_of m i.bytes))) (i ∷ kept (upto m key) is) (kept (upto m key) is) ≡ take (reached m key (bytes_in (i ∷ is))) (i ∷ is)
       go Less e s =
           let b : less key (key_of m i.bytes) ≡ false = ap is_less (order_flip (key_of m i.bytes) key ∙ ap flip e) in
           rw (after e, b) (ap (λ (xs : List Item). i ∷ xs) s)
-      go Same e s =
+      go Equal e s =
           let b : less key (key_of m i.bytes) ≡ false = ap is_less (order_flip (key_of m i.bytes) key ∙ ap flip e) in
-          rw (here Same e refl, b) (ap (λ (xs : List Item). i ∷ xs) (rest (ap is_less e)))
+          rw (here Equal e refl, b) (ap (λ (xs : List Item). i ∷ xs) (rest (ap is_less e)))
       go Greater e s =
           let b : less key (key_of m i.bytes) ≡ true = ap is_less (order_flip (key_of m i.bytes) key ∙ ap flip e) in
           rw (here Greater e refl, b) (rest (ap is_less e))

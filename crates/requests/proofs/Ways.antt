@@ -1,4 +1,5 @@
 -- The ways of a change of a whole area: its length is wrong, or it may not be made, or its plan is carried out; and what it is that one was carried out.
+use Rattle.std.specs.Prelude.{Err}
 use Prim.Native.Nat.{ℕ}
 use mathlib.Core.Path.{◌≡◌, refl}
 use mathlib.Core.Bool.{Bool, true, false}
@@ -6,9 +7,8 @@ use mathlib.Core.List.{List, [], ◌∷◌, cons-ne-nil}
 use mathlib.Core.Logic.{◌⊎◌, inl, inr}
 use lib.ListN.{length}
 use native.Mathlib.Omega.{arith}
-use Rattle.measures.specs.Judgement.{judged_of}
+use Rattle.measures.specs.Judgement.{judged_of, passed}
 use Rattle.measures.specs.declared.Measures.{Measures}
-use Rattle.measures.specs.declared.Judged.TheVariants.{Fine}
 use Rattle.interval.specs.Records.{key_of}
 use Rattle.area.specs.Content.{Content, records_of}
 use Rattle.area.specs.Reading.{whole, read_area}
@@ -18,16 +18,16 @@ use Rattle.requests.specs.Answers.{number_of}
 use Rattle.requests.specs.Records.{with_key}
 use Rattle.requests.specs.Model.{Change, insert, update, erase, Legal}
 use Rattle.requests.specs.Changing.{Outcome, kept, key_in, length_fine, edit_of, carry_out, if_keyed, change_of}
-use Rattle.requests.specs.declared.Answer.{Answer}
-use Rattle.requests.specs.declared.Answer.TheVariants.{WrongLength, Present, Absent}
+use Rattle.requests.specs.Answers.{Answer}
+use Rattle.requests.specs.declared.Refusal.TheVariants.{WrongLength, Present, Absent}
 
 -- ---- by the key
 
 -- what a change is refused with that may not be made
 abbrev pub unlawful : Change → Answer
-unlawful (insert r) = Present
-unlawful (update r) = Absent
-unlawful (erase wanted) = Absent
+unlawful (insert r) = (Err Present)
+unlawful (update r) = (Err Absent)
+unlawful (erase wanted) = (Err Absent)
 
 unlawful-refused : (ch : Change) → number_of (unlawful ch) ≡ 0 → ⊥
 unlawful-refused (insert r) z = omega arith
@@ -61,7 +61,7 @@ legal-decided m (erase wanted) rs area made = keyed-decided (erase wanted) (with
 
 -- ---- on a whole area
 
-module _ (m : Measures) (area : List ℕ) (n : ℕ) (c : Content) (j : judged_of m (length area) ≡ Fine m n) (w : read_area m n area ≡ whole c) (ch : Change) where
+module _ (m : Measures) (area : List ℕ) (n : ℕ) (c : Content) (j : judged_of m (length area) ≡ passed m n) (w : read_area m n area ≡ whole c) (ch : Change) where
   -- what the change comes to
   abbrev outcome : Outcome
   outcome = change_of m area ch
@@ -74,7 +74,7 @@ module _ (m : Measures) (area : List ℕ) (n : ℕ) (c : Content) (j : judged_of
   made = carry_out m area (plan_of m c (edit_of m c ch))
 
   -- A length that is not fine is refused,
-  pub way-length : length_fine m ch ≡ false → outcome ≡ kept WrongLength area
+  pub way-length : length_fine m ch ≡ false → outcome ≡ kept (Err WrongLength) area
   unfolding change_of
   way-length f = rw (j, w, f)
 

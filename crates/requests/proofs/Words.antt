@@ -1,24 +1,26 @@
 -- A word can be taken apart again.
+use Rattle.std.specs.Prelude.{Ok, Err}
 use Prim.Native.Nat.{◌<◌}
 use native.Mathlib.Omega.{arith}
 use Rattle.requests.specs.Answers.{number_of}
 use Rattle.requests.specs.Words.{small_of, word_of, Apart}
-use Rattle.requests.specs.declared.Answer.{Answer}
-use Rattle.requests.specs.declared.Answer.TheVariants.{Done, Found, Intact, Damaged, Short, Outside, WrongLength, Present, Absent, NoInterval, NoRoom, NoRecord}
+use Rattle.requests.specs.Answers.{Answer}
+use Rattle.requests.specs.declared.Done.TheVariants.{Changed, Found, Intact}
+use Rattle.requests.specs.declared.Refusal.TheVariants.{Outside, Damaged, WrongLength, Present, Absent, NoInterval, NoRoom, Short, NoRecord}
 
 pub number_small : (a : Answer) → number_of a < 256
-number_small (Done w) = omega arith
-number_small (Found length) = omega arith
-number_small (Intact records free) = omega arith
-number_small (Damaged place) = omega arith
-number_small (Short needed) = omega arith
-number_small Outside = omega arith
-number_small WrongLength = omega arith
-number_small Present = omega arith
-number_small Absent = omega arith
-number_small NoInterval = omega arith
-number_small NoRoom = omega arith
-number_small NoRecord = omega arith
+number_small (Ok (Changed w)) = omega arith
+number_small (Ok (Found length)) = omega arith
+number_small (Ok (Intact records free)) = omega arith
+number_small (Err (Damaged place)) = omega arith
+number_small (Err (Short needed)) = omega arith
+number_small (Err Outside) = omega arith
+number_small (Err WrongLength) = omega arith
+number_small (Err Present) = omega arith
+number_small (Err Absent) = omega arith
+number_small (Err NoInterval) = omega arith
+number_small (Err NoRoom) = omega arith
+number_small (Err NoRecord) = omega arith
 
 -- its lowest byte is the number, the next two the small value, what lies above them the large one
 pub word-apart : (a : Answer) → small_of a < 65536 → Apart (word_of a) a

@@ -5,7 +5,7 @@ use Rattle.measures.specs.declared.Measures.{Measures}
 use Rattle.requests.specs.Model.{Change, insert, update, erase}
 use Rattle.requests.specs.Reading.{check_of, get_of, get_at_of, Gives}
 use Rattle.requests.specs.Changing.{insert_of, update_of, erase_of, Makes}
-use Rattle.requests.specs.declared.Answer.{Answer}
+use Rattle.requests.specs.Answers.{Answer}
 
 -- the six requests: check, get a key's or an address's record into an output, and the three changes (insert, update, erase)
 pub data Request : Type 0 where

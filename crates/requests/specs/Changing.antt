@@ -1,5 +1,5 @@
 -- The requests that change, what each answers and the area afterwards: document 01, 'What each number tells the depot'. A refusal leaves every byte of it.
-use Rattle.std.specs.Prelude.{ℕ, ◌≡◌, Bool, List, [], ◌∷◌, length, eqb}
+use Rattle.std.specs.Prelude.{ℕ, ◌≡◌, Bool, List, [], ◌∷◌, length, eqb, Ok, Err}
 use Rattle.fields.specs.Choice.{pick}
 use Rattle.measures.specs.declared.Measures.{Measures}
 use Rattle.interval.specs.Records.{key_of, within}
@@ -13,8 +13,9 @@ use Rattle.change.specs.Plan.{Plan, no_interval, no_room, stores, plan_of}
 use Rattle.requests.specs.Records.{with_key}
 use Rattle.requests.specs.Model.{Change, insert, update, erase}
 use Rattle.requests.specs.Opening.{Opening, shut, holding, opening_of}
-use Rattle.requests.specs.declared.Answer.{Answer}
-use Rattle.requests.specs.declared.Answer.TheVariants.{Done, WrongLength, Present, Absent, NoInterval, NoRoom}
+use Rattle.requests.specs.Answers.{Answer}
+use Rattle.requests.specs.declared.Done.TheVariants.{Changed}
+use Rattle.requests.specs.declared.Refusal.TheVariants.{WrongLength, Present, Absent, NoInterval, NoRoom}
 
 -- an answer, and the area
 pub record Outcome : Type 0 where
@@ -64,27 +65,27 @@ edit_of m c (erase wanted) = edit_for m c wanted 1 []
 
 -- 6, 7, or the stores made; done tells which intervals were written
 abbrev pub carry_out : Measures → List ℕ → Plan → Outcome
-carry_out m area no_interval = kept NoInterval area
-carry_out m area no_room = kept NoRoom area
-carry_out m area (stores ss) = record { answer = Done (written_of ss); area = stored m.size area ss }
+carry_out m area no_interval = kept (Err NoInterval) area
+carry_out m area no_room = kept (Err NoRoom) area
+carry_out m area (stores ss) = record { answer = (Ok (Changed (written_of ss))); area = stored m.size area ss }
 
 -- 4 where a record has the key of one that is to come, 5 where none has the key of one that is to make way or to go; else what the plan comes to
 abbrev pub if_keyed : Change → List (List ℕ) → List ℕ → Outcome → Outcome
 if_keyed (insert r) [] area made = made
-if_keyed (insert r) (x ∷ xs) area made = kept Present area
-if_keyed (update r) [] area made = kept Absent area
+if_keyed (insert r) (x ∷ xs) area made = kept (Err Present) area
+if_keyed (update r) [] area made = kept (Err Absent) area
 if_keyed (update r) (x ∷ xs) area made = made
-if_keyed (erase wanted) [] area made = kept Absent area
+if_keyed (erase wanted) [] area made = kept (Err Absent) area
 if_keyed (erase wanted) (x ∷ xs) area made = made
 
 abbrev pub change_in : Measures → Content → List ℕ → Change → Outcome
 change_in m c area ch =
     pick (length_fine m ch)
     (if_keyed ch (with_key m (key_in m ch) (records_of c.filled)) area (carry_out m area (plan_of m c (edit_of m c ch))))
-    (kept WrongLength area)
+    (kept (Err WrongLength) area)
 
 abbrev pub change_opened : Opening → List ℕ → Change → Outcome
-change_opened (shut a) area ch = kept a area
+change_opened (shut r) area ch = kept (Err r) area
 change_opened (holding m c) area ch = change_in m c area ch
 
 unfoldable pub change_of : Measures → List ℕ → Change → Outcome

@@ -6,8 +6,8 @@ use Rattle.measures.specs.declared.Measures.{Measures}
 use Rattle.interval.specs.Records.{key_of}
 use Rattle.area.specs.Content.{Filled, Content}
 use Rattle.requests.specs.Opening.{Opening, shut, holding, opening_of}
-use Rattle.requests.specs.declared.Answer.{Answer}
-use Rattle.requests.specs.declared.Answer.TheVariants.{WrongLength, Absent}
+use Rattle.requests.specs.declared.Refusal.{Refusal}
+use Rattle.requests.specs.declared.Refusal.TheVariants.{WrongLength, Absent}
 
 -- a record with its place: where its first byte lies in the area
 pub record Item : Type 0 where
@@ -53,7 +53,7 @@ walk_of m false given c = backwards (kept (beyond m false given) (items_of m c.f
 
 -- a refusal, or what the walk gives
 pub data Walk : Type 0 where
-  refused_with : Answer → Walk
+  refused_with : Refusal → Walk
   giving : List Item → Walk
 
 -- none or more than K bytes

@@ -1,39 +1,40 @@
 -- An answer as one number, for programs in C: document 02, L4.
-use Rattle.std.specs.Prelude.{ℕ, ◌+◌, ◌*◌, ◌/◌, ◌%◌, ◌≤◌, ◌<◌, ◌≡◌}
+use Rattle.std.specs.Prelude.{ℕ, ◌+◌, ◌*◌, ◌/◌, ◌%◌, ◌≤◌, ◌<◌, ◌≡◌, Ok, Err}
 use Rattle.measures.specs.Judgement.{limit}
 use Rattle.requests.specs.Answers.{number_of}
-use Rattle.requests.specs.declared.Answer.{Answer}
-use Rattle.requests.specs.declared.Answer.TheVariants.{Done, Found, Intact, Damaged, Short, Outside, WrongLength, Present, Absent, NoInterval, NoRoom, NoRecord}
+use Rattle.requests.specs.Answers.{Answer}
+use Rattle.requests.specs.declared.Done.TheVariants.{Changed, Found, Intact}
+use Rattle.requests.specs.declared.Refusal.TheVariants.{Outside, Damaged, WrongLength, Present, Absent, NoInterval, NoRoom, Short, NoRecord}
 
 -- the value that is at most 4,096: the place of damage, or how many intervals are free
 abbrev pub small_of : Answer → ℕ
-small_of (Done w) = 0
-small_of (Found length) = 0
-small_of (Intact records free) = free
-small_of (Damaged place) = place
-small_of (Short needed) = 0
-small_of Outside = 0
-small_of WrongLength = 0
-small_of Present = 0
-small_of Absent = 0
-small_of NoInterval = 0
-small_of NoRoom = 0
-small_of NoRecord = 0
+small_of (Ok (Changed w)) = 0
+small_of (Ok (Found length)) = 0
+small_of (Ok (Intact records free)) = free
+small_of (Err (Damaged place)) = place
+small_of (Err (Short needed)) = 0
+small_of (Err Outside) = 0
+small_of (Err WrongLength) = 0
+small_of (Err Present) = 0
+small_of (Err Absent) = 0
+small_of (Err NoInterval) = 0
+small_of (Err NoRoom) = 0
+small_of (Err NoRecord) = 0
 
 -- the one that may be more: a record's length, the length needed, or how many records there are
 abbrev pub large_of : Answer → ℕ
-large_of (Done w) = 0
-large_of (Found length) = length
-large_of (Intact records free) = records
-large_of (Damaged place) = 0
-large_of (Short needed) = needed
-large_of Outside = 0
-large_of WrongLength = 0
-large_of Present = 0
-large_of Absent = 0
-large_of NoInterval = 0
-large_of NoRoom = 0
-large_of NoRecord = 0
+large_of (Ok (Changed w)) = 0
+large_of (Ok (Found length)) = length
+large_of (Ok (Intact records free)) = records
+large_of (Err (Damaged place)) = 0
+large_of (Err (Short needed)) = needed
+large_of (Err Outside) = 0
+large_of (Err WrongLength) = 0
+large_of (Err Present) = 0
+large_of (Err Absent) = 0
+large_of (Err NoInterval) = 0
+large_of (Err NoRoom) = 0
+large_of (Err NoRecord) = 0
 
 -- the number in the lowest byte, the small value in the two after it, the large one above them
 unfoldable pub word_of : Answer → ℕ

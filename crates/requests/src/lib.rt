@@ -3,24 +3,43 @@
 
 ghost use Rattle.std.specs.Prelude.{◌≡◌};
 ghost use Rattle.requests.specs.Answers.{number_of};
+ghost use Rattle.requests.specs.declared.Refusal.TheVariants.{Damaged};
 
+use area::Damage;
 use change::Written;
 
-// The kinds of answer, each with its own values. Document 01's number for each is given by `number`.
+// What a request that is not refused tells: which intervals a change wrote, how long the record found is, how many
+// records and free intervals there are.
 #[derive(Clone, Copy)]
-pub enum Answer {
-    Done(Written),
+pub enum Done {
+    Changed(Written),
     Found(usize),
     Intact { records: usize, free: usize },
-    Damaged(usize),
-    Short(usize),
+}
+
+// Why a request is refused, with what it tells: the place of the damage, or the length that the output needs.
+#[derive(Clone, Copy)]
+pub enum Refusal {
     Outside,
+    Damaged(usize),
     WrongLength,
     Present,
     Absent,
     NoInterval,
     NoRoom,
+    Short(usize),
     NoRecord,
+}
+
+// What every request answers. Document 01's number for each answer is given by `number`.
+pub type Answer = Result<Done, Refusal>;
+
+impl From<Damage> for Refusal {
+    ghost from_gives = { λ d r. r ≡ Damaged d.place };
+
+    fn from(damage: Damage) -> Refusal {
+        Refusal::Damaged(damage.place)
+    }
 }
 
 // The number that a depot reads.
@@ -28,20 +47,15 @@ pub fn number(answer: Answer) -> usize
     ensures { result ≡ number_of answer }
 {
     match answer {
-        Answer::Done(_) => 0,
-        Answer::Found(_) => 0,
-        Answer::Intact {
-            records: _,
-            free: _,
-        } => 0,
-        Answer::Outside => 1,
-        Answer::Damaged(_) => 2,
-        Answer::WrongLength => 3,
-        Answer::Present => 4,
-        Answer::Absent => 5,
-        Answer::NoInterval => 6,
-        Answer::NoRoom => 7,
-        Answer::Short(_) => 8,
-        Answer::NoRecord => 9,
+        Ok(_) => 0,
+        Err(Refusal::Outside) => 1,
+        Err(Refusal::Damaged(_)) => 2,
+        Err(Refusal::WrongLength) => 3,
+        Err(Refusal::Present) => 4,
+        Err(Refusal::Absent) => 5,
+        Err(Refusal::NoInterval) => 6,
+        Err(Refusal::NoRoom) => 7,
+        Err(Refusal::Short(_)) => 8,
+        Err(Refusal::NoRecord) => 9,
     }
 }

@@ -26,7 +26,7 @@ pub fn add(r: Room, len: u16) -> Room
     // After no record, or after one of another length, it begins a group, with one RDF.
     if r.run == 0 || r.last != len {
         return Room {
-            bytes: bytes,
+            bytes,
             rdfs: more,
             last: len,
             run: 1,
@@ -35,14 +35,14 @@ pub fn add(r: Room, len: u16) -> Room
     // The second of one length makes a run, which has a second RDF for its count. Later ones only raise that count.
     if r.run == 1 {
         return Room {
-            bytes: bytes,
+            bytes,
             rdfs: more,
             last: len,
             run: 2,
         };
     }
     Room {
-        bytes: bytes,
+        bytes,
         rdfs: r.rdfs,
         last: len,
         run: 2,
@@ -55,15 +55,12 @@ pub fn run_at(lens: &[u16], i: usize) -> usize
     ensures run { RunAt lens.now i result }
     ensures inside { (1 ≤ result) × (i + result ≤ length lens.now) }
 {
-    let l = lens[i];
-    let mut j = i + 1;
-    while j < lens.len() {
-        if lens[j] != l {
+    for j in i + 1..lens.len() {
+        if lens[j] != lens[i] {
             return j - i;
         }
-        j += 1;
     }
-    j - i
+    lens.len() - i
 }
 
 // The room with a run more at the end: count records of one length.
@@ -129,11 +126,9 @@ pub fn bytes_to(lens: &[u16], k: usize) -> usize
     ensures is { result ≡ sum (take k lens.now) }
     ensures small { result ≤ 65535 * k }
 {
-    let mut sum: usize = 0;
-    let mut i = 0;
-    while i < k {
-        sum += lens[i] as usize;
-        i += 1;
+    let mut sum = 0;
+    for i in 0..k {
+        sum += usize::from(lens[i]);
     }
     sum
 }

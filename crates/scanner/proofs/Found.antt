@@ -1,5 +1,6 @@
 -- A get where damage lies elsewhere, for a program in C: where the measures, the index record and the key's interval are fine, what a caller of `belquita_get`
 -- learns fixes number, length and every byte of the output, whatever all other intervals hold. `Learnt` is the contract as a caller reads it.
+use Rattle.std.specs.Prelude.{Err}
 use Prim.Native.Nat.{ℕ, ◌/◌, ◌%◌, ◌≤◌, ◌<◌}
 use mathlib.Core.Path.{◌≡◌, refl, ◌∙◌, ap}
 use mathlib.Core.Bool.{Bool, true, false}
@@ -13,12 +14,11 @@ use Rattle.fields.specs.Bytes.{Octets}
 use Rattle.measures.specs.Judgement.{measures, count_of}
 use Rattle.measures.specs.declared.Measures.{Measures}
 use Rattle.area.specs.Layout.{Lent}
-use Rattle.requests.specs.Answers.{number_of}
+use Rattle.requests.specs.Answers.{Answer, number_of}
 use Rattle.requests.specs.Finding.{Keyed, Finds}
 use Rattle.requests.specs.Reading.{Given, get_of}
 use Rattle.requests.specs.Words.{large_of, word_of, Apart}
-use Rattle.requests.specs.declared.Answer.{Answer}
-use Rattle.requests.specs.declared.Answer.TheVariants.{Absent}
+use Rattle.requests.specs.declared.Refusal.TheVariants.{Absent}
 use Rattle.promises.specs.Local.{FineHome}
 use Rattle.promises.proofs.Local.{get-there-finds}
 use Rattle.promises.proofs.Rows.{keyed-either}
@@ -36,7 +36,7 @@ module _ (m : Measures) (area wanted lent : List ℕ) where
   g = get_of m area wanted lent
 
   module _ (l : Lent m n area) (b : Octets wanted) (rs : List (List ℕ)) (h : FineHome m n area wanted rs) (out : List ℕ) (o : out ≡ g.output) where
-    answer-finds : Finds (Keyed m wanted rs) Absent lent (record { answer = g.answer; output = out })
+    answer-finds : Finds (Keyed m wanted rs) (Err Absent) lent (record { answer = g.answer; output = out })
     answer-finds = get-there-finds m area l wanted b rs h lent g.answer area out (refl, record { answers = refl; outputs = o })
 
     module _ (word : ℕ) (t : Apart word g.answer) where
@@ -123,7 +123,7 @@ module _ (κs : _) (args : _) (r : ℕ) (e : _) (p : get.Learnt κs args r e) wh
   module _ (l : Lent given (count_of args.0 (length area)) area) (b : Octets wanted) (rs : List (List ℕ))
       (h : FineHome given (count_of args.0 (length area)) area wanted rs) where
     -- The word tells an answer, and that answer with the output is exactly what a get finds among the records of the key's interval.
-    pub get-there-finds-word : (a : Answer) × (r ≡ word_of a) × Finds (Keyed given wanted rs) Absent lent (record { answer = a; output = out })
+    pub get-there-finds-word : (a : Answer) × (r ≡ word_of a) × Finds (Keyed given wanted rs) (Err Absent) lent (record { answer = a; output = out })
     get-there-finds-word = (_, p.word-is, answer-finds given area wanted lent l b rs h out p.outputs)
 
     -- And number and length are taken from the word again.

@@ -1,4 +1,3 @@
-pub mod Joining
 pub mod Apart
 pub mod Found
 pub mod Unique

@@ -7,7 +7,7 @@ ghost use Rattle.requests.specs.Reading.{check_of, get_of};
 ghost use Rattle.requests.specs.Words.{word_of, Small};
 ghost use Rattle.scanner.specs.Told.{GivesWord};
 
-use requests::Answer;
+use requests::{Answer, Done, Refusal};
 
 // A number and two values as one number: the lowest byte, the next two, and what lies above them.
 pub(crate) fn joined(number: usize, small: usize, large: usize) -> u64
@@ -18,24 +18,18 @@ pub(crate) fn joined(number: usize, small: usize, large: usize) -> u64
 }
 
 // An answer as one number.
+#[tactic(auto, unfolding(requests::specs::Words::word_of))]
 pub(crate) fn word(answer: Answer) -> u64
     requires { Small answer }
     ensures { result ≡ word_of answer }
 {
     let number = requests::number(answer);
     match answer {
-        Answer::Found(length) => joined(number, 0, length),
-        Answer::Intact { records, free } => joined(number, free, records),
-        Answer::Damaged(place) => joined(number, place, 0),
-        Answer::Short(needed) => joined(number, 0, needed),
-        Answer::Done(_) => joined(number, 0, 0),
-        Answer::Outside => joined(number, 0, 0),
-        Answer::WrongLength => joined(number, 0, 0),
-        Answer::Present => joined(number, 0, 0),
-        Answer::Absent => joined(number, 0, 0),
-        Answer::NoInterval => joined(number, 0, 0),
-        Answer::NoRoom => joined(number, 0, 0),
-        Answer::NoRecord => joined(number, 0, 0),
+        Ok(Done::Found(length)) => joined(number, 0, length),
+        Ok(Done::Intact { records, free }) => joined(number, free, records),
+        Err(Refusal::Damaged(place)) => joined(number, place, 0),
+        Err(Refusal::Short(needed)) => joined(number, 0, needed),
+        _ => joined(number, 0, 0),
     }
 }
 

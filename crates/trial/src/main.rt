@@ -6,7 +6,6 @@ mod request;
 mod script;
 mod walks;
 
-use script::Head;
 use std::fs;
 use std::fs::File;
 use std::os::fd::AsRawFd;
@@ -44,7 +43,7 @@ fn renewed(fd: i32, area: &mut [u8]) -> Turn {
 
 // A request is lent bytes of the area alone, never those that a longer area before it left behind its end.
 fn asked(fd: i32, letter: u8, area: &mut [u8], old: &mut [u8], held: usize) -> Turn {
-    let Head::Whole(ask) = script::read_ask(fd, letter) else {
+    let Some(ask) = script::read_ask(fd, letter) else {
         return Turn::Bad;
     };
     let mut given = io::large_buffer();
@@ -86,8 +85,7 @@ fn steps(rt: &impl Files<File = File>, area: &mut [u8], old: &mut [u8]) {
     };
     let fd = script.as_raw_fd();
     let mut held = 0;
-    let mut n = 0;
-    while n < u64::MAX {
+    for _ in 0..u64::MAX {
         match step(fd, area, old, held) {
             Turn::Held(length) => held = length,
             Turn::Ended => return,
@@ -96,7 +94,6 @@ fn steps(rt: &impl Files<File = File>, area: &mut [u8], old: &mut [u8]) {
                 return;
             }
         }
-        n += 1;
     }
 }
 

@@ -22,14 +22,12 @@ fn item(byte: u8, count: usize) {
 // All bytes, neighbours that are equal as one item.
 pub(crate) fn bytes(b: &[u8]) {
     let mut count = 0;
-    let mut i = 0;
-    while i < b.len() {
+    for i in 0..b.len() {
         count += 1;
         let next = i + 1;
         if next == b.len() || b[next] != b[i] {
             item(b[i], count);
             count = 0;
         }
-        i = next;
     }
 }

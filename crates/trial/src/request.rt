@@ -4,9 +4,9 @@ ghost use Rattle.std.specs.Prelude.{◌<◌, ◌≤◌, length};
 use crate::script::Ask;
 use crate::{print, walks};
 use change::Written;
-use fields::Order;
 use measures::Numbers;
-use requests::Answer;
+use requests::{Answer, Done, Refusal};
+use std::cmp::Ordering;
 
 pub(crate) fn value(n: usize) {
     print::words(b" ");
@@ -36,15 +36,15 @@ fn told(word: &[u8], answer: Answer) {
     print::words(word);
     value(requests::number(answer));
     match answer {
-        Answer::Done(written) => numbers(written),
-        Answer::Found(length) => value(length),
-        Answer::Short(length) => value(length),
-        Answer::Intact { records, free } => {
+        Ok(Done::Changed(written)) => numbers(written),
+        Ok(Done::Found(length)) => value(length),
+        Ok(Done::Intact { records, free }) => {
             value(records);
             value(free);
         }
-        Answer::Damaged(place) => value(place),
-        _ => {}
+        Err(Refusal::Short(length)) => value(length),
+        Err(Refusal::Damaged(place)) => value(place),
+        Err(_) => {}
     }
     print::words(b"\n");
 }
@@ -58,7 +58,7 @@ fn listed(bytes: &[u8]) {
 
 // A unit of the area, the index or a data interval by its number, where it is another than before.
 fn compared(unit: &[u8], old: &[u8], place: usize) {
-    if let Order::Same = fields::compare(unit, old) {
+    if let Ordering::Equal = fields::compare(unit, old) {
         return;
     }
     print::words(b"    ");

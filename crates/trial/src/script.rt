@@ -27,12 +27,6 @@ pub(crate) struct Ask {
     pub address: u64,
 }
 
-#[derive(Clone, Copy)]
-pub(crate) enum Head {
-    Whole(Ask),
-    Cut,
-}
-
 const NONE: Got = Got {
     bytes: 0,
     whole: false,
@@ -65,16 +59,16 @@ fn parse(letter: u8, head: &[u8; 48]) -> Ask {
     Ask {
         letter,
         numbers,
-        lent: fields::read_four(head, 32),
-        out: fields::read_four(head, 36),
+        lent: fields::read::<4>(head, 32),
+        out: fields::read::<4>(head, 36),
         address: fields::read_eight(head, 40) as u64,
     }
 }
 
-pub(crate) fn read_ask(fd: i32, letter: u8) -> Head {
+pub(crate) fn read_ask(fd: i32, letter: u8) -> Option<Ask> {
     let mut head = [0u8; 48];
     if io::read_full(fd, &mut head) < 48 {
-        return Head::Cut;
+        return None;
     }
-    Head::Whole(parse(letter, &head))
+    Some(parse(letter, &head))
 }

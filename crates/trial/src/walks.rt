@@ -3,7 +3,7 @@ ghost use Rattle.std.specs.Prelude.{◌+◌, ◌≤◌, ◌<◌, length};
 
 use crate::script::Ask;
 use crate::{print, request};
-use requests::Answer;
+use requests::Refusal;
 use walk::{Begun, Place};
 
 // The record at a place, by where it begins and its length; or that it is the end.
@@ -24,10 +24,8 @@ fn mixed(rest: usize, bytes: &[u8]) -> usize
     ensures { result < 65521 }
 {
     let mut r = rest;
-    let mut i = 0;
-    while i < bytes.len() {
-        r = (r * 256 + fields::wide(bytes[i])) % 65521;
-        i += 1;
+    for byte in bytes {
+        r = (r * 256 + usize::from(*byte)) % 65521;
     }
     r
 }
@@ -56,9 +54,9 @@ fn all(area: &[u8], size: usize, forward: bool, begun: Place, shown: usize) {
     record(area, walk::walk_next(area, size, forward, p));
 }
 
-fn refused(answer: Answer) {
-    request::value(requests::number(answer));
-    if let Answer::Damaged(place) = answer {
+fn refused(refusal: Refusal) {
+    request::value(requests::number(Err(refusal)));
+    if let Refusal::Damaged(place) = refusal {
         request::value(place);
     }
 }
@@ -66,8 +64,8 @@ fn refused(answer: Answer) {
 // A walk that has begun, or was refused.
 fn told(area: &[u8], ask: Ask, forward: bool, begun: Begun) {
     match begun {
-        Begun::Refused(answer) => refused(answer),
-        Begun::At(p) => {
+        Err(refusal) => refused(refusal),
+        Ok(p) => {
             let n = ask.numbers;
             request::value(0);
             all(area, n.size, forward, p, ask.out);
@@ -102,12 +100,10 @@ fn place(area: &[u8], p: Place) {
 // A place, and so many steps from there.
 fn steps(area: &[u8], size: usize, forward: bool, from: Place, count: usize) {
     let mut p = from;
-    let mut i = 0;
     place(area, p);
-    while i < count {
+    for _ in 0..count {
         p = walk::walk_next(area, size, forward, p);
         place(area, p);
-        i += 1;
     }
 }
 

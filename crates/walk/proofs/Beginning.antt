@@ -1,12 +1,14 @@
 -- Where a walk begins in a whole area: at the place that a key leads to, or past it where nothing lies there.
 use Prim.Native.Nat.{ℕ, suc, ◌+◌, ◌-◌, ◌*◌, ◌≤◌, ◌<◌}
-use mathlib.Core.Path.{◌≡◌, refl, ◌∙◌, ap}
+use mathlib.Core.Path.{◌≡◌, refl, ◌∙◌, sym, ap}
 use mathlib.Core.Bool.{Bool, true, false}
 use mathlib.Core.List.{List}
 use lib.ListN.{length}
 use lib.Dec.{ltb}
 use native.Mathlib.Omega.{arith}
 use borrow.Author.Tests.{ltb-true, ltb-false}
+use Rattle.std.specs.Prelude.{Option, Some, None}
+use Rattle.std.proofs.lemmas.Option.{none-some}
 use Rattle.measures.specs.Judgement.{Fits}
 use Rattle.measures.specs.declared.Measures.{Measures}
 use Rattle.interval.specs.Reading.{records_in, displacement, Readable}
@@ -17,8 +19,8 @@ use Rattle.area.specs.Reading.{read_area, whole}
 use Rattle.area_find.specs.AidSought.{Whole}
 use Rattle.area_find.specs.declared.KeyPlace.{KeyPlace}
 use Rattle.interval_walk.specs.declared.Spot.{Spot}
-use Rattle.interval_walk.specs.AidSpots.{SpotOf}
-use Rattle.interval_walk.proofs.Standing.{stands-long, stands-inside}
+use Rattle.interval_walk.specs.AidSpots.{SpotOf, StepTo}
+use Rattle.interval_walk.proofs.Standing.{stands-inside}
 use Rattle.index_walk.specs.declared.Edge.{Edge}
 use Rattle.index_walk.specs.AidPasses.{edge}
 use Rattle.walk.specs.declared.Place.{Place}
@@ -48,7 +50,7 @@ module _ (m : Measures) (n : ℕ) (area : List ℕ) (fits : Fits m n (length are
     held : Held m n area fits c w i
     held = held_at m n area fits c w i h
 
-    here : (forward : Bool) (s : Spot) (o : ℕ) → SpotOf m ci forward s o → SpotOf m (data_of m area c i) forward s o
+    here : (forward : Bool) (s : Option Spot) (o : ℕ) → StepTo m ci forward s o → StepTo m (data_of m area c i) forward s o
     here forward s o t = rw number at t
 
     many : before fs (suc i) ≡ before fs i + length (records_in ci)
@@ -59,29 +61,30 @@ module _ (m : Measures) (n : ℕ) (area : List ℕ) (fits : Fits m n (length are
 
     -- ---- upwards
 
-    module _ (o : ℕ) (s : Spot) (f : FirstFrom m ci o s) (few : o ≤ length (records_in ci)) (e : Edge) (is : e ≡ edge_at m n area (i + 1)) where
+    module _ (o : ℕ) (s : Option Spot) (f : FirstFrom m ci o s) (few : o ≤ length (records_in ci)) (e : Edge) (is : e ≡ edge_at m n area (i + 1)) where
       next : e ≡ edge_at m n area (suc i)
       next = let z : i + 1 ≡ suc i = omega arith in rw (← z) is
 
       -- a record lies there,
-      pub above-here : 0 < s.len → Stood m n area c true (before fs i + o) (placed_of s ((k + 1) * m.size) i e)
-      above-here l = rw base-is (go (ltb o (length (records_in ci))) refl)
+      pub above-here : (v : Spot) → s ≡ Some v → Stood m n area c true (before fs i + o) (placed_of v ((k + 1) * m.size) i e)
+      above-here v l = rw base-is (go (ltb o (length (records_in ci))) refl)
         where
-          go : (b : Bool) → ltb o (length (records_in ci)) ≡ b → Stood m n area c true (before fs i + o) (placed_of s (base_at m c i) i e)
+          go : (b : Bool) → ltb o (length (records_in ci)) ≡ b → Stood m n area c true (before fs i + o) (placed_of v (base_at m c i) i e)
           go true q =
-              let p : StandsAt m n area c true (placed_of s (base_at m c i) i e) (before fs i + o) =
-              placed-stands m n area fits c w i h true s o e (here true s o (f.0 (ltb-true o (length (records_in ci)) q))) next in (
+              let t : StepTo m ci true (Some v) o = rw l at (f.0 (ltb-true o (length (records_in ci)) q)) in
+              let p : StandsAt m n area c true (placed_of v (base_at m c i) i e) (before fs i + o) =
+              placed-stands m n area fits c w i h true v o e (here true (Some v) o t) next in (
                 λ (a : before fs i + o < length (records_of fs)). p,
-                λ (a : length (records_of fs) ≤ before fs i + o). absurd (omega (arith, a, stands-few m n area fits c w true (placed_of s (base_at m c i) i e) (before fs i + o) p)),
+                λ (a : length (records_of fs) ≤ before fs i + o). absurd (omega (arith, a, stands-few m n area fits c w true (placed_of v (base_at m c i) i e) (before fs i + o) p)),
               )
-          go false q = absurd (omega (arith, l, f.1 (omega (arith, few, ltb-false o (length (records_in ci)) q))))
+          go false q = absurd (none-some v (sym (f.1 (omega (arith, few, ltb-false o (length (records_in ci)) q))) ∙ l))
 
       -- or none, and the entries after it are looked at.
-      pub above-past : s.len ≡ 0 → Stood m n area c true (before fs i + o) (ahead_of (n - (i + 1)) area m.size n (i + 1) e)
+      pub above-past : s ≡ None → Stood m n area c true (before fs i + o) (ahead_of (n - (i + 1)) area m.size n (i + 1) e)
       above-past z = go (ltb o (length (records_in ci))) refl
         where
           go : (b : Bool) → ltb o (length (records_in ci)) ≡ b → Stood m n area c true (before fs i + o) (ahead_of (n - (i + 1)) area m.size n (i + 1) e)
-          go true q = absurd (omega (arith, z, stands-long m (data_of m area c i) held.reads true s o (here true s o (f.0 (ltb-true o (length (records_in ci)) q)))))
+          go true q = absurd (rw z at (f.0 (ltb-true o (length (records_in ci)) q)))
           go false q =
               let y : before fs (i + 1) ≡ before fs i + o = let x : i + 1 ≡ suc i = omega arith in rw x (omega (arith, many, few, ltb-false o (length (records_in ci)) q)) in
               rw (is, ← y) (ahead-stood m n area fits c w (n - (i + 1)) (i + 1) (omega arith) (omega arith) (omega (arith, held-few m n area fits c w)))
@@ -91,7 +94,7 @@ module _ (m : Measures) (n : ℕ) (area : List ℕ) (fits : Fits m n (length are
     -- the record at the place, or the one before it,
     pub below-here : (o : ℕ) (s : Spot) → SpotOf m ci false s o → (j : ℕ) → j ≡ o + 1 → Stood m n area c false (before fs i + j) (placed_of s ((k + 1) * m.size) i (edge 0 0))
     below-here o s t j e =
-        let p : StandsAt m n area c false (placed_of s (base_at m c i) i (edge 0 0)) (before fs i + o) = placed-stands m n area fits c w i h false s o (edge 0 0) (here false s o t) refl in
+        let p : StandsAt m n area c false (placed_of s (base_at m c i) i (edge 0 0)) (before fs i + o) = placed-stands m n area fits c w i h false s o (edge 0 0) (here false (Some s) o t) refl in
         rw base-is (
           λ (x : ℕ) (q : suc x ≡ before fs i + j). let y : before fs i + o ≡ x = omega (arith, q, e) in rw y at p,
           λ (q : before fs i + j ≡ 0). absurd (omega (arith, q, e)),
@@ -103,12 +106,12 @@ module _ (m : Measures) (n : ℕ) (area : List ℕ) (fits : Fits m n (length are
 
 -- ---- what a search told, upwards
 
-module _ (m : Measures) (n : ℕ) (area : List ℕ) (q : KeyPlace) (t : Sits m n area q) (s u : Spot) (is : u ≡ s) where
+module _ (m : Measures) (n : ℕ) (area : List ℕ) (q : KeyPlace) (t : Sits m n area q) (s u : Option Spot) (is : u ≡ s) where
   -- the first record at or above the place in its interval, and that the place is one of it
   abbrev pub Above : Type 0
   Above = FirstFrom m (data_in m area q.number) (from_found q.found) u × (from_found q.found ≤ length (records_in (data_in m area q.number)))
 
-  pub above_at : (i start len : ℕ) → q.found ≡ At i start len → SpotOf m (data_in m area q.number) true s i → Above
+  pub above_at : (i start len : ℕ) → q.found ≡ At i start len → StepTo m (data_in m area q.number) true s i → Above
   above_at i start len e h =
       let w : Within (length (records_in (data_in m area q.number))) (displacement (data_in m area q.number)) (At i start len) = rw e at t.place in
       rw (e, is) ((λ (l : i < length (records_in (data_in m area q.number))). h, λ (l : i ≡ length (records_in (data_in m area q.number))). absurd (omega (arith, l, w.0))), omega (arith, w.0))
@@ -119,8 +122,8 @@ module _ (m : Measures) (n : ℕ) (area : List ℕ) (q : KeyPlace) (t : Sits m n
       rw (e, is) (h, w.0)
 
   -- it lies in the interval
-  pub above-inside : Readable m (data_in m area q.number) → Above → 0 < u.len → u.start ≤ length (data_in m area q.number)
-  above-inside r a l = go (ltb o (length (records_in ci))) refl
+  pub above-inside : Readable m (data_in m area q.number) → Above → (v : Spot) → u ≡ Some v → v.start ≤ length (data_in m area q.number)
+  above-inside r a v l = go (ltb o (length (records_in ci))) refl
     where
       ci : List ℕ
       ci = data_in m area q.number
@@ -128,9 +131,11 @@ module _ (m : Measures) (n : ℕ) (area : List ℕ) (q : KeyPlace) (t : Sits m n
       o : ℕ
       o = from_found q.found
 
-      go : (b : Bool) → ltb o (length (records_in ci)) ≡ b → u.start ≤ length ci
-      go true e = omega (arith, stands-inside m ci r true u o (a.0.0 (ltb-true o (length (records_in ci)) e)))
-      go false e = absurd (omega (arith, l, a.0.1 (omega (arith, a.1, ltb-false o (length (records_in ci)) e))))
+      go : (b : Bool) → ltb o (length (records_in ci)) ≡ b → v.start ≤ length ci
+      go true e =
+          let t : StepTo m ci true (Some v) o = rw l at (a.0.0 (ltb-true o (length (records_in ci)) e)) in
+          omega (arith, stands-inside m ci r true v o t)
+      go false e = absurd (none-some v (sym (a.0.1 (omega (arith, a.1, ltb-false o (length (records_in ci)) e))) ∙ l))
 
 -- the same place
 pub stood-as : (m : Measures) (n : ℕ) (area : List ℕ) (c : Content) (forward : Bool) (j : ℕ) (p q : Place) → q ≡ p → Stood m n area c forward j p → Stood m n area c forward j q

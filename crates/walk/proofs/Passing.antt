@@ -8,6 +8,8 @@ use lib.Dec.{eqb, leb}
 use native.Mathlib.Omega.{arith}
 use native.Mathlib.Numerals.{add-one}
 use borrow.Author.Tests.{ne_eqb}
+use Rattle.std.specs.Prelude.{Option, Some}
+use Rattle.index_walk.specs.declared.Met.{Met}
 use Rattle.fields.specs.Choice.{pick}
 use Rattle.measures.specs.Judgement.{Fits, width_for}
 use Rattle.measures.specs.declared.Measures.{Measures}
@@ -18,8 +20,7 @@ use Rattle.area.specs.Reading.{read_area, whole}
 use Rattle.area.proofs.Filled.{length-entries}
 use Rattle.area.proofs.Sounding.{sound-apart, sound-reads}
 use Rattle.index_walk.specs.declared.Edge.{Edge}
-use Rattle.index_walk.specs.declared.Met.TheVariants.{Entry}
-use Rattle.index_walk.specs.AidPasses.{pass_of}
+use Rattle.index_walk.specs.AidPasses.{pass_of, met}
 use Rattle.index_walk.proofs.Meeting.{Before, before-start, before-pass}
 use Rattle.walk.specs.AidSteps.{past_by, edge_past_of}
 use Rattle.walk.specs.AidStands.{nowhere, num_at, edge_at}
@@ -37,7 +38,7 @@ width_few n = go (leb n 256)
     go true = omega arith
     go false = omega arith
 
-same_met : {x y : ℕ} {t u : Bool} (e : Edge) → x ≡ y → t ≡ u → Entry x e t ≡ Entry y e u
+same_met : {x y : ℕ} {t u : Bool} (e : Edge) → x ≡ y → t ≡ u → ◌≡◌ {A = Option Met} (Some (met x e t)) (Some (met y e u))
 same_met e p q = rw (p, q)
 
 module _ (m : Measures) (n : ℕ) (area : List ℕ) (c : Content) (w : read_area m n area ≡ whole c) where
@@ -51,7 +52,7 @@ module _ (m : Measures) (n : ℕ) (area : List ℕ) (c : Content) (w : read_area
   -- Entry i is met from where a pass stands past those before it; whether it is the last is told.
   pub record Passed (i : ℕ) : Type 0 where
     pub next : Edge
-    pub met : pass_of (width_for n) (index_in m area) (edge_at m n area i) ≡ Entry (num_at c i) next (eqb (suc i) (length c.filled))
+    pub met : pass_of (width_for n) (index_in m area) (edge_at m n area i) ≡ Some (met (num_at c i) next (eqb (suc i) (length c.filled)))
     pub some : 0 < (edge_at m n area i).right
 
   module _ (fits : Fits m n (length area)) where

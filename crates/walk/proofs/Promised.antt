@@ -1,5 +1,6 @@
 -- What the four functions promise together: document 02, L1. A walk that begins on a sound area gives its records, each as its part of the area, and then the empty part for
 -- ever; it is refused exactly as its table says; and whatever area and place are given, a record is empty or a part of that area.
+use Rattle.std.specs.Prelude.{Err, Ok}
 use Prim.Native.Nat.{ℕ, zero, suc, ◌+◌, ◌-◌, ◌≤◌, ◌<◌}
 use mathlib.Core.Path.{◌≡◌, refl, ◌∙◌, sym, ap}
 use mathlib.Core.Bool.{Bool, true, false}
@@ -12,23 +13,20 @@ use borrow.Author.Tests.{ltb-false}
 use Rattle.fields.specs.Choice.{pick, either}
 use Rattle.fields.specs.Bytes.{part}
 use Rattle.fields.proofs.Splices.{length-mid}
-use Rattle.measures.specs.Judgement.{asked, judged_of}
+use Rattle.measures.specs.Judgement.{asked, judged_of, passed}
 use Rattle.measures.specs.declared.Measures.{Measures}
-use Rattle.measures.specs.declared.Judged.TheVariants.{Fine}
 use Rattle.area.specs.Content.{Content}
 use Rattle.area.specs.Reading.{read_area, whole}
 use Rattle.requests.specs.Walks.{Item, refused_with, giving, head_fine, if_some, walk_of, walk_from_of, walk_end_of}
-use Rattle.requests.specs.declared.Answer.{Answer}
-use Rattle.requests.specs.declared.Answer.TheVariants.{WrongLength, Absent}
+use Rattle.requests.specs.declared.Refusal.{Refusal}
+use Rattle.requests.specs.declared.Refusal.TheVariants.{WrongLength, Absent}
 use Rattle.requests.proofs.Gets.{judged-least}
 use Rattle.requests.proofs.Items.{none}
 use Rattle.requests.proofs.Walks.{walk-some}
 use Rattle.promises.specs.Tables.{First}
 use Rattle.walk.specs.declared.Place.{Place}
-use Rattle.walk.specs.declared.Begun.{Begun}
-use Rattle.walk.specs.declared.Begun.TheVariants.{At, Refused}
 use Rattle.walk.specs.AidSteps.{next_of, outside, record_of, begins_in, Shown, steps_from}
-use Rattle.walk.specs.AidGives.{Gives, Begins}
+use Rattle.walk.specs.AidGives.{Begun, Gives, Begins}
 use Rattle.walk.specs.Refusals.{number_in, from_table, end_table}
 use Rattle.walk.proofs.Refusals.{from-refusals, end-refusals}
 use contract.Lifetimes.{Lfts}
@@ -86,15 +84,15 @@ pub record Given (area : Bor (List ℕ)) (items : List Item) (parts : ℕ → Bo
 
 -- ---- how it began
 
-place_same : (p q : Place) → At p ≡ At q → p ≡ q
+place_same : (p q : Place) → ◌≡◌ {A = Begun} (Ok p) (Ok q) → p ≡ q
 place_same p q e = cc
 
-module _ (area : List ℕ) (size : ℕ) (forward : Bool) (r : Begun) (p : Place) (at : r ≡ At p) where
+module _ (area : List ℕ) (size : ℕ) (forward : Bool) (r : Begun) (p : Place) (at : r ≡ Ok p) where
   -- a walk that was refused stands at no place
-  pub never : (a : Answer) → r ≡ Refused a → ⊥
+  pub never : (a : Refusal) → r ≡ Err a → ⊥
   never a e = one (sym at ∙ e)
     where
-      one : At p ≡ Refused a → ⊥
+      one : ◌≡◌ {A = Begun} (Ok p) (Err a) → ⊥
       one f = let z : ◌≡◌ {A = ℕ} 0 1 = cc in omega arith
 
   pub placed-gives : (items : List Item) → Begins area size forward (giving items) r → Gives area size forward items p
@@ -106,8 +104,8 @@ module _ (area : List ℕ) (size : ℕ) (forward : Bool) (r : Begun) (p : Place)
   picked-gives true (i ∷ items) b = placed-gives (i ∷ items) b
 
 -- From the place at which a walk began, the steps give the records of `walk_of`.
-began-gives : (area : Bor (List ℕ)) (m : Measures) (forward : Bool) (given : List ℕ) (r : Begun) → Began area m forward given r → (p : Place) → r ≡ At p
-    → (n : ℕ) (c : Content) → judged_of m (length area.now) ≡ Fine m n
+began-gives : (area : Bor (List ℕ)) (m : Measures) (forward : Bool) (given : List ℕ) (r : Begun) → Began area m forward given r → (p : Place) → r ≡ Ok p
+    → (n : ℕ) (c : Content) → judged_of m (length area.now) ≡ passed m n
     → read_area m n area.now ≡ whole c → Gives area.now m.size forward (walk_of m forward given c) p
 unfolding walk_from_of walk_end_of
 began-gives _ _ _ _ _ (from_bytes κs args r e l) p at n c j w =
@@ -170,9 +168,9 @@ module _ (area : Bor (List ℕ)) (size : ℕ) (forward : Bool) (places : ℕ →
 
 -- A walk that began, its steps and its parts, whoever took them: the parts are those of `walk_of`.
 pub steps-give : (area : Bor (List ℕ)) (m : Measures) (forward : Bool) (given : List ℕ) (r : Begun) → Began area m forward given r
-    → (places : ℕ → Place) (parts : ℕ → Bor (List ℕ)) → r ≡ At (places 0) → ((k : ℕ) → places (suc k) ≡ next_of area.now m.size forward (places k))
+    → (places : ℕ → Place) (parts : ℕ → Bor (List ℕ)) → r ≡ Ok (places 0) → ((k : ℕ) → places (suc k) ≡ next_of area.now m.size forward (places k))
     → ((k : ℕ) → Shown area (places k) (parts k))
-    → (n : ℕ) (c : Content) → judged_of m (length area.now) ≡ Fine m n
+    → (n : ℕ) (c : Content) → judged_of m (length area.now) ≡ passed m n
     → read_area m n area.now ≡ whole c → Given area (walk_of m forward given c) parts
 steps-give area m forward given r b places parts at next shows n c j w =
     let least = judged-least m area.now n j in
@@ -182,8 +180,8 @@ steps-give area m forward given r b places parts at next shows n c j w =
 -- THE WALK. On a sound area a walk that has begun gives the records of `walk_of`, each as its part of the area: whatever the bytes given, or from an end, in
 -- either direction. Said of what callers of `walk_from`, `walk_end`, `walk_next` and `walk_record` learn.
 pub walk-gives : (area : Bor (List ℕ)) (m : Measures) (forward : Bool) (given : List ℕ) (r : Begun) → Began area m forward given r
-    → (places : ℕ → Place) (parts : ℕ → Bor (List ℕ)) → r ≡ At (places 0) → Run area m.size forward places parts
-    → (n : ℕ) (c : Content) → judged_of m (length area.now) ≡ Fine m n
+    → (places : ℕ → Place) (parts : ℕ → Bor (List ℕ)) → r ≡ Ok (places 0) → Run area m.size forward places parts
+    → (n : ℕ) (c : Content) → judged_of m (length area.now) ≡ passed m n
     → read_area m n area.now ≡ whole c → Given area (walk_of m forward given c) parts
 walk-gives area m forward given r b places parts at run = steps-give area m forward given r b places parts at run.next run.shows
 

@@ -1,4 +1,5 @@
 -- A walk is refused exactly as its table says: with the number of the first condition that holds, and with none where it begins.
+use Rattle.std.specs.Prelude.{Err, None}
 use Prim.Native.Nat.{ℕ}
 use mathlib.Core.Path.{◌≡◌, refl, ◌∙◌, sym, ap}
 use mathlib.Core.Bool.{Bool, true, false}
@@ -11,25 +12,22 @@ use native.Mathlib.Omega.{arith}
 use borrow.Author.Tests.{ltb-true, ltb-false, leb-true, leb-false}
 use Rattle.fields.specs.Choice.{pick, both}
 use Rattle.fields.proofs.Choices.{false-true, off}
-use Rattle.measures.specs.Judgement.{judged_of, count_of}
+use Rattle.measures.specs.Judgement.{judged_of, count_of, passed}
 use Rattle.measures.specs.declared.Measures.{Measures}
-use Rattle.measures.specs.declared.Judged.TheVariants.{Fine}
-use Rattle.measures.specs.declared.Judged.TheVariants as judged
 use Rattle.area.specs.Content.{Content}
 use Rattle.area.specs.Reading.{damaged, whole, read_area}
 use Rattle.requests.specs.Answers.{number_of, values_of}
 use Rattle.requests.specs.Walks.{Item, Walk, refused_with, giving, items_of, beyond, walk_of, head_fine, if_some, walk_from_of, walk_end_of}
-use Rattle.requests.specs.declared.Answer.TheVariants.{WrongLength}
+use Rattle.requests.specs.declared.Refusal.TheVariants.{WrongLength}
 use Rattle.requests.proofs.Walks.{walk-among}
 use Rattle.promises.specs.Tables.{done, row, First}
 use Rattle.promises.proofs.Rows.{first_two, held}
-use Rattle.walk.specs.AidGives.{Begins}
+use Rattle.walk.specs.AidGives.{Begun, Begins}
 use Rattle.walk.specs.Refusals.{number_in, values_in, WrongBytes, NothingBeyond, from_table, end_table}
-use Rattle.walk.specs.declared.Begun.{Begun}
 
 -- the number of a walk's meaning
 abbrev number_for : Walk → ℕ
-number_for (refused_with a) = number_of a
+number_for (refused_with a) = number_of (Err a)
 number_for (giving is) = 0
 
 begins-number : (area : List ℕ) (size : ℕ) (forward : Bool) (x : Walk) (r : Begun) → Begins area size forward x r → number_in r ≡ number_for x
@@ -38,7 +36,7 @@ begins-number area size forward (giving is) r b = ap number_in b.1
 
 -- and the values
 abbrev values_for : Walk → List ℕ
-values_for (refused_with a) = values_of a
+values_for (refused_with a) = values_of (Err a)
 values_for (giving is) = []
 
 begins-values : (area : List ℕ) (size : ℕ) (forward : Bool) (x : Walk) (r : Begun) → Begins area size forward x r → values_in r ≡ values_for x
@@ -54,12 +52,12 @@ module _ (m : Measures) (area : List ℕ) (forward : Bool) where
   unfolding walk_end_of
   end-refusals r b =
       let e : number_in r ≡ number_for (walk_end_of m area forward) = begins-number area m.size forward (walk_end_of m area forward) r b in
-      first_two m area done (number_in r) (λ (o : judged_of m (length area) ≡ judged.Outside). e ∙ rw o)
-      (λ (j : judged_of m (length area) ≡ Fine m n) (p : ℕ) (d : read_area m n area ≡ damaged p). e ∙ rw (j, d))
-      (λ (j : judged_of m (length area) ≡ Fine m n) (c : Content) (w : read_area m n area ≡ whole c). e ∙ rw (j, w))
+      first_two m area done (number_in r) (λ (o : judged_of m (length area) ≡ None). e ∙ rw o)
+      (λ (j : judged_of m (length area) ≡ passed m n) (p : ℕ) (d : read_area m n area ≡ damaged p). e ∙ rw (j, d))
+      (λ (j : judged_of m (length area) ≡ passed m n) (c : Content) (w : read_area m n area ≡ whole c). e ∙ rw (j, w))
 
   -- 2 with the place of the area's damage
-  module _ (j : judged_of m (length area) ≡ Fine m n) (p : ℕ) (d : read_area m n area ≡ damaged p) (r : Begun) where
+  module _ (j : judged_of m (length area) ≡ passed m n) (p : ℕ) (d : read_area m n area ≡ damaged p) (r : Begun) where
     pub end-damaged : Begins area m.size forward (walk_end_of m area forward) r → values_in r ≡ p ∷ []
     unfolding walk_end_of
     end-damaged b = begins-values area m.size forward (walk_end_of m area forward) r b ∙ rw (j, d)
@@ -119,7 +117,7 @@ module _ (m : Measures) (area : List ℕ) (forward : Bool) where
     unfolding walk_from_of
     from-refusals =
         first_two m area (row 3 (WrongBytes m area given) (row 5 (NothingBeyond m area forward given) done)) (number_in r)
-        (λ (o : judged_of m (length area) ≡ judged.Outside). number_is ∙ rw o)
-        (λ (j : judged_of m (length area) ≡ Fine m n) (p : ℕ) (d : read_area m n area ≡ damaged p). number_is ∙ rw (j, d))
-        (λ (j : judged_of m (length area) ≡ Fine m n) (c : Content) (w : read_area m n area ≡ whole c).
+        (λ (o : judged_of m (length area) ≡ None). number_is ∙ rw o)
+        (λ (j : judged_of m (length area) ≡ passed m n) (p : ℕ) (d : read_area m n area ≡ damaged p). number_is ∙ rw (j, d))
+        (λ (j : judged_of m (length area) ≡ passed m n) (c : Content) (w : read_area m n area ≡ whole c).
         length-row c w (head_fine m given) refl (number_is ∙ rw (j, w)))

@@ -8,7 +8,8 @@ use lib.Seq.{split_at, get_or-take, get_or-drop}
 use lib.Dec.{eqb, ltb}
 use native.Mathlib.Omega.{arith}
 use native.Mathlib.Numerals.{add-one}
-use borrow.Author.Tests.{eq-eqb, ne_eqb, ltb-true, ltb-false, lt-ltb, le-ltb, lt-leb}
+use borrow.Author.Tests.{eq-eqb, ne_eqb, ltb-true, ltb-false, le-ltb, lt-leb}
+use Rattle.std.specs.Prelude.{Option, Some, None}
 use Rattle.fields.specs.Choice.{pick}
 use Rattle.fields.specs.Bytes.{part, number}
 use Rattle.fields.proofs.Splices.{part-part}
@@ -22,16 +23,15 @@ use Rattle.area.specs.Content.{Filled, Content, index_in, records_of}
 use Rattle.area.specs.Reading.{read_area, whole}
 use Rattle.area.proofs.Places.{data-ends, length-data}
 use Rattle.interval_walk.specs.declared.Spot.{Spot}
-use Rattle.interval_walk.specs.AidSpots.{spot, first_of, last_of, SpotOf}
+use Rattle.interval_walk.specs.AidSpots.{spot, first_of, last_of, SpotOf, StepTo}
 use Rattle.interval_walk.proofs.Standing.{stands-long, stands-inside}
 use Rattle.interval_walk.proofs.Stepping.{first-stands, first-none, last-stands, empty-displacement}
 use Rattle.index_walk.specs.declared.Edge.{Edge}
-use Rattle.index_walk.specs.declared.Met.TheVariants.{Entry}
-use Rattle.index_walk.specs.AidPasses.{edge, edge_first, pass_of}
+use Rattle.index_walk.specs.AidPasses.{edge, edge_first, pass_of, met}
 use Rattle.requests.specs.Walks.{items_of}
 use Rattle.requests.proofs.Items.{none, item-at}
 use Rattle.walk.specs.declared.Place.{Place}
-use Rattle.walk.specs.AidSteps.{end_place, placed_of, beyond_of, edge_past_of, spot_in, ahead_of, ahead_by, filled, filled_from, last_filled_of, behind_at, behind_of, record_of}
+use Rattle.walk.specs.AidSteps.{end_place, placed_of, placed_or, beyond_of, edge_past_of, spot_in, ahead_of, ahead_by, filled, filled_from, last_filled_of, behind_at, behind_of, record_of}
 use Rattle.walk.specs.AidStands.{nowhere, before, num_at, base_at, data_of, edge_at, StandsAt, Stood}
 use Rattle.walk.specs.declared.Filled.{Filled as Found}
 use Rattle.walk.proofs.Passing.{Passed, passed-at}
@@ -59,11 +59,15 @@ module _ (m : Measures) (n : ℕ) (area : List ℕ) (fits : Fits m n (length are
     pub placed-stands : (forward : Bool) (s : Spot) (o : ℕ) (e : Edge) → SpotOf m (data_of m area c i) forward s o → e ≡ pick forward (edge_at m n area (suc i)) (edge 0 0)
         → StandsAt m n area c forward (placed_of s (base_at m c i) i e) (before fs i + o)
     placed-stands forward s o e t q =
-        let l : 0 < s.len = stands-long m (data_of m area c i) held.reads forward s o t in
         let z : base_at m c i + s.start - base_at m c i ≡ s.start = omega arith in
         let y : spot (base_at m c i + s.start - base_at m c i) s.len s.left s.at ≡ s = ap (λ (x : ℕ). spot x s.len s.left s.at) z in
-        rw (ne_eqb s.len 0 (omega arith))
-        (record { inside = h; ordinal = o; item = refl; past = omega arith; spot = rw y t; next = q })
+        record { inside = h; ordinal = o; item = refl; past = omega arith; spot = rw y t; next = q }
+
+    -- so is one that a step there gives
+    pub placed-step : (forward : Bool) (other : Place) (x : Option Spot) (o : ℕ) (e : Edge) → StepTo m (data_of m area c i) forward x o → e ≡ pick forward (edge_at m n area (suc i)) (edge 0 0)
+        → StandsAt m n area c forward (placed_or other x (base_at m c i) i e) (before fs i + o)
+    placed-step forward other (Some s) o e t q = placed-stands forward s o e t q
+    placed-step forward other None o e t q = absurd t
 
   module _ (forward : Bool) (p : Place) (j : ℕ) (t : StandsAt m n area c forward p j) where
     abbrev i : ℕ
@@ -121,13 +125,13 @@ module _ (m : Measures) (n : ℕ) (area : List ℕ) (fits : Fits m n (length are
 
   -- ---- over entries
 
-  -- The last of the first i entries whose interval has records, with its interval's number and one; or none of them has.
-  pub data FoundTo (i : ℕ) (f : Found) : Type 0 where
-    nothing : f ≡ filled 0 0 → before fs i ≡ 0 → FoundTo i f
-    there : (k : ℕ) → k < i → f ≡ filled k (num_at c k + 1) → 0 < length (records_in (data_of m area c k)) → before fs i ≡ before fs (suc k) → FoundTo i f
+  -- The last of the first i entries whose interval has records, with its interval's number; or none of them has.
+  pub data FoundTo (i : ℕ) (f : Option Found) : Type 0 where
+    nothing : f ≡ None → before fs i ≡ 0 → FoundTo i f
+    there : (k : ℕ) → k < i → f ≡ Some (filled k (num_at c k)) → 0 < length (records_in (data_of m area c k)) → before fs i ≡ before fs (suc k) → FoundTo i f
 
   -- one entry more, without records
-  found-more : (i : ℕ) (f : Found) → before fs (i + 1) ≡ before fs i → FoundTo i f → FoundTo (i + 1) f
+  found-more : (i : ℕ) (f : Option Found) → before fs (i + 1) ≡ before fs i → FoundTo i f → FoundTo (i + 1) f
   found-more i f u (nothing e z) = nothing e (u ∙ z)
   found-more i f u (there k h e l z) = there k (omega arith) e l (u ∙ z)
 
@@ -168,29 +172,29 @@ module _ (m : Measures) (n : ℕ) (area : List ℕ) (fits : Fits m n (length are
           let x : suc i ≡ i + 1 = omega arith in
           rw (← y, ← x) again
 
-      met : (h : i < length fs) → Stood m n area c true (before fs (suc i)) (ahead_of k area m.size n (suc i) (edge_at m n area (suc i))) → (ws : List (List ℕ)) → records_in (data_of m area c i) ≡ ws
-          → end (ahead_by later area m.size n i (Entry (num_at c i) (passed i h).next (eqb (suc i) (length fs))))
-      met h again [] e =
+      one : (h : i < length fs) → Stood m n area c true (before fs (suc i)) (ahead_of k area m.size n (suc i) (edge_at m n area (suc i))) → (ws : List (List ℕ)) → records_in (data_of m area c i) ≡ ws
+          → end (ahead_by later area m.size n i (Some (met (num_at c i) (passed i h).next (eqb (suc i) (length fs)))))
+      one h again [] e =
           let d = held_at m n area fits c w i h in
-          let z : (first_of (data_of m area c i)).len ≡ 0 = first-none m (data_of m area c i) d.reads e in
+          let z : first_of (data_of m area c i) ≡ None = first-none m (data_of m area c i) d.reads e in
           rw (lt-leb n (num_at c i) d.within, z, edge-suc i h) (pass_on h (ap length (d.records ∙ e)) again)
-      met h again (x ∷ ws) e =
+      one h again (x ∷ ws) e =
           let d = held_at m n area fits c w i h in
-          let t : SpotOf m (data_of m area c i) true (first_of (data_of m area c i)) 0 = first-stands m (data_of m area c i) d.reads (omega (arith, ap length e)) in
-          let l : 0 < (first_of (data_of m area c i)).len = stands-long m (data_of m area c i) d.reads true (first_of (data_of m area c i)) 0 t in
-          let e : Edge = beyond_of (eqb (suc i) (length fs)) (passed i h).next in
-          let p : StandsAt m n area c true (placed_of (first_of (data_of m area c i)) (base_at m c i) i e) (before fs i + 0) = placed-stands i h true (first_of (data_of m area c i)) 0 e t (edge-suc i h) in
+          let t : StepTo m (data_of m area c i) true (first_of (data_of m area c i)) 0 = first-stands m (data_of m area c i) d.reads (omega (arith, ap length e)) in
+          let b : Edge = beyond_of (eqb (suc i) (length fs)) (passed i h).next in
+          let f : Place = placed_or (later b) (first_of (data_of m area c i)) (base_at m c i) i b in
+          let p : StandsAt m n area c true f (before fs i + 0) = placed-step i h true (later b) (first_of (data_of m area c i)) 0 b t (edge-suc i h) in
           let y : before fs i + 0 ≡ before fs i = omega arith in
-          rw (lt-leb n (num_at c i) d.within, lt-ltb 0 (first_of (data_of m area c i)).len l) (
+          rw (lt-leb n (num_at c i) d.within) (
             λ (q : before fs i < length (records_of fs)). rw y at p,
-            λ (q : length (records_of fs) ≤ before fs i). absurd (omega (arith, stands-few true (placed_of (first_of (data_of m area c i)) (base_at m c i) i e) (before fs i + 0) p)),
+            λ (q : length (records_of fs) ≤ before fs i). absurd (omega (arith, stands-few true f (before fs i + 0) p)),
           )
 
       go : (t : Bool) → ltb i (length fs) ≡ t → (i < length fs → Stood m n area c true (before fs (suc i)) (ahead_of k area m.size n (suc i) (edge_at m n area (suc i))))
           → end (pick (eqb (edge_at m n area i).right 0) end_place (ahead_by later area m.size n i (pass_of (width_for n) (index_in m area) (edge_at m n area i))))
       go true e again =
           let h : i < length fs = ltb-true i (length fs) e in
-          rw (ne_eqb (edge_at m n area i).right 0 (omega (arith, (passed i h).some)), (passed i h).met) (met h (again h) (records_in (data_of m area c i)) refl)
+          rw (ne_eqb (edge_at m n area i).right 0 (omega (arith, (passed i h).some)), (passed i h).met) (one h (again h) (records_in (data_of m area c i)) refl)
       go false e again =
           let z : i ≡ length fs = omega (arith, ltb-false i (length fs) e) in
           rw (eq-eqb (edge_at m n area i).right 0 (edge_none i some z))
@@ -206,7 +210,7 @@ module _ (m : Measures) (n : ℕ) (area : List ℕ) (fits : Fits m n (length are
       let a : (num_at c i + 2) * m.size - 4 ≡ base_at m c i + (m.size - 4) = omega (arith, fits-large fits) in
       rw (a, l) (sym (number-part 2 area (base_at m c i) m.size (m.size - 4) (omega (arith, fits-large fits))))
 
-  pub found-on : (k i : ℕ) (e : Edge) (f : Found) → i + k ≤ length fs → (0 < k → e ≡ edge_at m n area i) → FoundTo i f → FoundTo (i + k) (filled_from k area m.size n i e f)
+  pub found-on : (k i : ℕ) (e : Edge) (f : Option Found) → i + k ≤ length fs → (0 < k → e ≡ edge_at m n area i) → FoundTo i f → FoundTo (i + k) (filled_from k area m.size n i e f)
   unfolding filled_from
   found-on zero i e f few q t = let z : i + 0 ≡ i = omega arith in rw z t
   found-on (suc k) i e f few q t =
@@ -225,7 +229,7 @@ module _ (m : Measures) (n : ℕ) (area : List ℕ) (fits : Fits m n (length are
           let b : beyond_of false (passed i h).next ≡ edge_at m n area (suc i) = rw (ne_eqb (suc i) (length fs) (omega (arith, few, l))) at (edge-suc i h) in
           rw y b
 
-      go : (ws : List (List ℕ)) → records_in (data_of m area c i) ≡ ws → FoundTo (i + 1) (pick (eqb (number 2 area ((num_at c i + 2) * m.size - 4)) 0) f (filled i (num_at c i + 1)))
+      go : (ws : List (List ℕ)) → records_in (data_of m area c i) ≡ ws → FoundTo (i + 1) (pick (eqb (number 2 area ((num_at c i + 2) * m.size - 4)) 0) f (Some (filled i (num_at c i))))
       go [] e =
           let d = held_at m n area fits c w i h in
           let y : number 2 area ((num_at c i + 2) * m.size - 4) ≡ 0 = displaced i h ∙ (empty-displacement m (data_of m area c i) d.reads).0 e in
@@ -244,18 +248,18 @@ module _ (m : Measures) (n : ℕ) (area : List ℕ) (fits : Fits m n (length are
   pub behind-stood : (k : ℕ) → k ≤ length fs → Stood m n area c false (before fs k) (behind_of area m.size n k)
   behind-stood k few =
       let y : 0 + k ≡ k = omega arith in
-      let t : FoundTo (0 + k) (last_filled_of area m.size n k) = found-on k 0 (edge_first (index_in m area)) (filled 0 0) (omega arith) (λ (l : 0 < k). edge-start) (nothing refl (before-zero fs)) in
+      let t : FoundTo (0 + k) (last_filled_of area m.size n k) = found-on k 0 (edge_first (index_in m area)) None (omega arith) (λ (l : 0 < k). edge-start) (nothing refl (before-zero fs)) in
       go (last_filled_of area m.size n k) (rw y at t)
     where
-      go : (f : Found) → FoundTo k f → Stood m n area c false (before fs k) (behind_at area m.size f)
+      go : (f : Option Found) → FoundTo k f → Stood m n area c false (before fs k) (behind_at area m.size f)
       go f (nothing e z) = rw e (λ (i : ℕ) (q : suc i ≡ before fs k). absurd (omega (arith, z)), λ (q : before fs k ≡ 0). refl)
       go f (there i h e l z) =
           let b : i < length fs = omega arith in
           let d = held_at m n area fits c w i b in
           let v : before fs (suc i) ≡ before fs i + length (records_in (data_of m area c i)) = before-suc fs i b ∙ ap (λ (rs : List (List ℕ)). before fs i + length rs) d.records in
-          let s : SpotOf m (data_of m area c i) false (last_of (data_of m area c i)) (length (records_in (data_of m area c i)) - 1) = last-stands m (data_of m area c i) d.reads l in
-          let p : StandsAt m n area c false (placed_of (last_of (data_of m area c i)) (base_at m c i) i (edge 0 0)) (before fs i + (length (records_in (data_of m area c i)) - 1)) = placed-stands i b false (last_of (data_of m area c i)) (length (records_in (data_of m area c i)) - 1) (edge 0 0) s refl in
-          rw (e, ne_eqb (num_at c i + 1) 0 (omega arith)) (
+          let s : StepTo m (data_of m area c i) false (last_of (data_of m area c i)) (length (records_in (data_of m area c i)) - 1) = last-stands m (data_of m area c i) d.reads l in
+          let p : StandsAt m n area c false (placed_or end_place (last_of (data_of m area c i)) (base_at m c i) i (edge 0 0)) (before fs i + (length (records_in (data_of m area c i)) - 1)) = placed-step i b false end_place (last_of (data_of m area c i)) (length (records_in (data_of m area c i)) - 1) (edge 0 0) s refl in
+          rw e (
             λ (j : ℕ) (q : suc j ≡ before fs k). let u : before fs i + (length (records_in (data_of m area c i)) - 1) ≡ j = omega (arith, z, v, q, l) in rw u at p,
             λ (q : before fs k ≡ 0). absurd (omega (arith, z, v, l)),
           )

@@ -2,7 +2,7 @@
 use mathlib.Core.Path.{◌≡◌}
 use Rattle.fields.proofs.Choices.{agree}
 use Rattle.walk.specs.declared.Place.{Place}
-use Rattle.walk.specs.declared.Begun.{Begun}
+use Rattle.walk.specs.AidGives.{Begun}
 use Rattle.walk.proofs.walk_next.Reads as walk-next
 use Rattle.walk.proofs.walk_record.Reads as walk-record
 use Rattle.walk.proofs.walk_from.Reads as walk_from

@@ -7,25 +7,25 @@ use lib.ListN.{length, take}
 use lib.Seq.{length-take-le}
 use lib.Dec.{ltb}
 use native.Mathlib.Omega.{arith}
-use native.Mathlib.Nat.{le-div_iff_mul-le, mul-le-mul_left, mul-le-mul_right, div-mul-le_self}
+use native.Mathlib.Nat.{le-div_iff_mul-le, mul-le-mul_right, div-mul-le_self}
 use borrow.Author.Tests.{ltb-false, eq-eqb, ne_eqb, lt-ltb, le-ltb, lt-leb, le-leb}
 use denote.Ref.{Bor}
+use Rattle.std.specs.Prelude.{Option, Some, None}
 use Rattle.fields.specs.Choice.{pick, either}
 use Rattle.fields.specs.Bytes.{Octets, part, number}
 use Rattle.fields.proofs.Numbers.{number-below}
 use Rattle.measures.specs.Judgement.{width_for}
 use Rattle.measures.specs.declared.Measures.{Measures}
-use Rattle.interval.specs.Reading.{records_in, Readable}
+use Rattle.interval.specs.Reading.{displacement, records_in, Readable}
 use Rattle.interval_walk.specs.declared.Spot.{Spot}
 use Rattle.interval_walk.specs.AidSpots.{first_of, last_of, after_of, before_of, SpotOf}
-use Rattle.interval_walk.proofs.Landing.{last-start}
+use Rattle.interval_walk.proofs.Landing.{Starts, last-start}
 use Rattle.interval_walk.proofs.Stepping.{first-stands, first-none, after-stands, after_none}
 use Rattle.index_walk.specs.declared.Edge.{Edge}
-use Rattle.index_walk.specs.declared.Met.TheVariants.{Entry, Nothing}
-use Rattle.index_walk.specs.AidPasses.{edge, edge_first, pass_of}
+use Rattle.index_walk.specs.AidPasses.{edge, edge_first, pass_of, met}
 use Rattle.walk.specs.declared.Place.{Place}
 use Rattle.walk.specs.declared.Filled.{Filled}
-use Rattle.walk.specs.AidSteps.{end_place, count_in, index_at, data_at, placed_of, beyond_of, edge_past_of, ahead_of, filled, filled_from, last_filled_of, behind_at, along_to, along_of, edge_in, spot_in, leave_in, leave_of, next_of, outside, Shown, behind_of, end_in}
+use Rattle.walk.specs.AidSteps.{end_place, count_in, index_at, data_at, placed_of, placed_or, Among, beyond_of, edge_past_of, ahead_of, filled, filled_from, along_to, along_of, edge_in, spot_in, leave_in, leave_of, next_of, outside, Shown, behind_of, end_in}
 use Rattle.walk.specs.AidStands.{FirstFrom}
 
 -- ---- how many intervals
@@ -45,13 +45,13 @@ module _ (long size : ℕ) where
 
 -- ---- a record of an interval
 
-module _ (s : Spot) (base i : ℕ) (e : Edge) where
-  pub placed-none : s.len ≡ 0 → end_place ≡ placed_of s base i e
-  placed-none h = rw (eq-eqb s.len 0 h)
+-- there is one, or none
+module _ (other : Place) (x : Option Spot) (base i : ℕ) (e : Edge) where
+  pub or-here : (s : Spot) → x ≡ Some s → placed_of s base i e ≡ placed_or other x base i e
+  or-here s is = rw is
 
-  pub placed-is : (s.len ≡ 0 → ⊥)
-      → record { entry = i; start = base + s.start; length = s.len; left = s.left; at = s.at; right = e.right; end = e.end } ≡ placed_of s base i e
-  placed-is h = rw (ne_eqb s.len 0 h)
+  pub or-other : x ≡ None → other ≡ placed_or other x base i e
+  or-other is = rw is
 
 module _ (area : List ℕ) (p : Place) where
   pub place-past : length area < p.start → outside area p ≡ true
@@ -81,10 +81,10 @@ module _ (m : Measures) (ci : List ℕ) (r : Readable m ci) where
       go [] e = refl
       go (x ∷ rs) e = absurd (omega arith)
 
-  pub from_first : (o : ℕ) → o ≡ 0 → (s : Spot) → s ≡ first_of ci → FirstFrom m ci o s
+  pub from_first : (o : ℕ) → o ≡ 0 → (s : Option Spot) → s ≡ first_of ci → FirstFrom m ci o s
   from_first o z s e = rw (z, e) (λ (h : 0 < length (records_in ci)). first-stands m ci r h, λ (h : 0 ≡ length (records_in ci)). first-none m ci r (none-there (sym h)))
 
-  pub from-after : (o : ℕ) → 0 < o → (t : Spot) → SpotOf m ci true t (o - 1) → (s : Spot) → s ≡ after_of ci t → FirstFrom m ci o s
+  pub from-after : (o : ℕ) → 0 < o → (t : Spot) → SpotOf m ci true t (o - 1) → (s : Option Spot) → s ≡ after_of ci t → FirstFrom m ci o s
   from-after o l t u s e =
       let z : o - 1 + 1 ≡ o = omega arith in
       rw e (
@@ -96,7 +96,7 @@ module _ (m : Measures) (ci : List ℕ) (r : Readable m ci) where
 
 module _ (w : ℕ) (ib : List ℕ) where
   -- no further than where none can be read
-  edge-stops : (i k : ℕ) → pass_of w ib (edge_past_of w ib i) ≡ Nothing → edge_past_of w ib (i + k) ≡ edge_past_of w ib i
+  edge-stops : (i k : ℕ) → pass_of w ib (edge_past_of w ib i) ≡ None → edge_past_of w ib (i + k) ≡ edge_past_of w ib i
   unfolding edge_past_of
   edge-stops i zero e = let z : i + 0 ≡ i = omega arith in rw z
   edge-stops i (suc k) e =
@@ -107,12 +107,12 @@ module _ (w : ℕ) (ib : List ℕ) where
   unfolding edge_past_of
   edge-start = refl
 
-  pub stops : (i k : ℕ) (e : Edge) → e ≡ edge_past_of w ib i → i ≤ k → pass_of w ib e ≡ Nothing → e ≡ edge_past_of w ib k
+  pub stops : (i k : ℕ) (e : Edge) → e ≡ edge_past_of w ib i → i ≤ k → pass_of w ib e ≡ None → e ≡ edge_past_of w ib k
   stops i k e is l none =
       let z : i + (k - i) ≡ k = omega arith in
       is ∙ sym (edge-stops i (k - i) (rw is at none)) ∙ ap (edge_past_of w ib) z
 
-  pub edge_on : (i : ℕ) (e : Edge) → e ≡ edge_past_of w ib i → (num : ℕ) (next : Edge) (last : Bool) → pass_of w ib e ≡ Entry num next last → beyond_of last next ≡ edge_past_of w ib (i + 1)
+  pub edge_on : (i : ℕ) (e : Edge) → e ≡ edge_past_of w ib i → (num : ℕ) (next : Edge) (last : Bool) → pass_of w ib e ≡ Some (met num next last) → beyond_of last next ≡ edge_past_of w ib (i + 1)
   unfolding edge_past_of
   edge_on i e is num next last met = let z : i + 1 ≡ suc i = omega arith in rw (z, ← is, met)
 
@@ -150,27 +150,29 @@ module _ (area : List ℕ) (size n i : ℕ) (e : Edge) where
     ahead-ended h = rw (one_less, eq-eqb e.right 0 h)
 
     module _ (some : e.right ≡ 0 → ⊥) where
-      pub ahead-nothing : pass_of (width_for n) (index_at size area) e ≡ Nothing → end_place ≡ ahead_of (n - i) area size n i e
+      pub ahead-nothing : pass_of (width_for n) (index_at size area) e ≡ None → end_place ≡ ahead_of (n - i) area size n i e
       unfolding ahead_of
       ahead-nothing h = rw (one_less, ne_eqb e.right 0 some, h)
 
-      module _ (num : ℕ) (next : Edge) (last : Bool) (met : pass_of (width_for n) (index_at size area) e ≡ Entry num next last) where
+      module _ (num : ℕ) (next : Edge) (last : Bool) (met : pass_of (width_for n) (index_at size area) e ≡ Some (met num next last)) where
         pub ahead-far : n ≤ num → end_place ≡ ahead_of (n - i) area size n i e
         unfolding ahead_of
         ahead-far h = rw (one_less, ne_eqb e.right 0 some, met, le-leb n num h)
 
-        module _ (h : num < n) (s : Spot) (is : s ≡ first_of (data_at size area num)) (b : Edge) (past : b ≡ beyond_of last next) where
-          pub ahead-here : 0 < s.len → placed_of s ((num + 1) * size) i b ≡ ahead_of (n - i) area size n i e
+        module _ (h : num < n) (x : Option Spot) (is : x ≡ first_of (data_at size area num)) (b : Edge) (past : b ≡ beyond_of last next) where
+          ahead-in : ahead_of (n - i) area size n i e ≡ placed_or (ahead_of (n - (i + 1)) area size n (i + 1) b) x ((num + 1) * size) i b
           unfolding ahead_of
-          ahead-here k = rw (is, past) (rw (one_less, ne_eqb e.right 0 some, met, lt-leb n num h, lt-ltb 0 (first_of (data_at size area num)).len (rw is at k)))
+          ahead-in = rw (one_less, ne_eqb e.right 0 some, met, lt-leb n num h, is, past)
 
-          pub ahead-on : s.len ≤ 0 → ahead_of (n - i) area size n i e ≡ ahead_of (n - (i + 1)) area size n (i + 1) b
-          unfolding ahead_of
-          ahead-on k = rw (one_less, ne_eqb e.right 0 some, met, lt-leb n num h, le-ltb 0 (first_of (data_at size area num)).len (rw is at k), past)
+          pub ahead-here : (s : Spot) → x ≡ Some s → placed_of s ((num + 1) * size) i b ≡ ahead_of (n - i) area size n i e
+          ahead-here s k = or-here _ x ((num + 1) * size) i b s k ∙ sym ahead-in
+
+          pub ahead-on : x ≡ None → ahead_of (n - i) area size n i e ≡ ahead_of (n - (i + 1)) area size n (i + 1) b
+          ahead-on k = ahead-in ∙ sym (or-other _ x ((num + 1) * size) i b k)
 
 -- ---- the last entry with records
 
-module _ (area : List ℕ) (size n i k : ℕ) (e : Edge) (f : Filled) where
+module _ (area : List ℕ) (size n i k : ℕ) (e : Edge) (f : Option Filled) where
   pub filled_none : k ≤ i → f ≡ filled_from (k - i) area size n i e f
   unfolding filled_from
   filled_none h = let z : k - i ≡ 0 = omega arith in rw z
@@ -179,18 +181,18 @@ module _ (area : List ℕ) (size n i k : ℕ) (e : Edge) (f : Filled) where
     one_fewer : k - i ≡ suc (k - (i + 1))
     one_fewer = omega arith
 
-    pub filled-nothing : pass_of (width_for n) (index_at size area) e ≡ Nothing → f ≡ filled_from (k - i) area size n i e f
+    pub filled-nothing : pass_of (width_for n) (index_at size area) e ≡ None → f ≡ filled_from (k - i) area size n i e f
     unfolding filled_from
     filled-nothing h = rw (one_fewer, h)
 
-    module _ (num : ℕ) (next : Edge) (last : Bool) (met : pass_of (width_for n) (index_at size area) e ≡ Entry num next last) where
+    module _ (num : ℕ) (next : Edge) (last : Bool) (met : pass_of (width_for n) (index_at size area) e ≡ Some (met num next last)) where
       pub filled-far : n ≤ num → f ≡ filled_from (k - i) area size n i e f
       unfolding filled_from
       filled-far h = rw (one_fewer, met, le-leb n num h)
 
-      module _ (h : num < n) (x : ℕ) (is : x ≡ number 2 area ((num + 2) * size - 4)) (g : Filled) where
+      module _ (h : num < n) (x : ℕ) (is : x ≡ number 2 area ((num + 2) * size - 4)) (g : Option Filled) where
         -- an interval with records, and one without
-        pub filled-here : (x ≡ 0 → ⊥) → g ≡ filled i (num + 1) → filled_from (k - i) area size n i e f ≡ filled_from (k - (i + 1)) area size n (i + 1) next g
+        pub filled-here : (x ≡ 0 → ⊥) → g ≡ Some (filled i num) → filled_from (k - i) area size n i e f ≡ filled_from (k - (i + 1)) area size n (i + 1) next g
         unfolding filled_from
         filled-here d q = rw (one_fewer, met, lt-leb n num h, ← is, ne_eqb x 0 d, q)
 
@@ -199,18 +201,12 @@ module _ (area : List ℕ) (size n i k : ℕ) (e : Edge) (f : Filled) where
         filled-empty d q = rw (one_fewer, met, lt-leb n num h, ← is, eq-eqb x 0 d, q)
 
         -- its interval is one of n
-        pub filled-few : g ≡ filled i (num + 1) → g.place ≤ n
-        filled-few q = rw q (omega arith)
+        pub filled-few : g ≡ Some (filled i num) → Among n g
+        filled-few q = rw q h
 
-pub filled-start : (area : List ℕ) (size n k : ℕ) (e : Edge) → e ≡ edge_first (index_at size area) → last_filled_of area size n k ≡ filled_from (k - 0) area size n 0 e (filled 0 0)
-filled-start area size n k e is = let z : k - 0 ≡ k = omega arith in rw (z, is)
-
-module _ (area : List ℕ) (size : ℕ) (f : Filled) where
-  pub behind-none : f.place ≡ 0 → end_place ≡ behind_at area size f
-  behind-none h = rw (eq-eqb f.place 0 h)
-
-  pub behind-is : (f.place ≡ 0 → ⊥) → (s : Spot) → s ≡ last_of (part area (f.place * size) size) → placed_of s (f.place * size) f.entry (edge 0 0) ≡ behind_at area size f
-  behind-is h s e = rw (ne_eqb f.place 0 h, e)
+-- its interval is one of n
+pub among-few : (n : ℕ) (x : Option Filled) (f : Filled) → Among n x → x ≡ Some f → f.number < n
+among-few n x f a e = rw e at a
 
 -- by the direction
 pub along-forward : (long : ℕ) (forward : Bool) (p q : Place) → forward ≡ true → q ≡ along_of long true p → q ≡ along_of long forward p
@@ -236,13 +232,13 @@ module _ (size n long num : ℕ) (inside : (n + 1) * size ≤ long) (h : num < n
 pub index-long : (size n : ℕ) (area : List ℕ) → (n + 1) * size ≤ length area → size ≡ length (take size area)
 index-long size n area h = sym (length-take-le size area (omega arith))
 
--- where the last record of an interval begins, whatever its bytes are
-pub last-starts : (ci : List ℕ) → Octets ci → (last_of ci).start < 65536
-last-starts ci o = omega (arith, last-start ci, number-below 2 ci (length ci - 4) o)
+-- where a record that a step gives begins
+pub starts-at : (n : ℕ) (x : Option Spot) (s : Spot) → Starts n x → x ≡ Some s → s.start ≤ n
+starts-at n x s h e = rw e at h
 
--- there are fewer intervals than bytes
-pub intervals-few : (size n long : ℕ) → 512 ≤ size → (n + 1) * size ≤ long → n + 1 ≤ long
-intervals-few size n long h k = let l : 1 ≤ size = omega arith in omega (arith, mul-le-mul_left (n + 1) l)
+-- where the last record of an interval begins, whatever its bytes are
+pub last-starts : (ci : List ℕ) → Octets ci → (s : Spot) → last_of ci ≡ Some s → s.start < 65536
+last-starts ci o s e = omega (arith, starts-at (displacement ci) (last_of ci) s (last-start ci) e, number-below 2 ci (length ci - 4) o)
 
 -- an interval whose number and one is so much ends within the area
 pub place-ends : (size n long place : ℕ) → (n + 1) * size ≤ long → place ≤ n → place * size + size ≤ long
@@ -305,17 +301,23 @@ module _ (area : List ℕ) (size n : ℕ) (forward : Bool) (p : Place) (count : 
       unfolding leave_of
       leave-in = rw (← count, lt-leb n p.entry h, ne_eqb (p.start / size) 0 some, le-ltb n (p.start / size) few)
 
-      module _ (s : Spot) where
-        module _ (f : forward ≡ true) (is : s ≡ after_of (part area (p.start / size * size) size) (spot_in (p.start / size * size) p)) where
-          pub leave-after : 0 < s.len → placed_of s (p.start / size * size) p.entry (edge_in p) ≡ leave_of area size forward p
-          leave-after l = sym (rw f (rw (← is, lt-ltb 0 s.len l))) ∙ leave-in
+      module _ (x : Option Spot) where
+        module _ (f : forward ≡ true) (is : x ≡ after_of (part area (p.start / size * size) size) (spot_in (p.start / size * size) p)) where
+          after-in : placed_or (ahead_of (n - (p.entry + 1)) area size n (p.entry + 1) (edge_in p)) x (p.start / size * size) p.entry (edge_in p) ≡ leave_in area size n forward p (p.start / size * size)
+          after-in = rw (f, is)
 
-          pub leave-ahead : s.len ≤ 0 → ahead_of (n - (p.entry + 1)) area size n (p.entry + 1) (edge_in p) ≡ leave_of area size forward p
-          leave-ahead l = sym (rw f (rw (← is, le-ltb 0 s.len l))) ∙ leave-in
+          pub leave-after : (s : Spot) → x ≡ Some s → placed_of s (p.start / size * size) p.entry (edge_in p) ≡ leave_of area size forward p
+          leave-after s k = or-here _ x (p.start / size * size) p.entry (edge_in p) s k ∙ after-in ∙ leave-in
 
-        module _ (f : forward ≡ false) (is : s ≡ before_of (part area (p.start / size * size) size) (spot_in (p.start / size * size) p)) where
-          pub leave-before : 0 < s.len → placed_of s (p.start / size * size) p.entry (edge_in p) ≡ leave_of area size forward p
-          leave-before l = sym (rw f (rw (← is, lt-ltb 0 s.len l))) ∙ leave-in
+          pub leave-ahead : x ≡ None → ahead_of (n - (p.entry + 1)) area size n (p.entry + 1) (edge_in p) ≡ leave_of area size forward p
+          leave-ahead k = or-other _ x (p.start / size * size) p.entry (edge_in p) k ∙ after-in ∙ leave-in
 
-          pub leave-behind : s.len ≤ 0 → behind_of area size n p.entry ≡ leave_of area size forward p
-          leave-behind l = sym (rw f (rw (← is, le-ltb 0 s.len l))) ∙ leave-in
+        module _ (f : forward ≡ false) (is : x ≡ before_of (part area (p.start / size * size) size) (spot_in (p.start / size * size) p)) where
+          before-in : placed_or (behind_of area size n p.entry) x (p.start / size * size) p.entry (edge_in p) ≡ leave_in area size n forward p (p.start / size * size)
+          before-in = rw (f, is)
+
+          pub leave-before : (s : Spot) → x ≡ Some s → placed_of s (p.start / size * size) p.entry (edge_in p) ≡ leave_of area size forward p
+          leave-before s k = or-here _ x (p.start / size * size) p.entry (edge_in p) s k ∙ before-in ∙ leave-in
+
+          pub leave-behind : x ≡ None → behind_of area size n p.entry ≡ leave_of area size forward p
+          leave-behind k = or-other _ x (p.start / size * size) p.entry (edge_in p) k ∙ before-in ∙ leave-in

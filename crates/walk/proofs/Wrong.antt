@@ -1,5 +1,6 @@
 -- What a walk gives is fixed by its steps, so that a walker which gives other records breaks the contracts: on an area written out, one that stops at an interval
 -- without records, one that goes downwards from the first record that begins with the bytes given, and one that gives the first record twice.
+use Rattle.std.specs.Prelude.{Ok}
 use Prim.Native.Nat.{ℕ, ◌<◌}
 use mathlib.Core.Path.{◌≡◌, refl, ◌∙◌, sym, ap}
 use mathlib.Core.Bool.{Bool, true, false}
@@ -10,9 +11,8 @@ use native.Mathlib.Omega.{arith}
 use Rattle.fields.specs.Bytes.{number, digits}
 use Rattle.fields.specs.Order.{order_of, common}
 use Rattle.fields.specs.Lists.{sum, concat, every}
-use Rattle.measures.specs.Judgement.{Fits, width_for, judged_of}
+use Rattle.measures.specs.Judgement.{Fits, width_for, judged_of, passed}
 use Rattle.measures.specs.Sizes.{any_below, permitted_size}
-use Rattle.measures.specs.declared.Judged.TheVariants.{Fine}
 use Rattle.measures.proofs.Fine.{accepted}
 use Rattle.room.specs.Room.{rdf_count, push, groups, need}
 use Rattle.interval.specs.Records.{ascend_from, ascending}
@@ -36,8 +36,7 @@ use Rattle.area.specs.Example.{depot}
 use Rattle.requests.specs.Walks.{Item, giving, items_from, items_of, kept, backwards, walk_of, walk_from_of, walk_end_of}
 use Rattle.requests.proofs.Items.{none}
 use Rattle.walk.specs.declared.Place.{Place}
-use Rattle.walk.specs.declared.Begun.TheVariants.{At}
-use Rattle.walk.specs.AidGives.{Gives, Begins}
+use Rattle.walk.specs.AidGives.{Begun, Gives, Begins}
 use Rattle.walk.specs.Wrong.{stopping, from_first, twice, gapped, gapped_bytes}
 use Rattle.walk.proofs.Walking.{gives-long}
 
@@ -84,7 +83,7 @@ gapped-fits =
       few = omega arith;
     }
 
-gapped-judged : judged_of depot (length gapped_bytes) ≡ Fine depot 3
+gapped-judged : judged_of depot (length gapped_bytes) ≡ passed depot 3
 gapped-judged = accepted depot (length gapped_bytes) 3 gapped-fits
 
 end-gives : (forward : Bool) → walk_end_of depot gapped_bytes forward ≡ giving (walk_of depot forward [] gapped)
@@ -96,13 +95,13 @@ unfolding walk_from_of kept items_of items_from backwards order_of
 from_gives = rw (gapped-judged, gapped-sound)
 
 -- a walk that has begun there, and what its steps may give
-begun-gives : (forward : Bool) (is : List Item) (p : Place) → Begins gapped_bytes 512 forward (giving is) (At p) → Gives gapped_bytes 512 forward is p
-begun-gives forward is p b = let e : p ≡ b.0 = let a : At p ≡ At b.0 = b.1 in cc in rw e b.2
+begun-gives : (forward : Bool) (is : List Item) (p : Place) → Begins gapped_bytes 512 forward (giving is) (Ok p) → Gives gapped_bytes 512 forward is p
+begun-gives forward is p b = let e : p ≡ b.0 = let a : ◌≡◌ {A = Begun} (Ok p) (Ok b.0) = b.1 in cc in rw e b.2
 
 -- ---- the three walkers
 
 -- One that stops at an interval without records misses those behind it.
-pub stopping-wrong : (p : Place) → Begins gapped_bytes 512 true (walk_end_of depot gapped_bytes true) (At p) → Gives gapped_bytes 512 true (stopping depot gapped.filled) p → ⊥
+pub stopping-wrong : (p : Place) → Begins gapped_bytes 512 true (walk_end_of depot gapped_bytes true) (Ok p) → Gives gapped_bytes 512 true (stopping depot gapped.filled) p → ⊥
 unfolding stopping kept items_of items_from order_of
 stopping-wrong p b g =
     let is : List Item = walk_of depot true [] gapped in
@@ -111,7 +110,7 @@ stopping-wrong p b g =
     omega arith
 
 -- One that goes downwards from the first record that begins with the bytes given misses the others that do.
-pub from-first-wrong : (p : Place) → Begins gapped_bytes 512 false (walk_from_of depot gapped_bytes false (0x41 ∷ [])) (At p)
+pub from-first-wrong : (p : Place) → Begins gapped_bytes 512 false (walk_from_of depot gapped_bytes false (0x41 ∷ [])) (Ok p)
     → Gives gapped_bytes 512 false (from_first depot (0x41 ∷ []) gapped) p → ⊥
 unfolding lower records_of kept items_of items_from backwards order_of
 from-first-wrong p b g =
@@ -121,7 +120,7 @@ from-first-wrong p b g =
     omega arith
 
 -- One that gives the first record twice gives one too many.
-pub twice-wrong : (p : Place) → Begins gapped_bytes 512 true (walk_end_of depot gapped_bytes true) (At p) → Gives gapped_bytes 512 true (twice (walk_of depot true [] gapped)) p → ⊥
+pub twice-wrong : (p : Place) → Begins gapped_bytes 512 true (walk_end_of depot gapped_bytes true) (Ok p) → Gives gapped_bytes 512 true (twice (walk_of depot true [] gapped)) p → ⊥
 unfolding kept items_of items_from order_of
 twice-wrong p b g =
     let is : List Item = walk_of depot true [] gapped in

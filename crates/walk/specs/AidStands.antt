@@ -1,9 +1,8 @@
 -- Aids: where a walk stands in a sound area. `walk_of` of crate requests says which records come: document 02, L1.
-use Rattle.std.specs.Prelude.{ℕ, suc, ◌+◌, ◌-◌, ◌*◌, ◌≤◌, ◌<◌, ◌≡◌, Bool, true, false, List, [], length, get_or, take}
+use Rattle.std.specs.Prelude.{ℕ, suc, ◌+◌, ◌-◌, ◌*◌, ◌≤◌, ◌<◌, ◌≡◌, Bool, true, false, List, [], length, get_or, take, Option, None, Ok, Err}
 use Rattle.fields.specs.Choice.{pick}
-use Rattle.measures.specs.Judgement.{width_for, judged_of}
+use Rattle.measures.specs.Judgement.{width_for, judged_of, passed}
 use Rattle.measures.specs.declared.Measures.{Measures}
-use Rattle.measures.specs.declared.Judged.TheVariants.{Fine}
 use Rattle.interval.specs.Reading.{records_in, displacement}
 use Rattle.interval.specs.Search.{lower, Within}
 use Rattle.interval.specs.declared.Found.{Found}
@@ -14,18 +13,15 @@ use Rattle.area.specs.Content.{Filled, Content, index_in, data_in, records_of}
 use Rattle.area.specs.Reading.{read_area, whole}
 use Rattle.area_find.specs.declared.KeyPlace.{KeyPlace}
 use Rattle.interval_walk.specs.declared.Spot.{Spot}
-use Rattle.interval_walk.specs.AidSpots.{SpotOf}
+use Rattle.interval_walk.specs.AidSpots.{SpotOf, StepTo}
 use Rattle.index_walk.specs.declared.Edge.{Edge}
 use Rattle.index_walk.specs.AidPasses.{edge}
 use Rattle.requests.specs.Walks.{Walk, refused_with, giving, walk_from_of}
 use Rattle.requests.proofs.Walks.{pad, reached}
-use Rattle.opening.specs.AidOpened.{opened_of}
-use Rattle.opening.specs.declared.Opened.{Opened}
-use Rattle.opening.specs.declared.Opened.TheVariants as opened
+use Rattle.opening.specs.AidOpened.{Opened, opened_of}
 use Rattle.walk.specs.AidSteps.{end_place, edge_past_of, edge_in, spot_in, end_in, steps_from}
 use Rattle.walk.specs.declared.Place.{Place}
-use Rattle.walk.specs.declared.Begun.{Begun}
-use Rattle.walk.specs.declared.Begun.TheVariants.{At, Refused}
+use Rattle.walk.specs.AidGives.{Begun}
 
 -- no entry
 abbrev pub nowhere : Filled
@@ -86,8 +82,8 @@ upto_found (found.At i start len) = i + 1
 upto_found (found.Gap i start) = i
 
 -- the record of an ordinal, or none past the last
-abbrev pub FirstFrom : Measures → List ℕ → ℕ → Spot → Type 0
-FirstFrom m ci o s = (o < length (records_in ci) → SpotOf m ci true s o) × (o ≡ length (records_in ci) → s.len ≡ 0)
+abbrev pub FirstFrom : Measures → List ℕ → ℕ → Option Spot → Type 0
+FirstFrom m ci o s = (o < length (records_in ci) → StepTo m ci true s o) × (o ≡ length (records_in ci) → s ≡ None)
 
 -- of all records, how many lie before the first at or above the bytes given; how many are at or below them
 abbrev pub begins_from : Measures → Bool → List ℕ → List (List ℕ) → ℕ
@@ -97,21 +93,21 @@ begins_from m false given rs = reached m (pad m.key 255 given) rs
 -- A walk that begins at a place begins at the one for that.
 abbrev pub BeginsAt : Measures → List ℕ → Bool → List ℕ → Begun → Type 0
 BeginsAt m area forward given r =
-    (p : Place) → r ≡ At p → (n : ℕ) → judged_of m (length area) ≡ Fine m n
+    (p : Place) → r ≡ Ok p → (n : ℕ) → judged_of m (length area) ≡ passed m n
     → StoodIn m n area forward (λ (c : Content). begins_from m forward given (records_of c.filled)) p
 
 -- what a walk from an end begins with, by how the area was opened
 abbrev pub ended_by : List ℕ → Bool → Opened → Begun
-ended_by area forward (opened.Refused a) = Refused a
-ended_by area forward (opened.Whole m n records free) = At (end_in area m.size n free forward)
+ended_by area forward (Err a) = Err a
+ended_by area forward (Ok w) = Ok (end_in area w.measures.size w.count w.free forward)
 
 -- what a walk from the bytes of a key begins with: the refusal; or the place where the walk from that end stands
 -- once it has passed the records that this one leaves out
 abbrev pub begun_by : List ℕ → Bool → Opened → Walk → Begun
-begun_by area forward o (refused_with a) = Refused a
-begun_by area forward (opened.Refused a) (giving items) = Refused a
-begun_by area forward (opened.Whole m n records free) (giving items) =
-    At (steps_from (records - length items) area m.size forward (end_in area m.size n free forward))
+begun_by area forward o (refused_with a) = Err a
+begun_by area forward (Err a) (giving items) = Err a
+begun_by area forward (Ok w) (giving items) =
+    Ok (steps_from (w.records - length items) area w.measures.size forward (end_in area w.measures.size w.count w.free forward))
 
 abbrev pub begun_from : Measures → List ℕ → Bool → List ℕ → Begun
 begun_from m area forward given = begun_by area forward (opened_of m area) (walk_from_of m area forward given)

@@ -1,5 +1,5 @@
 -- Aids: the steps of a walk for any bytes, any size and any place. What is believed of them is said in `walk-gives`, over `walk_of` of crate requests: document 02, L1.
-use Rattle.std.specs.Prelude.{ℕ, zero, suc, ◌+◌, ◌-◌, ◌*◌, ◌/◌, ◌≡◌, Bool, true, false, List, [], length, take, eqb, leb, ltb}
+use Rattle.std.specs.Prelude.{ℕ, zero, suc, ◌+◌, ◌-◌, ◌*◌, ◌/◌, ◌<◌, ◌≡◌, Bool, true, false, Option, Some, None, List, [], length, take, eqb, leb, ltb}
 use Rattle.std.specs.Borrow.{Bor}
 use Rattle.fields.specs.Choice.{pick, either}
 use Rattle.fields.specs.Bytes.{number, part}
@@ -8,7 +8,6 @@ use Rattle.interval_walk.specs.declared.Spot.{Spot}
 use Rattle.interval_walk.specs.AidSpots.{spot, first_of, last_of, after_of, before_of}
 use Rattle.index_walk.specs.declared.Edge.{Edge}
 use Rattle.index_walk.specs.declared.Met.{Met}
-use Rattle.index_walk.specs.declared.Met.TheVariants.{Entry, Nothing}
 use Rattle.index_walk.specs.AidPasses.{edge, edge_first, pass_of}
 use Rattle.walk.specs.declared.Place.{Place}
 use Rattle.walk.specs.declared.Filled.{Filled}
@@ -31,17 +30,21 @@ data_at size area k = part area ((k + 1) * size) size
 -- a record of the interval that begins at a byte of the area
 abbrev pub placed_of : Spot → ℕ → ℕ → Edge → Place
 placed_of s base entry next =
-    pick (eqb s.len 0) end_place
-    (record { entry = entry; start = base + s.start; length = s.len; left = s.left; at = s.at; right = next.right; end = next.end })
+    record { entry = entry; start = base + s.start; length = s.len; left = s.left; at = s.at; right = next.right; end = next.end }
+
+-- that record, or another place where there is none
+abbrev pub placed_or : Place → Option Spot → ℕ → ℕ → Edge → Place
+placed_or other (Some s) base entry next = placed_of s base entry next
+placed_or other None base entry next = other
 
 -- past the last entry no entry ends anywhere
 abbrev pub beyond_of : Bool → Edge → Edge
 beyond_of last next = edge (pick last 0 next.right) next.end
 
 -- past the entry that was met; no further where none was
-abbrev pub past_by : Edge → Met → Edge
-past_by e Nothing = e
-past_by e (Entry num next last) = beyond_of last next
+abbrev pub past_by : Edge → Option Met → Edge
+past_by e None = e
+past_by e (Some m) = beyond_of m.last m.next
 
 -- past the first so many entries of an index record
 unfoldable pub edge_past_of : ℕ → List ℕ → ℕ → Edge
@@ -51,12 +54,11 @@ edge_past_of w ib (suc k) = past_by (edge_past_of w ib k) (pass_of w ib (edge_pa
 -- ---- to another interval
 
 -- the entry that was passed, of which `later` gives the first record of those after it
-abbrev pub ahead_by : (Edge → Place) → List ℕ → ℕ → ℕ → ℕ → Met → Place
-ahead_by later area size n i Nothing = end_place
-ahead_by later area size n i (Entry num next last) =
-    pick (leb n num) end_place
-    (pick (ltb 0 (first_of (data_at size area num)).len) (placed_of (first_of (data_at size area num)) ((num + 1) * size) i (beyond_of last next))
-    (later (beyond_of last next)))
+abbrev pub ahead_by : (Edge → Place) → List ℕ → ℕ → ℕ → ℕ → Option Met → Place
+ahead_by later area size n i None = end_place
+ahead_by later area size n i (Some m) =
+    pick (leb n m.number) end_place
+    (placed_or (later (beyond_of m.last m.next)) (first_of (data_at size area m.number)) ((m.number + 1) * size) i (beyond_of m.last m.next))
 
 -- the first record of entries from i on, of which there are k at the most
 unfoldable pub ahead_of : ℕ → List ℕ → ℕ → ℕ → ℕ → Edge → Place
@@ -65,25 +67,31 @@ ahead_of (suc k) area size n i e =
     pick (eqb e.right 0) end_place (ahead_by (λ (f : Edge). ahead_of k area size n (i + 1) f) area size n i (pass_of (width_for n) (index_at size area) e))
 
 abbrev pub filled : ℕ → ℕ → Filled
-filled entry place = record { entry = entry; place = place }
+filled entry number = record { entry = entry; number = number }
 
 -- the entry that was passed, then those after it
-abbrev pub filled_by : (Edge → Filled → Filled) → List ℕ → ℕ → ℕ → ℕ → Met → Filled → Filled
-filled_by later area size n i Nothing found = found
-filled_by later area size n i (Entry num next last) found =
-    pick (leb n num) found (later next (pick (eqb (number 2 area ((num + 2) * size - 4)) 0) found (filled i (num + 1))))
+abbrev pub filled_by : (Edge → Option Filled → Option Filled) → List ℕ → ℕ → ℕ → ℕ → Option Met → Option Filled → Option Filled
+filled_by later area size n i None found = found
+filled_by later area size n i (Some m) found =
+    pick (leb n m.number) found (later m.next (pick (eqb (number 2 area ((m.number + 2) * size - 4)) 0) found (Some (filled i m.number))))
 
 -- the last of k entries from i on whose interval has records, or what was found before
-unfoldable pub filled_from : ℕ → List ℕ → ℕ → ℕ → ℕ → Edge → Filled → Filled
+unfoldable pub filled_from : ℕ → List ℕ → ℕ → ℕ → ℕ → Edge → Option Filled → Option Filled
 filled_from zero area size n i e found = found
 filled_from (suc k) area size n i e found =
-    filled_by (λ (f : Edge) (g : Filled). filled_from k area size n (i + 1) f g) area size n i (pass_of (width_for n) (index_at size area) e) found
+    filled_by (λ (f : Edge) (g : Option Filled). filled_from k area size n (i + 1) f g) area size n i (pass_of (width_for n) (index_at size area) e) found
 
-abbrev pub last_filled_of : List ℕ → ℕ → ℕ → ℕ → Filled
-last_filled_of area size n entries = filled_from entries area size n 0 (edge_first (index_at size area)) (filled 0 0)
+abbrev pub last_filled_of : List ℕ → ℕ → ℕ → ℕ → Option Filled
+last_filled_of area size n entries = filled_from entries area size n 0 (edge_first (index_at size area)) None
 
-abbrev pub behind_at : List ℕ → ℕ → Filled → Place
-behind_at area size f = pick (eqb f.place 0) end_place (placed_of (last_of (part area (f.place * size) size)) (f.place * size) f.entry (edge 0 0))
+-- its interval is one of n
+abbrev pub Among : ℕ → Option Filled → Type 0
+Among n (Some f) = f.number < n
+Among n None = Unit {0}
+
+abbrev pub behind_at : List ℕ → ℕ → Option Filled → Place
+behind_at area size (Some f) = placed_or end_place (last_of (data_at size area f.number)) ((f.number + 1) * size) f.entry (edge 0 0)
+behind_at area size None = end_place
 
 abbrev pub behind_of : List ℕ → ℕ → ℕ → ℕ → Place
 behind_of area size n entries = behind_at area size (last_filled_of area size n entries)
@@ -112,11 +120,9 @@ spot_in base p = spot (p.start - base) p.length p.left p.at
 -- past a run, in an interval that begins at `base`
 abbrev pub leave_in : List ℕ → ℕ → ℕ → Bool → Place → ℕ → Place
 leave_in area size n true p base =
-    let s = after_of (part area base size) (spot_in base p) in
-    pick (ltb 0 s.len) (placed_of s base p.entry (edge_in p)) (ahead_of (n - (p.entry + 1)) area size n (p.entry + 1) (edge_in p))
+    placed_or (ahead_of (n - (p.entry + 1)) area size n (p.entry + 1) (edge_in p)) (after_of (part area base size) (spot_in base p)) base p.entry (edge_in p)
 leave_in area size n false p base =
-    let s = before_of (part area base size) (spot_in base p) in
-    pick (ltb 0 s.len) (placed_of s base p.entry (edge_in p)) (behind_of area size n p.entry)
+    placed_or (behind_of area size n p.entry) (before_of (part area base size) (spot_in base p)) base p.entry (edge_in p)
 
 unfoldable pub leave_of : List ℕ → ℕ → Bool → Place → Place
 leave_of area size forward p =

@@ -1,24 +1,23 @@
 -- When a walk is refused, as a table for each way to begin: document 02, L1. The conditions speak of the measures, of what the area is read as, of how many bytes are
 -- given and of the keys of its records; of no search.
-use Rattle.std.specs.Prelude.{ℕ, ◌<◌, ◌≡◌, Bool, false, ◌⊎◌, length}
+use Rattle.std.specs.Prelude.{ℕ, ◌<◌, ◌≡◌, Bool, false, ◌⊎◌, length, Ok, Err}
 use mathlib.Core.List.{List, [], Memᴰ}
 use Rattle.measures.specs.declared.Measures.{Measures}
 use Rattle.area.specs.Content.{Content}
 use Rattle.requests.specs.Answers.{number_of, values_of}
 use Rattle.requests.specs.Walks.{Item, items_of, beyond}
 use Rattle.promises.specs.Tables.{Table, done, row, OutsideLimits, DamagedSomewhere, Holding}
-use Rattle.walk.specs.declared.Begun.{Begun}
-use Rattle.walk.specs.declared.Begun.TheVariants.{At, Refused}
+use Rattle.walk.specs.AidGives.{Begun}
 
 -- the number that a walk begins with: 0 at a place
 abbrev pub number_in : Begun → ℕ
-number_in (At p) = 0
-number_in (Refused a) = number_of a
+number_in (Ok p) = 0
+number_in (Err refusal) = number_of (Err refusal)
 
 -- and what comes with it: with 2 the place of the damage, with every other number nothing
 abbrev pub values_in : Begun → List ℕ
-values_in (At p) = []
-values_in (Refused a) = values_of a
+values_in (Ok p) = []
+values_in (Err refusal) = values_of (Err refusal)
 
 module _ (m : Measures) (area : List ℕ) where
   -- 3: no bytes are given, or more than a key has

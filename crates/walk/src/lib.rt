@@ -11,18 +11,17 @@ ghost use Rattle.area.specs.Content.{records_of};
 ghost use Rattle.area_find.specs.AidSought.{Whole};
 ghost use Rattle.requests.specs.Walks.{walk_from_of, walk_end_of};
 ghost use Rattle.opening.specs.AidOpened.{opened_of};
-ghost use Rattle.walk.specs.AidSteps.{end_place, count_in, placed_of, edge_past_of, ahead_of, last_filled_of, behind_of, along_to, along_of, leave_of, next_of, Shown, end_in};
+ghost use Rattle.walk.specs.AidSteps.{end_place, count_in, placed_of, edge_past_of, ahead_of, last_filled_of, Among, behind_of, along_to, along_of, leave_of, next_of, Shown, end_in};
 ghost use Rattle.walk.specs.AidGives.{Begins};
 ghost use Rattle.walk.specs.AidStands.{before, StoodIn, Sits, from_found, upto_found, FirstFrom, begins_from, BeginsAt, ended_by};
 ghost use Rattle.walk.specs.AidStands.{begun_from};
 
 use area_find::KeyPlace;
-use index_walk::{Edge, Met};
+use index_walk::Edge;
 use interval::Found;
 use interval_walk::Spot;
 use measures::{Measures, Numbers};
-use opening::Opened;
-use requests::Answer;
+use requests::Refusal;
 
 // Where a walk stands: at a record, or at the end, where the length is 0. `entry` is its entry, from 0, `start` where it begins in the area. The rest makes steps quick:
 // how many records of its run are still to come, and where the run's RDFs end in the direction, in the interval; forwards also where the next entry of the
@@ -39,11 +38,7 @@ pub struct Place {
 }
 
 // A walk begun at a place, or refused.
-#[derive(Clone, Copy)]
-pub enum Begun {
-    At(Place),
-    Refused(Answer),
-}
+pub type Begun = Result<Place, Refusal>;
 
 // The end.
 pub(crate) fn ended() -> Place
@@ -70,14 +65,11 @@ pub(crate) fn count_of(long: usize, size: usize) -> usize
     long / size - 1
 }
 
-// A record of the interval that begins at `base`; no place where there is none.
+// A record of the interval that begins at `base`.
 pub(crate) fn placed(s: Spot, base: usize, entry: usize, next: Edge) -> Place
     requires { base + s.start < 2 ^ 64 }
     ensures { result ≡ placed_of s base entry next }
 {
-    if s.len == 0 {
-        return ended();
-    }
     Place {
         entry,
         start: base + s.start,
@@ -96,72 +88,61 @@ pub(crate) fn ahead(area: &[u8], size: usize, n: usize, entry: usize, from: Edge
 {
     let w = measures::width_for(n);
     let mut e = from;
-    let mut i = entry;
-    while i < n {
+    for i in entry..n {
         if e.right == 0 {
             return ended();
         }
-        let Met::Entry { number, next, last } = index_walk::pass(&area[..size], w, e) else {
+        let Some(met) = index_walk::pass(&area[..size], w, e) else {
             return ended();
         };
+        let number = met.number;
         if n <= number {
             return ended();
         }
-        let right = if last { 0 } else { next.right };
+        let right = if met.last { 0 } else { met.next.right };
         let beyond = Edge {
             right,
-            end: next.end,
+            end: met.next.end,
         };
         let a = (number + 1) * size;
         let z = a + size;
-        let s = interval_walk::first(&area[a..z]);
-        if 0 < s.len {
+        if let Some(s) = interval_walk::first(&area[a..z]) {
             return placed(s, a, i, beyond);
         }
         e = beyond;
-        i += 1;
     }
     ended()
 }
 
-// An entry whose interval has records, by its ordinal and its interval's number and one; 0 for none.
+// An entry whose interval has records, by its ordinal and its interval's number.
 #[derive(Clone, Copy)]
 pub(crate) struct Filled {
     pub entry: usize,
-    pub place: usize,
+    pub number: usize,
 }
 
 // The last entry of the first so many, of n intervals, whose interval has records: one pass over the index record.
-pub(crate) fn last_filled(area: &[u8], size: usize, n: usize, entries: usize) -> Filled
+pub(crate) fn last_filled(area: &[u8], size: usize, n: usize, entries: usize) -> Option<Filled>
     requires { (512 ≤ size) × ((n + 1) * size ≤ length area.now) }
     ensures is { result ≡ last_filled_of area.now size n entries }
-    ensures inside { result.place ≤ n }
+    ensures inside { Among n result }
 {
     let w = measures::width_for(n);
     let mut e = index_walk::start(&area[..size]);
-    let mut i = 0;
-    let mut found = Filled { entry: 0, place: 0 };
-    while i < entries {
-        let Met::Entry {
-            number,
-            next,
-            last: _,
-        } = index_walk::pass(&area[..size], w, e)
-        else {
+    let mut found = None;
+    for i in 0..entries {
+        let Some(met) = index_walk::pass(&area[..size], w, e) else {
             return found;
         };
+        let number = met.number;
         if n <= number {
             return found;
         }
         let z = (number + 2) * size;
-        if fields::read_two(area, z - 4) != 0 {
-            found = Filled {
-                entry: i,
-                place: number + 1,
-            };
+        if fields::read::<2>(area, z - 4) != 0 {
+            found = Some(Filled { entry: i, number });
         }
-        e = next;
-        i += 1;
+        e = met.next;
     }
     found
 }
@@ -171,14 +152,16 @@ pub(crate) fn behind(area: &[u8], size: usize, n: usize, entries: usize) -> Plac
     requires { (512 ≤ size) × ((n + 1) * size ≤ length area.now) }
     ensures { result ≡ behind_of area.now size n entries }
 {
-    let f = last_filled(area, size, n, entries);
-    if f.place == 0 {
+    let Some(Filled { entry, number }) = last_filled(area, size, n, entries) else {
         return ended();
-    }
-    let a = f.place * size;
+    };
+    let a = (number + 1) * size;
     let z = a + size;
+    let Some(s) = interval_walk::last(&area[a..z]) else {
+        return ended();
+    };
     let none = Edge { right: 0, end: 0 };
-    placed(interval_walk::last(&area[a..z]), a, f.entry, none)
+    placed(s, a, entry, none)
 }
 
 // The record of the same run that begins at a byte of the area.
@@ -239,14 +222,12 @@ pub(crate) fn leave(area: &[u8], size: usize, forward: bool, p: Place) -> Place
         end: p.end,
     };
     if forward {
-        let s = interval_walk::after(&area[a..z], here);
-        if 0 < s.len {
+        if let Some(s) = interval_walk::after(&area[a..z], here) {
             return placed(s, a, p.entry, next);
         }
         return ahead(area, size, n, p.entry + 1, next);
     }
-    let s = interval_walk::before(&area[a..z], here);
-    if 0 < s.len {
+    if let Some(s) = interval_walk::before(&area[a..z], here) {
         return placed(s, a, p.entry, next);
     }
     behind(area, size, n, p.entry)
@@ -283,22 +264,15 @@ pub(crate) fn edge_past(ib: &[u8], n: usize, entries: usize) -> Edge
 {
     let w = measures::width_for(n);
     let mut e = index_walk::start(ib);
-    let mut i = 0;
-    while i < entries {
-        let Met::Entry {
-            number: _,
-            next,
-            last,
-        } = index_walk::pass(ib, w, e)
-        else {
+    for _i in 0..entries {
+        let Some(met) = index_walk::pass(ib, w, e) else {
             return e;
         };
-        let right = if last { 0 } else { next.right };
+        let right = if met.last { 0 } else { met.next.right };
         e = Edge {
             right,
-            end: next.end,
+            end: met.next.end,
         };
-        i += 1;
     }
     e
 }
@@ -320,17 +294,17 @@ pub(crate) fn from_above(area: &[u8], m: Measures, n: usize, sought: KeyPlace) -
             ordinal,
             start: _,
             length: _,
-        } => interval_walk::spot_at(&area[a..z], m, ordinal, true),
+        } => Some(interval_walk::spot_at(&area[a..z], m, ordinal, true)),
         Found::Gap { ordinal, start: _ } => first_from(&area[a..z], m, ordinal),
     };
-    if 0 < s.len {
+    if let Some(s) = s {
         return placed(s, a, entry, next);
     }
     ahead(area, size, n, entry + 1, next)
 }
 
 // The record of a sound interval whose ordinal is so much, none past the last.
-pub(crate) fn first_from(ci: &[u8], m: Measures, ordinal: usize) -> Spot
+pub(crate) fn first_from(ci: &[u8], m: Measures, ordinal: usize) -> Option<Spot>
     requires { Readable m ci.now × (ordinal ≤ length (records_in ci.now)) }
     ensures { FirstFrom m ci.now ordinal result }
 {
@@ -403,24 +377,16 @@ pub fn walk_from(area: &[u8], numbers: Numbers, forward: bool, given: &[u8]) -> 
     ensures there { BeginsAt (asked numbers) area.now forward given.now result }
     ensures is { result ≡ begun_from (asked numbers) area.now forward given.now }
 {
-    match opening::open(area, numbers) {
-        Opened::Refused { answer } => Begun::Refused(answer),
-        Opened::Whole {
-            measures,
-            count,
-            records: _,
-            free: _,
-        } => {
-            if given.len() == 0 || measures.key < given.len() {
-                return Begun::Refused(Answer::WrongLength);
-            }
-            let p = begin_at(area, measures, count, forward, given);
-            if p.length == 0 {
-                return Begun::Refused(Answer::Absent);
-            }
-            Begun::At(p)
-        }
+    let whole = opening::open(area, numbers)?;
+    let m = whole.measures;
+    if given.len() == 0 || m.key < given.len() {
+        return Err(Refusal::WrongLength);
     }
+    let p = begin_at(area, m, whole.count, forward, given);
+    if p.length == 0 {
+        return Err(Refusal::Absent);
+    }
+    Ok(p)
 }
 
 // In a sound area, the first record from an end.
@@ -442,13 +408,6 @@ pub fn walk_end(area: &[u8], numbers: Numbers, forward: bool) -> Begun
         (walk_end_of (asked numbers) area.now forward) result }
     ensures is { result ≡ ended_by area.now forward (opened_of (asked numbers) area.now) }
 {
-    match opening::open(area, numbers) {
-        Opened::Refused { answer } => Begun::Refused(answer),
-        Opened::Whole {
-            measures,
-            count,
-            records: _,
-            free,
-        } => Begun::At(end_in(area, measures, count, free, forward)),
-    }
+    let whole = opening::open(area, numbers)?;
+    Ok(end_in(area, whole.measures, whole.count, whole.free, forward))
 }

@@ -1,4 +1,5 @@
 -- A walker that is begun at the place that a walk began with gives the walk's records: document 02, L1.
+use Rattle.std.specs.Prelude.{Ok}
 use Prim.Native.Nat.{ℕ, zero, suc}
 use mathlib.Core.Path.{◌≡◌, ◌∙◌, sym, ap}
 use mathlib.Core.Bool.{Bool}
@@ -6,15 +7,13 @@ use mathlib.Core.List.{List}
 use lib.ListN.{length}
 use contract.Lifetimes.{Lfts}
 use denote.Ref.{Bor}
-use Rattle.measures.specs.Judgement.{judged_of}
+use Rattle.measures.specs.Judgement.{judged_of, passed}
 use Rattle.measures.specs.declared.Measures.{Measures}
-use Rattle.measures.specs.declared.Judged.TheVariants.{Fine}
 use Rattle.area.specs.Content.{Content}
 use Rattle.area.specs.Reading.{read_area, whole}
 use Rattle.requests.specs.Walks.{walk_of}
 use Rattle.walk.specs.declared.Place.{Place}
-use Rattle.walk.specs.declared.Begun.{Begun}
-use Rattle.walk.specs.declared.Begun.TheVariants.{At}
+use Rattle.walk.specs.AidGives.{Begun}
 use Rattle.walk.specs.AidSteps.{next_of, Shown}
 use Rattle.walk.proofs.Promised.{Began, Given, steps-give}
 use Rattle.walker.specs.Walkers.{walker_at, walker_next}
@@ -51,9 +50,9 @@ module _ (area : Bor (List ℕ)) (size : ℕ) (forward : Bool) (place : Place) (
 -- THE WALKER. On a sound area it gives the records of the walk that began at its place, each as its part of the area, and then the empty part for ever. Said of what
 -- callers of `walk_from`, `walk_end`, `begun`, `next` and `seen` learn.
 pub walker-gives : (area : Bor (List ℕ)) (m : Measures) (forward : Bool) (given : List ℕ) (r : Begun) → Began area m forward given r
-    → (place : Place) → r ≡ At place → (walkers : ℕ → Walker) (parts : ℕ → Bor (List ℕ)) → Walking area m.size forward place walkers parts
-    → (n : ℕ) (c : Content) → judged_of m (length area.now) ≡ Fine m n
+    → (place : Place) → r ≡ Ok place → (walkers : ℕ → Walker) (parts : ℕ → Bor (List ℕ)) → Walking area m.size forward place walkers parts
+    → (n : ℕ) (c : Content) → judged_of m (length area.now) ≡ passed m n
     → read_area m n area.now ≡ whole c → Given area (walk_of m forward given c) parts
 walker-gives area m forward given r b place at walkers parts w =
-    steps-give area m forward given r b (λ (k : ℕ). (walkers k).place) parts (at ∙ ap (λ (x : Walker). At x.place) (sym w.first))
+    steps-give area m forward given r b (λ (k : ℕ). (walkers k).place) parts (at ∙ ap (λ (x : Walker). Ok x.place) (sym w.first))
     (goes area m.size forward place walkers parts w) (sees area m.size forward place walkers parts w)

@@ -71,7 +71,7 @@ overflow_add-result c =
     let a = c.args in
     let b = c.base_of-base in
     let d = lent-data a.m a.n a.area.now c.requires.0 ((a.address - b.result) / a.m.size) c.if-n-number.false in
-    let f = rw c.in-Here.is at c.record_at.ensures.ends in
+    let f = rw c.in-Some.is at c.record_at.ensures.ends in
     let z = length-lent a.m a.n a.area.now c.requires.0 ((a.address - b.result) / a.m.size) c.if-n-number.false in
     let y = data-ends a.m a.n a.area.now c.requires.0 ((a.address - b.result) / a.m.size) c.if-n-number.false in
     omega (arith, data-small a.m a.n a.area.now c.requires.0 ((a.address - b.result) / a.m.size) c.if-n-number.false, f, fits-small c.requires.0)
@@ -81,11 +81,11 @@ returns c =
     let a = c.args in
     let b = c.base_of-base in
     let d = lent-data a.m a.n a.area.now c.requires.0 ((a.address - b.result) / a.m.size) c.if-n-number.false in
-    let f = rw c.in-Here.is at c.record_at.ensures.ends in
+    let f = rw c.in-Some.is at c.record_at.ensures.ends in
     let z = length-lent a.m a.n a.area.now c.requires.0 ((a.address - b.result) / a.m.size) c.if-n-number.false in
     let y = data-ends a.m a.n a.area.now c.requires.0 ((a.address - b.result) / a.m.size) c.if-n-number.false in
     let e = rw d at c.record_at.ensures.is in record {
-      is = one-there a.m a.n a.area.now a.address b.result b.ensures.0 c.if-wanted-base.false c.if-n-number.false c.in-Here.length
-          (sym c.in-Here.is ∙ e);
+      is = one-there a.m a.n a.area.now a.address b.result b.ensures.0 c.if-wanted-base.false c.if-n-number.false c.in-Some.length
+          (sym c.in-Some.is ∙ e);
       inside = omega (arith, f, z, y);
     }

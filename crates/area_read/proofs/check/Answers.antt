@@ -19,12 +19,12 @@ After-known_told-state = Lts.Past-After-known_told Tie.the-claims Reads.Pre Read
 
 told : (k : After-known_told-state)
     → Judged k.args.m.key k.args.n
-    (index_in k.args.m k.args.area.now) k.in-Sound.free
-    k.in-Sound.entries
+    (index_in k.args.m k.args.area.now) k.in-Some.index.free
+    k.in-Some.index.entries
 told k =
     let a = k.args in
-    answer-sound a.m.key a.n (index_in a.m a.area.now) k.in-Sound.free k.in-Sound.entries
-    (sym k.check.ensures ∙ k.in-Sound.is)
+    answer-sound a.m.key a.n (index_in a.m a.area.now) k.in-Some.index
+    (sym k.check.ensures ∙ k.in-Some.is)
 
 pub slice_bounds-check-end : goal.slice_bounds-check-end
 slice_bounds-check-end c =
@@ -46,7 +46,7 @@ slice_bounds-free_worst-end c =
 
 pub free_worst-worst-requires : goal.free_worst-worst-requires
 free_worst-worst-requires c =
-    let f = frees (width_for c.args.n) c.args.m.key c.args.n (index_in c.args.m c.args.area.now) (told c.before).sound c.in-Sound.free (told c.before).free-is in
+    let f = frees (width_for c.args.n) c.args.m.key c.args.n (index_in c.args.m c.args.area.now) (told c.before).sound c.in-Some.index.free (told c.before).free-is in
     (c.requires, f.lie, f.small)
 
 pub slice_bounds-used_worst-end : goal.slice_bounds-used_worst-end
@@ -60,7 +60,7 @@ used_worst-tally-requires c =
 pub returns-then-tally-n : goal.returns-then-tally-n
 returns-then-tally-n c =
     let a = c.args in
-    let f = frees (width_for a.n) a.m.key a.n (index_in a.m a.area.now) (told c.before.before.before.before.before.before).sound c.in-Sound.free (told c.before.before.before.before.before.before).free-is in
+    let f = frees (width_for a.n) a.m.key a.n (index_in a.m a.area.now) (told c.before.before.before.before.before.before).sound c.in-Some.index.free (told c.before.before.before.before.before.before).free-is in
     let u = c.used_worst-tally in
     let w = rw f.are at c.free_worst-worst.ensures in
     let e = rw w at u.ensures.lowest in
@@ -69,8 +69,8 @@ returns-then-tally-n c =
 pub returns : goal.returns
 returns c =
     let a = c.args in
-    let f = frees (width_for a.n) a.m.key a.n (index_in a.m a.area.now) (told c.before.before.before.before.before).sound c.in-Sound.free (told c.before.before.before.before.before).free-is in
+    let f = frees (width_for a.n) a.m.key a.n (index_in a.m a.area.now) (told c.before.before.before.before.before).sound c.in-Some.index.free (told c.before.before.before.before.before).free-is in
     let u = c.used_worst-tally in
     let w = rw f.are at c.free_worst-worst.ensures in
     let e = rw w at u.ensures.lowest in
-    intact a.m a.n a.area.now (told c.before.before.before.before.before).sound u.result.worst u.result.records e c.if-tally-n.false u.ensures.counted c.in-Sound.free (told c.before.before.before.before.before).free-is
+    intact a.m a.n a.area.now (told c.before.before.before.before.before).sound u.result.worst u.result.records e c.if-tally-n.false u.ensures.counted c.in-Some.index.free (told c.before.before.before.before.before).free-is

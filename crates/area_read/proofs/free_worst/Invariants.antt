@@ -1,12 +1,9 @@
--- Invariant (Looking): the free numbers left lie from place at on, within the index record, and each is below n.
+-- Invariant (Looking): the free numbers from the i-th on lie within the index record, and each is below n.
 -- The lowest of n and the unsound ones of all the free numbers is the lowest of `worst` and the unsound ones of those left.
--- Measure: the free numbers left.
+use Prim.Native.Nat.{◌+◌, ◌-◌, ◌*◌}
 use Rattle.measures.specs.Judgement.{width_for}
 use Rattle.area_read.proofs.Lows.{Looking}
 use Rattle.area_read.proofs.free_worst.Given as goal
 
-abbrev pub invariant-loop-left : goal.invariant-loop-left
-invariant-loop-left l = Looking l.m l.n l.area l.ib (width_for l.n) l.free l.worst l.at l.left
-
-abbrev pub decreases-loop-left : goal.decreases-loop-left
-decreases-loop-left l = l.left
+abbrev pub invariant-loop-i : goal.invariant-loop-i
+invariant-loop-i l = Looking l.m l.n l.area l.ib (width_for l.n) l.free l.worst (24 + width_for l.n * l.i) (l.free - l.i)

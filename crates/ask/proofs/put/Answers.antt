@@ -1,7 +1,8 @@
--- No loop. Eight stores one after another are one splice (eight-stored).
+-- No loop. Eight stores one after another are one splice (sets-splice).
+use mathlib.Core.List.{[], ◌∷◌}
 use lib.ListN.{length-set}
 use native.Mathlib.Omega.{arith}
-use Rattle.fields.proofs.Splices.{eight-stored}
+use Rattle.fields.proofs.Splices.{sets-splice}
 use Rattle.ask.proofs.put.Goals as goal
 
 pub bounds-values-1 : goal.bounds-values-1
@@ -29,4 +30,4 @@ bounds-values-7 c =
 pub returns : goal.returns
 returns c = let a = c.args in
     let t = a.t in
-    eight-stored a.values.now 0 t.first t.second t.third t.fourth t.fifth t.sixth t.seventh t.eighth c.requires
+    sets-splice (t.first ∷ t.second ∷ t.third ∷ t.fourth ∷ t.fifth ∷ t.sixth ∷ t.seventh ∷ t.eighth ∷ []) a.values.now 0 c.requires

@@ -14,16 +14,16 @@ overflow_sub-e c =
     let a = c.args in
     (cidf-inside a.m a.area.now a.number c.requires.there c.requires.readable).0
 
-pub read_two-requires : goal.read_two-requires
-read_two-requires c =
+pub read-requires : goal.read-requires
+read-requires c =
     let a = c.args in
-    (cidf-inside a.m a.area.now a.number c.requires.there c.requires.readable).1
+    (omega arith, (cidf-inside a.m a.area.now a.number c.requires.there c.requires.readable).1)
 
 pub overflow_add-result : goal.overflow_add-result
 overflow_add-result c =
-    omega (arith, c.read_two.ensures.1, div-le_self c.read_two.result c.args.m.least)
+    omega (arith, c.read.ensures.1, div-le_self c.read.result c.args.m.least)
 
 pub returns : goal.returns
 returns c =
     let a = c.args in
-    fewer a.m a.area.now a.number c.requires.there c.requires.readable c.read_two.result c.requires.some c.read_two.ensures.0
+    fewer a.m a.area.now a.number c.requires.there c.requires.readable c.read.result c.requires.some c.read.ensures.0

@@ -1,13 +1,12 @@
 use Rattle.division.proofs.best_cut.Lts
 use Rattle.division.proofs.best_cut.Reads
 use Rattle.division.proofs.best_cut.Tie
-use Prim.Native.Nat.{ℕ, ◌≤◌, ◌<◌, ◌-◌, ◌+◌}
-use mathlib.Core.Path.{◌≡◌, ap, ◌∙◌}
-use lib.ListN.{length, get_or}
+use Prim.Native.Nat.{ℕ, ◌≤◌, ◌<◌, ◌+◌}
+use mathlib.Core.Path.{◌∙◌}
+use lib.ListN.{get_or}
 use native.Mathlib.Omega.{arith}
 use Rattle.room.proofs.Steps.{also-bytes, also-rdfs}
-use Rattle.division.specs.Division.{best_to, best_cut}
-use Rattle.division.proofs.Turns.{holds-start, holds-bytes, holds-need, holds_on}
+use Rattle.division.proofs.Turns.{holds-start, holds-bytes, holds-need, holds_on, none-best, some-best}
 use Rattle.division.proofs.best_cut.Goals as goal
 
 abbrev After-add-state : Type 0
@@ -21,13 +20,13 @@ right-needs : (c : After-add-state)
 right-needs c =
     let p = c.loop-i in
     let a = c.args in
-    holds-need a.s a.lens.now p.i p.left p.bytes p.need p.best p.invariant.1
+    holds-need a.s a.lens.now p.i p.left p.bytes p.need p.best p.invariant
     c.ahead_at-a.result c.ahead_at-a.ensures (omega arith)
 
 pub loop-i-init : goal.loop-i-init
 loop-i-init c =
     let a = c.args in
-    (omega arith, holds-start a.s a.lens.now a.whole c.need_of-need.result c.requires.0 c.requires.1 c.requires.2 c.need_of-need.ensures.is)
+    holds-start a.s a.lens.now a.whole c.need_of-need.result c.requires.0 c.requires.1 c.requires.2 c.need_of-need.ensures.is
 
 pub ahead_at-a-requires : goal.ahead_at-a-requires
 ahead_at-a-requires c = omega arith
@@ -35,7 +34,7 @@ ahead_at-a-requires c = omega arith
 pub add-left-requires : goal.add-left-requires
 add-left-requires c =
     let p = c.loop-i in
-    (omega (arith, p.invariant.1.most), omega (arith, p.invariant.1.many))
+    (omega (arith, p.invariant.most), omega (arith, p.invariant.many))
 
 pub overflow_cast-bytes : goal.overflow_cast-bytes
 overflow_cast-bytes c = omega (arith, elem c.before)
@@ -44,7 +43,7 @@ pub overflow_sub-bytes : goal.overflow_sub-bytes
 overflow_sub-bytes c =
     let p = c.loop-i in
     let a = c.args in
-    holds-bytes a.s a.lens.now p.i p.left p.bytes p.need p.best p.invariant.1 (omega arith)
+    holds-bytes a.s a.lens.now p.i p.left p.bytes p.need p.best p.invariant (omega arith)
 
 pub overflow_cast-need : goal.overflow_cast-need
 overflow_cast-need c = omega (arith, elem c.before)
@@ -60,21 +59,23 @@ weigh-best-requires c =
     let p = c.loop-i in
     let l : ℕ = get_or c.args.lens.now p.i 0 in
     rw c.add-left.ensures
-    (omega (arith, also-bytes p.left l, elem c.before, p.invariant.1.most), omega (arith, also-rdfs p.left l, p.invariant.1.many))
+    (omega (arith, also-bytes p.left l, elem c.before, p.invariant.most), omega (arith, also-rdfs p.left l, p.invariant.many))
 
 pub loop-i-preserved : goal.loop-i-preserved
 loop-i-preserved c =
     let p = c.loop-i in
-    let a = c.args in (
-      omega arith,
-      holds_on a.s a.lens.now p.i p.left p.bytes p.need p.best p.invariant.1 c.ahead_at-a.result c.ahead_at-a.ensures
-          (omega arith) (elem c.before.before) c.add-left.result c.add-left.ensures c.weigh-best.result c.weigh-best.ensures,
-    )
+    let a = c.args in
+    holds_on a.s a.lens.now p.i p.left p.bytes p.need p.best p.invariant c.ahead_at-a.result c.ahead_at-a.ensures
+    (omega arith) (elem c.before.before) c.add-left.result c.add-left.ensures c.weigh-best.result c.weigh-best.ensures
+
+pub returns-in_err-best : goal.returns-in_err-best
+returns-in_err-best c =
+    let p = c.loop-i in
+    let a = c.args in
+    c.from_residual.ensures ∙ none-best a.s a.lens.now p.i (omega arith) p.best p.invariant.known c.in_err-best.was
 
 pub returns : goal.returns
-unfolding best_cut
 returns c =
     let p = c.loop-i in
     let a = c.args in
-    let e : p.i ≡ length a.lens.now - 1 = omega arith in
-    p.invariant.1.known.cut ∙ ap (best_to a.s a.lens.now) e
+    some-best a.s a.lens.now p.i (omega arith) p.best p.invariant.known c.in_ok-best.field-0 c.in_ok-best.was

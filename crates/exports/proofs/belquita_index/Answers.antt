@@ -7,4 +7,4 @@ pub returns-in_default : goal.returns-in_default
 returns-in_default c = ap index_told (sym c.in_default.is ∙ c.check.ensures)
 
 pub returns : goal.returns
-returns c = ap index_told (sym c.in-Sound.is ∙ c.check.ensures)
+returns c = ap index_told (sym c.in-Some.is ∙ c.check.ensures)

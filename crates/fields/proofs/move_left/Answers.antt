@@ -3,31 +3,29 @@ use Rattle.fields.proofs.move_left.Reads
 use Rattle.fields.proofs.move_left.Tie
 use Prim.Native.Nat.{◌<◌}
 use mathlib.Core.Path.{◌≡◌, refl, ◌∙◌, sym}
-use mathlib.Core.Logic.{⊎_elim}
 use lib.ListN.{length, take}
 use lib.Seq.{length-take-le}
 use native.Mathlib.Omega.{arith}
 use Rattle.fields.proofs.Moves.{left-none, left_step}
 use Rattle.fields.proofs.move_left.Goals as goal
 
-abbrev After-shorter-state : Type 0
-After-shorter-state = Lts.After-shorter Tie.the-claims Reads.Pre Reads.Post goal.the-invariant-loop-i goal.the-decreases-loop-i
+abbrev After-min-state : Type 0
+After-min-state = Lts.After-min Tie.the-claims Reads.Pre Reads.Post goal.the-invariant-loop-i goal.the-decreases-loop-i
 
 abbrev After-copy-state : Type 0
 After-copy-state = Lts.After-copy Tie.the-claims Reads.Pre Reads.Post goal.the-invariant-loop-i goal.the-decreases-loop-i
 
 -- a block has a byte
-some : (k : After-shorter-state) → 0 < k.shorter-k.result
+some : (k : After-min-state) → 0 < k.min-k.result
 some k =
-    let t = k.loop-i-test.true in
-    ⊎_elim (λ e. omega (arith, t)) (λ e. omega arith) k.shorter-k.ensures.2
+    omega (arith, k.loop-i-test.true, k.min-k.ensures)
 
 -- and the copy of it has room for it
 long : (k : After-copy-state) → length k.copy.new.b ≡ 1024
 long k = k.copy.auto.b ∙ k.loop-i.invariant.1
 
-block-length : (k : After-copy-state) → length (take k.shorter-k.result k.copy.new.b) ≡ k.shorter-k.result
-block-length k = length-take-le _ _ (omega (arith, long k, k.shorter-k.ensures.1))
+block-length : (k : After-copy-state) → length (take k.min-k.result k.copy.new.b) ≡ k.min-k.result
+block-length k = length-take-le _ _ (omega (arith, long k, k.min-k.ensures))
 
 pub loop-i-init : goal.loop-i-init
 loop-i-init c = (omega arith, refl, refl, left-none c.args.b.now c.args.to)
@@ -38,7 +36,7 @@ slice_bounds-copy-end-in-loop-i-2 c = sym (block-length c.before.before.before)
 pub copy-requires-in-loop-i : goal.copy-requires-in-loop-i
 copy-requires-in-loop-i c =
     let o = c.loop-i.invariant in
-    omega (arith, block-length c.before.before.before, c.shorter-k.ensures.0, o.0, o.2)
+    omega (arith, block-length c.before.before.before, c.min-k.ensures, o.0, o.2)
 
 pub loop-i-smaller : goal.loop-i-smaller
 loop-i-smaller c = omega (arith, some c.before.before.before.before.before.before.before.before.before.before)
@@ -46,11 +44,11 @@ loop-i-smaller c = omega (arith, some c.before.before.before.before.before.befor
 pub loop-i-preserved : goal.loop-i-preserved
 loop-i-preserved c =
     let a = c.args in (
-      omega (arith, c.shorter-k.ensures.0, c.loop-i-test.true),
+      omega (arith, c.min-k.ensures, c.loop-i-test.true),
       long c.before.before.before.before.before.before.before,
       c.copy-in-loop-i.auto.b ∙ c.loop-i.invariant.2,
-      left_step a.b.now a.to a.from a.len c.loop-i.b c.copy-in-loop-i.new.b c.loop-i.block c.copy.new.b c.loop-i.i c.shorter-k.result
-          (omega arith) (omega arith) (omega (arith, c.shorter-k.ensures.0, c.loop-i-test.true)) c.loop-i.invariant.2 c.loop-i.invariant.3
+      left_step a.b.now a.to a.from a.len c.loop-i.b c.copy-in-loop-i.new.b c.loop-i.block c.copy.new.b c.loop-i.i c.min-k.result
+          (omega arith) (omega arith) (omega (arith, c.min-k.ensures, c.loop-i-test.true)) c.loop-i.invariant.2 c.loop-i.invariant.3
           c.copy.ensures c.copy-in-loop-i.ensures,
     )
 

@@ -6,4 +6,4 @@ use Rattle.fields.proofs.read_eight.Goals as goal
 pub returns : goal.returns
 returns c =
     let x = c.args in
-    omega (arith, number-8 x.b.now x.at, c.read_four.ensures.0, c.read_four-2.ensures.0)
+    omega (arith, number-8 x.b.now x.at, c.read.ensures.0, c.read-2.ensures.0)

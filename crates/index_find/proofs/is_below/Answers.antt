@@ -1,4 +1,4 @@
--- No loop. The comparison of the two fronts gives their order; only Less counts as below (below-is), and Same and Greater don't (not-less).
+-- No loop. The comparison of the two fronts gives their order; only Less counts as below (below-is), and Equal and Greater don't (not-less).
 -- Both parts have len bytes at least, so that the fronts are len bytes long (length-take-le).
 use mathlib.Core.Path.{sym, ap}
 use mathlib.Core.Bool.{true, false}

@@ -1,5 +1,5 @@
--- No loop: what section_for and fewer say is what the pen is made of.
+-- No loop: what section_for and min say is what the pen is made of.
 use Rattle.index_pen.proofs.begin.Goals as goal
 
 pub returns : goal.returns
-returns c = rw (c.fewer.ensures, c.section_for-most.ensures.0)
+returns c = rw (c.min.ensures, c.section_for-most.ensures.0)

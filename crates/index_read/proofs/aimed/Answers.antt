@@ -10,15 +10,15 @@ use borrow.Author.Tests.{eq-eqb}
 use Rattle.index_read.proofs.Reaching.{aim-none, aim-inner, aim_kept, aim-look}
 use Rattle.index_read.proofs.aimed.Goals as goal
 
-abbrev After-wide-state : Type 0
-After-wide-state = Lts.After-wide Tie.the-claims Reads.Pre Reads.Post Tie.handed_clauses
+abbrev After-from-state : Type 0
+After-from-state = Lts.After-from Tie.the-claims Reads.Pre Reads.Post Tie.handed_clauses
 
 -- a key is sought
-sought : (c : After-wide-state) → 0 < c.args.reach
+sought : (c : After-from-state) → 0 < c.args.reach
 sought c = omega (arith, c.if-reach-eq0.false)
 
 -- the entry is a section's highest
-top : (c : After-wide-state)
+top : (c : After-from-state)
     → c.args.p.right - (c.args.by.width + 2) ≡ c.args.p.end
 top c = omega (arith, c.if-c-p.false)
 
@@ -32,10 +32,10 @@ returns-then-c-p c =
     let a = c.args in
     aim-inner a.ib.now a.p a.by a.key.now a.reach c.if-c-p.true
 
-pub returns-then-reach-wide : goal.returns-then-reach-wide
-returns-then-reach-wide c =
+pub returns-then-reach-from : goal.returns-then-reach-from
+returns-then-reach-from c =
     let a = c.args in
-    aim_kept a.ib.now a.p a.by a.key.now a.reach (sought c.before.before) (top c.before.before) c.wide.result c.wide.ensures.0 c.if-reach-wide.true
+    aim_kept a.ib.now a.p a.by a.key.now a.reach (sought c.before.before) (top c.before.before) c.from.result c.from.ensures c.if-reach-from.true
 
 pub look-requires : goal.look-requires
 look-requires c =
@@ -45,4 +45,4 @@ pub returns : goal.returns
 returns c =
     let a = c.args in
     c.look.ensures
-    ∙ aim-look a.ib.now a.p a.by a.key.now a.reach (sought c.before.before.before) (top c.before.before.before) c.wide.result c.wide.ensures.0 c.if-reach-wide.false
+    ∙ aim-look a.ib.now a.p a.by a.key.now a.reach (sought c.before.before.before) (top c.before.before.before) c.from.result c.from.ensures c.if-reach-from.false

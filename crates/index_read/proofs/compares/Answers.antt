@@ -46,14 +46,14 @@ returns-in-Less c = λ K k1 k2.
     (λ i. omega (arith, c.shared_slice_known-1.given i)) (λ i. omega (arith, c.shared_slice_known-2-1.given i)) K k1 k2 false
     refl c.if-l-rest.m (least c.before.before.before.before.before.before) q.result q.ensures c.in-Less.is
 
-pub returns-in-Same : goal.returns-in-Same
-returns-in-Same c = λ K k1 k2.
+pub returns-in-Equal : goal.returns-in-Equal
+returns-in-Equal c = λ K k1 k2.
     let q = c.compare_bytes-o in
     let a = c.args in
     let p = c.requires in
     above_same a.buf.now a.ib.now a.front a.len a.at a.l p.0 p.1 p.2 p.3
     (λ i. omega (arith, c.shared_slice_known-1.given i)) (λ i. omega (arith, c.shared_slice_known-2-1.given i)) K k1 k2 false
-    refl c.if-l-rest.m (least c.before.before.before.before.before.before) q.result q.ensures c.in-Same.is
+    refl c.if-l-rest.m (least c.before.before.before.before.before.before) q.result q.ensures c.in-Equal.is
 
 pub returns-in-Greater : goal.returns-in-Greater
 returns-in-Greater c = λ K k1 k2.

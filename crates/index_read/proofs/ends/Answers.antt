@@ -9,4 +9,4 @@ pub returns-then-p-ne0 : goal.returns-then-p-ne0
 returns-then-p-ne0 c = simp (eq-eqb _ _ c.if-p-by.false, ne_eqb _ _ c.if-p-ne0.true)
 
 pub returns : goal.returns
-returns c = simp (eq-eqb _ _ c.if-p-by.false, eq-eqb _ _ c.if-p-ne0.false, c.read_two.ensures.0)
+returns c = simp (eq-eqb _ _ c.if-p-by.false, eq-eqb _ _ c.if-p-ne0.false, c.read.ensures.0)

@@ -27,17 +27,17 @@ most-is c = chosen _ _ _ _ (⊎_elim (λ p. inl (p.if-closes-2.true, p.most-is))
 
 pub overflow_add-w-4 : goal.overflow_add-w-4
 overflow_add-w-4 c =
-    omega (arith, field_is c.before.before, two-most c.args.closes, c.wide-l.ensures.1, c.requires.le_width.1)
+    omega (arith, field_is c.before.before, two-most c.args.closes, c.requires.le_width.1)
 
 pub overflow_add-by : goal.overflow_add-by
 overflow_add-by c =
-    omega (arith, field_is c.before.before.before, two-most c.args.closes, c.wide-l.ensures.1, c.requires.le_width.1, c.requires.le_width.4)
+    omega (arith, field_is c.before.before.before, two-most c.args.closes, c.requires.le_width.1, c.requires.le_width.4)
 
 pub returns-then-r-by : goal.returns-then-r-by
 returns-then-r-by c =
     let a = c.args in
-    let l = c.wide-l in
-    no_room a.ib.now a.p a.by a.closes c.requires.which l.result c.if-closes.field l.ensures.0 (field_is c.before.before.before.before) c.if-r-by.true
+    let l = c.from-l in
+    no_room a.ib.now a.p a.by a.closes c.requires.which l.result c.if-closes.field l.ensures (field_is c.before.before.before.before) c.if-r-by.true
 
 pub returns-then-most-s : goal.returns-then-most-s
 returns-then-most-s c =
@@ -55,6 +55,6 @@ pub returns : goal.returns
 returns c =
     let a = c.args in
     let e = c.entry_at-s in
-    let l = c.wide-l in
-    parsed-on a.ib.now a.p a.by a.closes c.requires.which e.result e.ensures.is l.result c.if-closes.field c.if-closes-2.most l.ensures.0 (field_is c.before.before.before.before.before.before.before.before.before.before.before)
+    let l = c.from-l in
+    parsed-on a.ib.now a.p a.by a.closes c.requires.which e.result e.ensures.is l.result c.if-closes.field c.if-closes-2.most l.ensures (field_is c.before.before.before.before.before.before.before.before.before.before.before)
     c.if-r-by.false (most-is c.before.before.before.before.before.before) c.if-most-s.false c.if-by-s.false

@@ -1,8 +1,13 @@
+use native.Mathlib.Omega.{arith}
+use Prim.Native.Nat.{◌+◌, ◌-◌}
 use Rattle.index_step.proofs.entry_at.Goals as goal
 
--- src/lib.rt:53:1
 pub returns : goal.returns
 returns c =
-    let l = c.wide-l in
-    let f = c.wide-f in
-    record { is = rw (f.ensures.0, l.ensures.0, c.read_pointer-number.ensures.0); small = (f.ensures.1, l.ensures.1) }
+    let a = c.args in
+    let l = c.from-l in
+    let f = c.from-f in
+    record {
+      is = rw (f.ensures, l.ensures, c.read_pointer-number.ensures.0);
+      small = (omega (arith, f.ensures, c.type_inv.ib (a.p.right - (a.w + 2))), omega (arith, l.ensures, c.type_inv.ib (a.p.right - (a.w + 1))));
+    }

@@ -2,4 +2,4 @@
 use Rattle.index_step.proofs.free_count.Goals as goal
 
 pub returns : goal.returns
-returns c = rw c.read_two.ensures.0
+returns c = rw c.read.ensures.0

@@ -30,10 +30,10 @@ pub overflow_sub-right : goal.overflow_sub-right
 overflow_sub-right c = two-there c.before
 
 -- src/lib.rt:96:26
-pub read_two-requires : goal.read_two-requires
-read_two-requires c = omega (arith, c.requires.1, two-there c.before)
+pub read-requires : goal.read-requires
+read-requires c = omega (arith, c.requires.1, two-there c.before)
 
 -- src/lib.rt:80:1
 pub returns : goal.returns
 returns c =
-    rw (closes-there c.before.before.before, c.less.ensures, c.read_two.ensures.0)
+    rw (closes-there c.before.before.before, c.saturating_sub.ensures, c.read.ensures.0)

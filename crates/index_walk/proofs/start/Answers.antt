@@ -6,4 +6,4 @@ pub returns-then-ib-lt24 : goal.returns-then-ib-lt24
 returns-then-ib-lt24 c = start-short c.args.ib.now c.if-ib-lt24.true
 
 pub returns : goal.returns
-returns c = start_is c.args.ib.now c.if-ib-lt24.false c.read_two.result c.read_two.ensures.0
+returns c = start_is c.args.ib.now c.if-ib-lt24.false c.read.result c.read.ensures.0

@@ -12,7 +12,7 @@ use native.Mathlib.Omega.{arith}
 use Rattle.measures.proofs.Width.{width_some}
 use Rattle.index_write.specs.AidStream.{cuts_in}
 use Rattle.index_write.proofs.Dividing.{last-many}
-use Rattle.index_write.proofs.Renewing.{copied, unused-there, taken-enough, left-small, copy-divisible, copy-room, written-fits, places-small, divided-is}
+use Rattle.index_write.proofs.Renewing.{copied, unused-there, taken-enough, left-small, copy-divisible, copy-room, written-fits, divided-is}
 use Rattle.index_write.proofs.divide_by.Goals as goal
 
 abbrev After-last_cut-state : Type 0
@@ -46,13 +46,6 @@ stored : (k : After-put_all-state)
 stored k =
     let a = k.args in
     written-fits a.n a.i a.cuts a.bytes.now a.ib.now k.requires.divisible.0 k.width_for-w.result k.free_count.result k.last_cut-last.result.count
-    k.width_for-w.ensures k.free_count.ensures (many_is k.before.before.before.before.before.before.before.before) k.requires.room _ (old-is k.before.before.before.before) k.put_all-pen.result k.put_all-pen.new.b k.put_all-pen.ensures
-
--- the two displacements have two bytes
-places : (k : After-put_all-state) → (k.put_all-pen.result.last < 65536) × (k.put_all-pen.result.first < 65536)
-places k =
-    let a = k.args in
-    places-small a.n a.i a.cuts a.bytes.now a.ib.now k.requires.divisible.0 k.width_for-w.result k.free_count.result k.last_cut-last.result.count
     k.width_for-w.ensures k.free_count.ensures (many_is k.before.before.before.before.before.before.before.before) k.requires.room _ (old-is k.before.before.before.before) k.put_all-pen.result k.put_all-pen.new.b k.put_all-pen.ensures
 
 pub free_count-requires : goal.free_count-requires
@@ -96,27 +89,24 @@ pub fill-requires : goal.fill-requires
 fill-requires c =
     (omega (arith, stored c.before.before.before.before.before), omega (arith, c.put_all-pen.auto.b))
 
-pub write_two-requires : goal.write_two-requires
-write_two-requires c =
-    let p = c.requires.divisible.0 in
-    (omega (arith, p.large, c.fill.auto.b, c.put_all-pen.auto.b), omega (arith, stored c.before.before.before.before.before.before.before.before.before, p.small))
+pub write-requires : goal.write-requires
+write-requires c =
+    (omega arith, omega (arith, c.requires.divisible.0.large, c.fill.auto.b, c.put_all-pen.auto.b))
 
-pub write_two-requires-2 : goal.write_two-requires-2
-write_two-requires-2 c =
-    let p = c.requires.divisible.0 in
-    (omega (arith, p.large, c.write_two.auto.b, c.fill.auto.b, c.put_all-pen.auto.b), (places c.before.before.before.before.before.before.before.before.before.before.before.before.before).0)
+pub write-requires-2 : goal.write-requires-2
+write-requires-2 c =
+    (omega arith, omega (arith, c.requires.divisible.0.large, c.write.auto.b, c.fill.auto.b, c.put_all-pen.auto.b))
 
-pub write_two-requires-3 : goal.write_two-requires-3
-write_two-requires-3 c =
-    let p = c.requires.divisible.0 in
-    (omega (arith, p.large, c.write_two-2.auto.b, c.write_two.auto.b, c.fill.auto.b, c.put_all-pen.auto.b), (places c.before.before.before.before.before.before.before.before.before.before.before.before.before.before.before.before.before).1)
+pub write-requires-3 : goal.write-requires-3
+write-requires-3 c =
+    (omega arith, omega (arith, c.requires.divisible.0.large, c.write-2.auto.b, c.write.auto.b, c.fill.auto.b, c.put_all-pen.auto.b))
 
 pub returns : goal.returns
 returns c =
     let a = c.args in record {
       «record» = divided-is a.n a.i a.cuts a.bytes.now a.ib.now c.requires.divisible.0 c.width_for-w.result c.free_count.result c.last_cut-last.result.count
           c.width_for-w.ensures c.free_count.ensures (many_is c.before.before.before.before.before.before.before.before.before.before.before.before.before.before.before.before.before.before.before.before.before.before.before.before.before.before.before.before) c.requires.room _ (old-is c.before.before.before.before.before.before.before.before.before.before.before.before.before.before.before.before.before.before.before.before.before.before.before.before) c.put_all-pen.result c.put_all-pen.new.b c.put_all-pen.ensures
-          c.fill.new.b c.write_two.new.b c.write_two-2.new.b c.write_two-3.new.b
-          (λ i. omega (arith, c.slice_known-1.given i)) c.fill.ensures c.write_two.ensures c.write_two-2.ensures c.write_two-3.ensures;
+          c.fill.new.b c.write.new.b c.write-2.new.b c.write-3.new.b
+          (λ i. omega (arith, c.slice_known-1.given i)) c.fill.ensures c.write.ensures c.write-2.ensures c.write-3.ensures;
       copied = c.copy.ensures;
     }

@@ -15,7 +15,7 @@ use Rattle.index.specs.Reading.{free_count, numbers_at}
 use Rattle.index_step.specs.AidStep.{step_at}
 use Rattle.index_write.specs.declared.Cursor.{Cursor}
 use Rattle.index_write.specs.declared.Division.{Division}
-use Rattle.index_write.specs.AidStream.{first_cut, second_cut, cuts_in, FreeLie}
+use Rattle.index_write.specs.AidStream.{first_cut, second_cut, three_in, cuts_in, FreeLie}
 use Rattle.index_write.proofs.Dividing.{free_from, counted, free-few, there, many-few, last-many, last_as}
 use Rattle.index_write.proofs.Passes.{cursor_first, begins-as, goes-on-as, division-as, number-as, takes-as, step-as, first-stands, len-inside, at_lies, at-renews, at-past, cuts-stand, end-inside, own-puts, own_room, last-stands, all-put}
 use Rattle.index_write.proofs.put_all.Goals as goal
@@ -218,9 +218,9 @@ end-few y =
 
 -- the last cut's separator
 last-there : (l : After-last_cut-state)
-    → (l.last_cut-last.result.from ≤ l.last_cut-last.result.to) × (l.last_cut-last.result.to ≤ length l.args.bytes.now)
-    × (part l.args.bytes.now l.last_cut-last.result.from (l.last_cut-last.result.to - l.last_cut-last.result.from)
-    ≡ pick l.args.cuts.three (second_cut l.args.cuts l.args.bytes.now)
+    → (l.last_cut-last.result.cut.from ≤ l.last_cut-last.result.cut.to) × (l.last_cut-last.result.cut.to ≤ length l.args.bytes.now)
+    × (part l.args.bytes.now l.last_cut-last.result.cut.from (l.last_cut-last.result.cut.to - l.last_cut-last.result.cut.from)
+    ≡ pick (three_in l.args.cuts) (second_cut l.args.cuts l.args.bytes.now)
     (first_cut l.args.cuts l.args.bytes.now))
 last-there l =
     let a = l.args in

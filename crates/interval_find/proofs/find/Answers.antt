@@ -1,6 +1,3 @@
-use Rattle.interval_find.proofs.find.Lts
-use Rattle.interval_find.proofs.find.Reads
-use Rattle.interval_find.proofs.find.Tie
 use Prim.Native.Nat.{ℕ, ◌+◌, ◌-◌, ◌*◌, ◌^◌, ◌≤◌, ◌<◌}
 use mathlib.Core.Path.{◌≡◌, ◌∙◌, sym, ap}
 use lib.ListN.{length}
@@ -8,38 +5,36 @@ use native.Mathlib.Omega.{arith}
 use Rattle.interval.specs.Reading.{records_in, rdfs}
 use Rattle.interval.specs.declared.Found.TheVariants.{Gap}
 use Rattle.interval.proofs.Readable.{readable-rdfs, readable-ascends, records-few}
+use Rattle.std.specs.Prelude.{Some}
 use Rattle.rdf.specs.AidFront.{front_of, Small}
-use Rattle.rdf.specs.declared.Front.TheVariants as front
 use Rattle.interval_find.specs.AidRuns.{RunIn}
 use Rattle.interval_find.specs.declared.Run.{Run}
 use Rattle.interval_find.proofs.Placing.{gap-last}
 use Rattle.interval_find.proofs.Runs.{no-damage, passed_none, passed-last, passed-more, more-count, more_bytes, run_end, run_fits, run_lies}
 use Rattle.interval_find.proofs.Halving.{run-key-inside, run_small, run-below, run-same, run-above, find-ends}
 use Rattle.interval_find.proofs.find.Goals as goal
-
-abbrev After-known_told-state : Type 0
-After-known_told-state = Lts.Past-After-known_told Tie.the-claims Reads.Pre Reads.Post goal.the-invariant-loop-left goal.the-decreases-loop-left Tie.handed_clauses
+use Rattle.interval_find.proofs.find.Goals.{In-Some}
 
 -- the run that was read
-abbrev len_of : After-known_told-state → ℕ
-len_of k = k.in-Run.len
+abbrev len_of : In-Some → ℕ
+len_of k = k.in-Some.field-0.len
 
-abbrev count_of : After-known_told-state → ℕ
-count_of k = k.in-Run.count
+abbrev count_of : In-Some → ℕ
+count_of k = k.in-Some.field-0.count
 
-abbrev used-of : After-known_told-state → ℕ
-used-of k = k.in-Run.used
+abbrev used-of : In-Some → ℕ
+used-of k = k.in-Some.field-0.used
 
-abbrev run_of : After-known_told-state → Run
+abbrev run_of : In-Some → Run
 run_of k = record { ordinal = k.loop-left.ordinal; start = k.loop-left.start; len = len_of k; last = count_of k - 1 }
 
-small : (k : After-known_told-state) → Small k.loop-left.left (front.Run (len_of k) (count_of k) (used-of k))
-small k = rw k.in-Run.is at k.group_at.ensures.small
+small : (k : In-Some) → Small k.loop-left.left (Some k.in-Some.field-0)
+small k = rw k.in-Some.is at k.group_at.ensures.small
 
-module _ (k : After-known_told-state) where
-  told : front.Run (len_of k) (count_of k) (used-of k)
+module _ (k : In-Some) where
+  told : Some k.in-Some.field-0
       ≡ front_of k.args.m.least k.args.m.most (rdfs k.args.ci.now k.rdfs_of-rdfs.result.at k.loop-left.left)
-  told = sym k.in-Run.is ∙ k.group_at.ensures.is
+  told = sym k.in-Some.is ∙ k.group_at.ensures.is
 
   some : 0 < k.loop-left.left
   some = k.loop-left-test.true
@@ -87,36 +82,30 @@ returns-in_default c =
     c.loop-left-test.true
     (sym c.in_default.is ∙ c.group_at.ensures.is))
 
-pub overflow_sub-run : goal.overflow_sub-run
-overflow_sub-run c = omega (arith, small c.before)
-
-pub overflow_mul-run : goal.overflow_mul-run
-overflow_mul-run c = omega (arith, last-small c.before.before)
-
 pub overflow_add-start : goal.overflow_add-start
-overflow_add-start c = omega (arith, last-small c.before.before)
+overflow_add-start c = omega (arith, last-small (goal.at.overflow_add-start c).In-Some)
 
 pub order_at-requires : goal.order_at-requires
 order_at-requires c =
-    (run-key-inside c.args.m c.args.ci.now c.args.key.now c.requires.0 (run_of c.before.before) (lies c.before.before) (count_of c.before.before - 1) (omega arith), c.requires.1)
+    (run-key-inside c.args.m c.args.ci.now c.args.key.now c.requires.0 (run_of (goal.at.order_at-requires c).In-Some) (lies (goal.at.order_at-requires c).In-Some) (count_of (goal.at.order_at-requires c).In-Some - 1) (omega arith), c.requires.1)
 
 pub found-requires : goal.found-requires
-found-requires c = last-small c.before.before.before.before
+found-requires c = last-small (goal.at.found-requires c).In-Some
 
-pub returns-in-Same : goal.returns-in-Same
-returns-in-Same c =
+pub returns-in-Equal : goal.returns-in-Equal
+returns-in-Equal c =
     let told = find-ends c.args.m c.args.ci.now c.args.key.now c.requires.0 _
-    (c.found.ensures ∙ run-same c.args.m c.args.ci.now c.args.key.now c.requires.0 (run_of c.before.before.before.before.before) (lies c.before.before.before.before.before) (count_of c.before.before.before.before.before - 1) (omega arith) _ (sym c.order_at.ensures)
-    c.in-Same.is) in record { is = told.0; within = told.1 }
+    (c.found.ensures ∙ run-same c.args.m c.args.ci.now c.args.key.now c.requires.0 (run_of (goal.at.returns-in-Equal c).In-Some) (lies (goal.at.returns-in-Equal c).In-Some) (count_of (goal.at.returns-in-Equal c).In-Some - 1) (omega arith) _ (sym c.order_at.ensures)
+    c.in-Equal.is) in record { is = told.0; within = told.1 }
 
 pub find_in-requires : goal.find_in-requires
 find_in-requires c = (
   c.requires.0,
   c.requires.1,
-  lies c.before.before.before.before,
+  lies (goal.at.find_in-requires c).In-Some,
   record {
     before = c.loop-left.invariant.3;
-    above = run-above c.args.m c.args.ci.now c.args.key.now c.requires.0 (run_of c.before.before.before.before) (lies c.before.before.before.before) (count_of c.before.before.before.before - 1) (omega arith) _ (sym c.order_at.ensures)
+    above = run-above c.args.m c.args.ci.now c.args.key.now c.requires.0 (run_of (goal.at.find_in-requires c).In-Some) (lies (goal.at.find_in-requires c).In-Some) (count_of (goal.at.find_in-requires c).In-Some - 1) (omega arith) _ (sym c.order_at.ensures)
         c.in-Greater.is;
   },
 )
@@ -126,31 +115,22 @@ returns-in-Greater c =
     let told = find-ends c.args.m c.args.ci.now c.args.key.now c.requires.0 _ c.find_in.ensures in record { is = told.0; within = told.1 }
 
 pub overflow_add-ordinal : goal.overflow_add-ordinal
-overflow_add-ordinal c = omega (arith, ends c.before.before.before.before, many-small c.before.before.before.before)
-
-pub overflow_mul-start : goal.overflow_mul-start
-overflow_mul-start c = omega (arith, ends c.before.before.before.before, c.requires.0.small)
+overflow_add-ordinal c = omega (arith, ends (goal.at.overflow_add-ordinal c).In-Some, many-small (goal.at.overflow_add-ordinal c).In-Some)
 
 pub overflow_add-start-in-loop-left : goal.overflow_add-start-in-loop-left
-overflow_add-start-in-loop-left c = omega (arith, ends c.before.before.before.before, c.requires.0.small)
-
-pub overflow_sub-left : goal.overflow_sub-left
-overflow_sub-left c = omega (arith, small c.before.before.before.before)
-
-pub loop-left-smaller : goal.loop-left-smaller
-loop-left-smaller c = omega (arith, small c.before.before.before.before, some c.before.before.before.before)
+overflow_add-start-in-loop-left c = omega (arith, ends (goal.at.overflow_add-start-in-loop-left c).In-Some, c.requires.0.small)
 
 pub loop-left-preserved : goal.loop-left-preserved
 loop-left-preserved c =
     let i = c.loop-left.invariant in
-    let b = run-below c.args.m c.args.ci.now c.args.key.now c.requires.0 (run_of c.before.before.before.before) (lies c.before.before.before.before) (count_of c.before.before.before.before - 1) (omega arith) _ (sym c.order_at.ensures)
+    let b = run-below c.args.m c.args.ci.now c.args.key.now c.requires.0 (run_of (goal.at.loop-left-preserved c).In-Some) (lies (goal.at.loop-left-preserved c).In-Some) (count_of (goal.at.loop-left-preserved c).In-Some - 1) (omega arith) _ (sym c.order_at.ensures)
     c.in-Less.is in
     let p : ℕ = c.rdfs_of-rdfs.result.at in
     let l : ℕ = c.loop-left.left in (
-      passed-more c.args.m c.args.ci.now c.requires.0 p l i.0 (some c.before.before.before.before) (len_of c.before.before.before.before) (count_of c.before.before.before.before) (used-of c.before.before.before.before) (told c.before.before.before.before) (small c.before.before.before.before),
-      more-count c.args.m c.args.ci.now c.requires.0 p l i.0 (some c.before.before.before.before) (len_of c.before.before.before.before) (count_of c.before.before.before.before) (used-of c.before.before.before.before) (told c.before.before.before.before) (small c.before.before.before.before) ∙ rw i.1,
-      more_bytes c.args.m c.args.ci.now c.requires.0 p l i.0 (some c.before.before.before.before) (len_of c.before.before.before.before) (count_of c.before.before.before.before) (used-of c.before.before.before.before) (told c.before.before.before.before) (small c.before.before.before.before) ∙ rw i.2,
-      omega (arith, b, small c.before.before.before.before),
+      passed-more c.args.m c.args.ci.now c.requires.0 p l i.0 (some (goal.at.loop-left-preserved c).In-Some) (len_of (goal.at.loop-left-preserved c).In-Some) (count_of (goal.at.loop-left-preserved c).In-Some) (used-of (goal.at.loop-left-preserved c).In-Some) (told (goal.at.loop-left-preserved c).In-Some) (small (goal.at.loop-left-preserved c).In-Some),
+      more-count c.args.m c.args.ci.now c.requires.0 p l i.0 (some (goal.at.loop-left-preserved c).In-Some) (len_of (goal.at.loop-left-preserved c).In-Some) (count_of (goal.at.loop-left-preserved c).In-Some) (used-of (goal.at.loop-left-preserved c).In-Some) (told (goal.at.loop-left-preserved c).In-Some) (small (goal.at.loop-left-preserved c).In-Some) ∙ rw i.1,
+      more_bytes c.args.m c.args.ci.now c.requires.0 p l i.0 (some (goal.at.loop-left-preserved c).In-Some) (len_of (goal.at.loop-left-preserved c).In-Some) (count_of (goal.at.loop-left-preserved c).In-Some) (used-of (goal.at.loop-left-preserved c).In-Some) (told (goal.at.loop-left-preserved c).In-Some) (small (goal.at.loop-left-preserved c).In-Some) ∙ rw i.2,
+      omega (arith, b, small (goal.at.loop-left-preserved c).In-Some),
     )
 
 pub returns : goal.returns

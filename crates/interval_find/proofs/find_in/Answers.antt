@@ -67,10 +67,10 @@ loop-low-preserved-in-Less c =
 pub found-requires : goal.found-requires
 found-requires c = small c.before.before.before.before.before
 
-pub returns-in-Same : goal.returns-in-Same
-returns-in-Same c =
+pub returns-in-Equal : goal.returns-in-Equal
+returns-in-Equal c =
     c.found.ensures ∙ run-same c.args.m c.args.ci.now c.args.key.now c.requires.0 c.args.run c.requires.2 (middle c.before.before.before.before.before.before.before) (half c.before.before.before.before.before.before).1 _
-    (sym c.order_at.ensures) c.in-Same.is
+    (sym c.order_at.ensures) c.in-Equal.is
 
 pub loop-low-smaller : goal.loop-low-smaller
 loop-low-smaller c = omega (arith, half c.before.before.before.before.before)

@@ -6,7 +6,7 @@ use mathlib.Core.Path.{◌≡◌}
 use mathlib.Core.List.{[]}
 use lib.ListN.{get_or}
 use Rattle.fields.specs.Order.{order_of}
-use Rattle.fields.specs.declared.Order.TheVariants.{Greater}
+use Rattle.std.specs.declared.cmp.Ordering.TheVariants.{Greater}
 use Rattle.interval.specs.Records.{key_of}
 use Rattle.interval.specs.Reading.{records_in}
 use Rattle.interval.specs.Search.{lower}

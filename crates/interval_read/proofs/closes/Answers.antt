@@ -67,11 +67,11 @@ returns-in-Less c =
     shut_by a.m a.ci.now (omega arith) (omega arith) a.count a.last (told c.before.before.before.before.before.before.before.before) c.if-count-eq0.false (bound a.m.key a.high.now) true
     (answered c.before.before ∙ ap is_less c.in-Less.is)
 
-pub returns-in-Same : goal.returns-in-Same
-returns-in-Same c =
+pub returns-in-Equal : goal.returns-in-Equal
+returns-in-Equal c =
     let a = c.args in
     shut_by a.m a.ci.now (omega arith) (omega arith) a.count a.last (told c.before.before.before.before.before.before.before.before) c.if-count-eq0.false (bound a.m.key a.high.now) false
-    (answered c.before.before ∙ ap is_less c.in-Same.is)
+    (answered c.before.before ∙ ap is_less c.in-Equal.is)
 
 pub returns-in-Greater : goal.returns-in-Greater
 returns-in-Greater c =

@@ -2,12 +2,9 @@
 -- way-first: with no bound before, low counts as the empty list, which is below every key. way-empty: there is no record.
 -- way_above and way-below: the keys ascend, so all are above the bound exactly if the first is. some-there: the first key lies in the interval.
 -- compared: the separator is below as many bytes of a key as it has exactly if its bound is below the key.
-use Rattle.interval_read.proofs.opens.Lts
-use Rattle.interval_read.proofs.opens.Reads
-use Rattle.interval_read.proofs.opens.Tie
-use Prim.Native.Nat.{◌+◌, ◌≤◌}
+use Prim.Native.Nat.{ℕ, ◌+◌, ◌≤◌}
 use mathlib.Core.Path.{◌≡◌, ◌∙◌, sym, ap}
-use mathlib.Core.List.{[]}
+use mathlib.Core.List.{List, []}
 use lib.ListN.{length}
 use native.Mathlib.Omega.{arith}
 use borrow.Author.Rules.{rules}
@@ -16,51 +13,48 @@ use Rattle.fields.specs.Order.{is_less, less}
 use Rattle.fields.specs.Bytes.{part}
 use Rattle.fields.proofs.Answers.{not-less}
 use Rattle.interval.specs.Bounds.{bound}
+use Rattle.std.specs.Prelude.{Option, Some}
+use Rattle.measures.specs.declared.Measures.{Measures}
+use Rattle.interval_read.specs.Verdict.{verdict_of}
+use Rattle.interval_read.specs.declared.Verdict.{Verdict}
 use Rattle.interval_read.proofs.Verdicts.{Told, sound-told, unsound-told, opens_not, compared, way-first, way-empty, way_above, way-below, some-there}
 use Rattle.interval_read.proofs.opens.Goals as goal
+use Rattle.interval_read.proofs.opens.Goals.{Else-count-eq0, After-compare_bytes}
 
-abbrev After-known_told-state : Type 0
-After-known_told-state = Lts.Past-After-known_told Tie.the-claims Reads.Pre Reads.Post Tie.handed_clauses
-
-abbrev Else2-state : Type 0
-Else2-state = Lts.Else2 Tie.the-claims Reads.Pre Reads.Post Tie.handed_clauses
-
-abbrev After-compare_bytes-state : Type 0
-After-compare_bytes-state = Lts.After-compare_bytes Tie.the-claims Reads.Pre Reads.Post Tie.handed_clauses
-
-told : (c : After-known_told-state)
-    → Told c.args.m c.args.ci.now c.in-Sound.count c.in-Sound.last
-told c =
-    let a = c.args in
-    sound-told a.m a.ci.now c.in-Sound.count c.in-Sound.bytes c.in-Sound.rdfs c.in-Sound.last
-    (sym c.in-Sound.is ∙ c.check.ensures)
+told : {m : Measures} {ci : List ℕ} {r : Option Verdict} {v : Verdict} → r ≡ verdict_of m ci → r ≡ Some v → Told m ci v.count v.last
+told e w = sound-told _ _ _ (sym w ∙ e)
 
 -- the first key lies in the interval
-first-inside : (c : Else2-state) → c.args.m.offset + c.args.m.key ≤ length c.args.ci.now
+first-inside : (c : Else-count-eq0) → c.args.m.offset + c.args.m.key ≤ length c.args.ci.now
 first-inside c =
     let a = c.args in
-    (some-there a.m a.ci.now (omega arith) (omega arith) c.in-Sound.count c.in-Sound.last (told c.before.before) c.if-count-eq0.false).first-in
+    (some-there a.m a.ci.now (omega arith) (omega arith) _ _ (told c.check.ensures c.in_ok-count.was) c.if-count-eq0.false).first-in
 
 -- what the comparison says: how the bound stands to the first key
-answered : (c : After-compare_bytes-state)
+answered : (c : After-compare_bytes)
+    → c.args.m.offset + c.args.m.key ≤ length c.args.ci.now
     → less (bound c.args.m.key c.args.low.now)
     (part c.args.ci.now c.args.m.offset c.args.m.key)
     ≡ is_less c.compare_bytes.result
-answered c =
+answered c i =
     let a = c.args in
-    compared a.m.key a.ci.now a.low.now a.m.offset c.compare_bytes.result (omega arith) (first-inside c.before.before)
-    (λ i. omega (arith, c.shared_slice_known-1.given i)) c.compare_bytes.ensures
+    compared a.m.key a.ci.now a.low.now a.m.offset c.compare_bytes.result (omega arith) i
+    (λ j. omega (arith, c.type_inv.ci j)) c.compare_bytes.ensures
 
-pub returns-in_default : goal.returns-in_default
-returns-in_default c =
+pub returns-in_err-count : goal.returns-in_err-count
+returns-in_err-count c =
     let a = c.args in
-    record { is = opens_not a.m (pick a.first [] (bound a.m.key a.low.now)) a.ci.now (unsound-told a.m a.ci.now (sym c.in_default.is ∙ c.check.ensures)); inside = tt }
+    record {
+      is = c.from_residual.ensures
+          ∙ opens_not a.m (pick a.first [] (bound a.m.key a.low.now)) a.ci.now (unsound-told a.m a.ci.now (sym c.in_err-count.was ∙ c.check.ensures));
+      inside = rw c.from_residual.ensures tt;
+    }
 
 pub returns-then-first : goal.returns-then-first
 returns-then-first c =
     let a = c.args in
-    let t = told c.before.before in record {
-      is = way-first a.m a.ci.now (omega arith) (omega arith) c.in-Sound.count c.in-Sound.last t a.first (bound a.m.key a.low.now)
+    let t = told c.check.ensures c.in_ok-count.was in record {
+      is = way-first a.m a.ci.now (omega arith) (omega arith) c.in_ok-count.field-0.count c.in_ok-count.field-0.last t a.first (bound a.m.key a.low.now)
           c.if-first.true;
       inside = (t.stands, t.many, t.final);
     }
@@ -68,32 +62,32 @@ returns-then-first c =
 pub returns-then-count-eq0 : goal.returns-then-count-eq0
 returns-then-count-eq0 c =
     let a = c.args in
-    let t = told c.before.before.before in record {
-      is = way-empty a.m a.ci.now (omega arith) (omega arith) c.in-Sound.count c.in-Sound.last t (pick a.first [] (bound a.m.key a.low.now))
+    let t = told c.check.ensures c.in_ok-count.was in record {
+      is = way-empty a.m a.ci.now (omega arith) (omega arith) c.in_ok-count.field-0.count c.in_ok-count.field-0.last t (pick a.first [] (bound a.m.key a.low.now))
           c.if-count-eq0.true;
       inside = (t.stands, t.many, t.final);
     }
 
 pub slice_bounds-compare_bytes-end : goal.slice_bounds-compare_bytes-end
 slice_bounds-compare_bytes-end c =
-    let z = first-inside c.before in
+    let z = first-inside (goal.at.slice_bounds-compare_bytes-end c).Else-count-eq0 in
     search rules
 
-pub returns-in_default-compare_bytes : goal.returns-in_default-compare_bytes
-returns-in_default-compare_bytes c =
+pub returns-in_default : goal.returns-in_default
+returns-in_default c =
     let a = c.args in record {
-      is = way-below a.m a.ci.now (omega arith) (omega arith) c.in-Sound.count c.in-Sound.last (told c.before.before.before.before.before.before)
+      is = way-below a.m a.ci.now (omega arith) (omega arith) c.in_ok-count.field-0.count c.in_ok-count.field-0.last (told c.check.ensures c.in_ok-count.was)
           c.if-count-eq0.false a.first (bound a.m.key a.low.now) c.if-first.false
-          (answered c.before.before ∙ not-less c.compare_bytes.result c.in_default-compare_bytes.not-Less);
+          (answered (goal.at.returns-in_default c).After-compare_bytes (first-inside (goal.at.returns-in_default c).Else-count-eq0) ∙ not-less c.compare_bytes.result c.in_default.not-Less);
       inside = tt;
     }
 
 pub returns : goal.returns
 returns c =
     let a = c.args in
-    let t = told c.before.before.before.before.before.before in record {
-      is = way_above a.m a.ci.now (omega arith) (omega arith) c.in-Sound.count c.in-Sound.last t
+    let t = told c.check.ensures c.in_ok-count.was in record {
+      is = way_above a.m a.ci.now (omega arith) (omega arith) c.in_ok-count.field-0.count c.in_ok-count.field-0.last t
           c.if-count-eq0.false a.first (bound a.m.key a.low.now) c.if-first.false
-          (answered c.before.before ∙ ap is_less c.in-Less.is);
+          (answered (goal.at.returns c).After-compare_bytes (first-inside (goal.at.returns c).Else-count-eq0) ∙ ap is_less c.in-Less.is);
       inside = (t.stands, t.many, t.final);
     }

@@ -10,14 +10,14 @@ use Rattle.interval_read.proofs.run_rises.Goals as goal
 pub rises-requires : goal.rises-requires
 rises-requires c =
     let a = c.args in
-    let e = one_less a.len a.count (omega arith) in
-    (omega arith, omega arith, omega arith, omega arith, omega arith)
+    let e = one_less a.keys.len a.keys.count (omega arith) in
+    (omega (arith, c.requires.0), omega (arith, c.requires.0), omega (arith, c.requires.0), omega (arith, c.requires.0), omega (arith, c.requires.0))
 
 pub returns-then-seen-eq0 : goal.returns-then-seen-eq0
 returns-then-seen-eq0 c =
     let a = c.args in
-    let e = one_less a.len a.count (omega arith) in
-    c.rises.ensures ∙ rw (eq-eqb a.seen 0 c.if-seen-eq0.true) (sym (run-first a.key a.ci.now a.at a.len a.count (omega arith) (omega arith) (omega arith)))
+    let e = one_less a.keys.len a.keys.count (omega arith) in
+    c.rises.ensures ∙ rw (eq-eqb a.seen 0 c.if-seen-eq0.true) (sym (run-first a.key a.ci.now a.keys.at a.keys.len a.keys.count (omega arith) (omega arith) (omega arith)))
 
 pub returns : goal.returns
 returns c =

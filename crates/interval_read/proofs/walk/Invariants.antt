@@ -12,7 +12,7 @@ use Rattle.interval_read.proofs.walk.Given as goal
 
 abbrev pub invariant-loop-left : goal.invariant-loop-left
 invariant-loop-left l =
-    ((l.left ≤ l.many) × (l.q ≡ l.p + 3 * l.left)) × Come l.offset l.key l.least l.most l.ci l.bytes (rdfs l.ci l.p l.many) (rdfs l.ci l.p l.left) l.at l.seen l.last
+    ((l.left ≤ l.tail.many) × (l.q ≡ l.tail.at + 3 * l.left)) × Come l.offset l.key l.least l.most l.ci l.bytes (rdfs l.ci l.tail.at l.tail.many) (rdfs l.ci l.tail.at l.left) l.at l.seen l.last
 
 abbrev pub decreases-loop-left : goal.decreases-loop-left
 decreases-loop-left l = l.left

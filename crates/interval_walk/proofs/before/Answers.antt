@@ -11,7 +11,7 @@ returns-then-s-gt0 c =
 pub returns-then-ci-lt4 : goal.returns-then-ci-lt4
 returns-then-ci-lt4 c =
     let a = c.args in
-    c.nothing.ensures ∙ before-short a.ci.now a.s c.if-s-gt0.false c.if-ci-lt4.true
+    before-short a.ci.now a.s c.if-s-gt0.false c.if-ci-lt4.true
 
 pub returns : goal.returns
 returns c =

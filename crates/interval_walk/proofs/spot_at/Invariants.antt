@@ -1,8 +1,8 @@
 -- Invariant: the runs that were passed (Passed) have `ordinal` records, which take `start` bytes; the ordinal that is sought does not lie before them, and no more RDFs are left than
 -- the interval has. Measure: the RDFs that are left.
--- rdfs-told: the fields of the CIDF say where the RDFs begin and how many there are. run-stands: the spot in the run that holds the ordinal. passed-all: where no RDF is left all
+-- run-stands: the spot in the run that holds the ordinal. passed-all: where no RDF is left all
 -- records are passed, so the ordinal was met before.
-use Prim.Native.Nat.{◌-◌, ◌≤◌}
+use Prim.Native.Nat.{◌≤◌}
 use mathlib.Core.Path.{◌≡◌}
 use lib.ListN.{length}
 use Rattle.fields.specs.Lists.{sum}

@@ -8,6 +8,6 @@ pub returns : goal.returns
 returns c =
     let a = c.args in
     let u : c.with_flag.result ≡ a.unused = omega arith in
-    c.write_two-2.ensures
-    ∙ rw (c.write_two.ensures, u)
+    c.write-2.ensures
+    ∙ rw (c.write.ensures, u)
     (cidf-stored a.ci.now a.at a.displacement a.unused (omega arith))

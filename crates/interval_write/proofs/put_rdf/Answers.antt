@@ -6,4 +6,4 @@ use Rattle.interval_write.proofs.put_rdf.Goals as goal
 pub returns : goal.returns
 returns c =
     let a = c.args in
-    rw (c.write_two.ensures, c.put_together.ensures) (rdf-stored a.ci.now a.at _ a.num (omega arith))
+    rw (c.write.ensures, c.control_byte.ensures) (rdf-stored a.ci.now a.at _ a.num (omega arith))

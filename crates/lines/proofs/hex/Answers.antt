@@ -1,4 +1,3 @@
-use Prim.Native.Nat.{◌-◌}
 use mathlib.Core.Path.{◌≡◌, ◌∙◌, ap}
 use lib.ListN.{length, length-set}
 use native.Mathlib.Omega.{arith}
@@ -22,7 +21,7 @@ bounds-text-at c =
     omega (arith, (ap length o.invariant.2 ∙ spelt-length a.bytes.now a.text.now o.invariant.1 o.i o.invariant.0))
 
 pub digit-requires-in-loop-i : goal.digit-requires-in-loop-i
-digit-requires-in-loop-i c = omega (arith, c.shared_slice_known-in-loop-i-1.given (c.loop-i.i - 1))
+digit-requires-in-loop-i c = omega arith
 
 pub bounds-text-at-in-loop-i : goal.bounds-text-at-in-loop-i
 bounds-text-at-in-loop-i c =

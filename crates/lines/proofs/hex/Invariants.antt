@@ -1,7 +1,7 @@
 -- Invariant: the text has room for two digits a byte. From place 2 * i on it holds the digits of the bytes from i on, and elsewhere it is as it was.
 -- Measure: i, the bytes whose digits aren't stored yet.
 -- A turn stores the low digit, then the high one before it (hex-turn). A text that is too short stays as it was (hex-short).
-use Prim.Native.Nat.{◌-◌, ◌*◌, ◌≤◌}
+use Prim.Native.Nat.{◌*◌, ◌≤◌}
 use mathlib.Core.Path.{◌≡◌}
 use lib.ListN.{length, drop}
 use Rattle.fields.specs.Bytes.{splice}

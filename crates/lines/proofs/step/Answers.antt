@@ -11,7 +11,7 @@ returns-then-request-ne64 c =
     wrong_size a.area.now a.request.now a.out.now c.if-request-ne64.true
 
 pub overflow_cast-len : goal.overflow_cast-len
-overflow_cast-len c = omega (arith, c.shared_slice_known-3-1.given 1)
+overflow_cast-len c = omega arith
 
 pub returns-then-len-gt62 : goal.returns-then-len-gt62
 returns-then-len-gt62 c =

@@ -3,4 +3,4 @@ use Rattle.list.proofs.Listing.{end-lists}
 use Rattle.list.proofs.listed.Goals as goal
 
 pub records-requires : goal.records-requires
-records-requires g c = end-lists c.args.area.now c.walk_end.result c.in-At.p c.in-At.is c.walk_end.ensures.begins
+records-requires g c = end-lists c.args.area.now c.walk_end.result c.in-Ok.p c.in-Ok.is c.walk_end.ensures.begins

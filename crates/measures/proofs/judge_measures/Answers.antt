@@ -1,6 +1,7 @@
 -- Each test that refuses denies one field of Fits, so by refused the judgement is Outside. At the end all fields hold, and accepted gives Fine.
 -- permitted-range: a permitted size is at least 512, so size - 7 does not fall below zero.
 -- no-remainder and whole-number: with no remainder, and only then, the length is a whole number of intervals.
+use Rattle.std.specs.Prelude.{None}
 use Rattle.measures.proofs.judge_measures.Lts
 use Rattle.measures.proofs.judge_measures.Reads
 use Rattle.measures.proofs.judge_measures.Tie
@@ -13,7 +14,6 @@ use Rattle.fields.proofs.Choices.{false-true}
 use Rattle.measures.specs.Sizes.{permitted_size}
 use Rattle.measures.specs.Judgement.{Fits, count_of, judged_of}
 use Rattle.measures.specs.declared.Measures.{Measures}
-use Rattle.measures.specs.declared.Judged.TheVariants.{Outside}
 use Rattle.measures.proofs.Sizes.{permitted-range}
 use Rattle.measures.proofs.Fine.{refused, accepted, no-remainder, whole-number}
 use Rattle.measures.proofs.judge_measures.Goals as goal
@@ -25,7 +25,7 @@ Else1-state = Lts.Else1 Tie.the-claims Reads.Pre Reads.Post
 abbrev FitsHere : Measures → ℕ → Type 0
 FitsHere m length = Fits m (count_of m.size length) length
 
-outside : (m : Measures) (length : ℕ) → (FitsHere m length → ⊥) → Outside ≡ judged_of m length
+outside : (m : Measures) (length : ℕ) → (FitsHere m length → ⊥) → None ≡ judged_of m length
 outside m length f = sym (refused m length f)
 
 size-fine : (c : Else1-state) → permitted_size c.args.m.size ≡ true

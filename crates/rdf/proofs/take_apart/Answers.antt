@@ -1,5 +1,6 @@
 -- agree: the three masks tell the bytes apart just as control_of does, by one computed test over all 256 bytes.
 -- Each way out is a case of by_mask, which says what the code's tests choose.
+use Rattle.std.specs.Prelude.{Option, Some, None}
 use Prim.Native.Nat.{ℕ, zero, suc, ◌<◌}
 use mathlib.Core.Path.{◌≡◌, refl, ◌∙◌, sym, ap}
 use lib.Dec.{eqb}
@@ -10,33 +11,33 @@ use Rattle.fields.specs.Choice.{pick}
 use Rattle.fields.proofs.Masks.{below_eq}
 use Rattle.rdf.specs.Control.{control_of}
 use Rattle.rdf.specs.declared.Control.{Control}
-use Rattle.rdf.specs.declared.Control.TheVariants.{Single, Paired, Count, Bad}
+use Rattle.rdf.specs.declared.Control.TheVariants.{Single, Paired, Count}
 use Rattle.rdf.proofs.take_apart.Goals as goal
 
 -- what the code does, as a function of its tests
-abbrev by_mask : ℕ → Control
+abbrev by_mask : ℕ → Option Control
 by_mask c =
     pick (eqb (bit_and c 183) 0)
-    (pick (eqb (bit_and c 64) 0) (pick (eqb (bit_and c 8) 0) Single Count) (pick (eqb (bit_and c 8) 0) Paired Bad))
-    Bad
+    (pick (eqb (bit_and c 64) 0) (pick (eqb (bit_and c 8) 0) (Some Single) (Some Count)) (pick (eqb (bit_and c 8) 0) (Some Paired) None))
+    None
 
-abbrev code : Control → ℕ
-code Single = 0
-code Paired = 1
-code Count = 2
-code Bad = 3
+abbrev code : Option Control → ℕ
+code (Some Single) = 0
+code (Some Paired) = 1
+code (Some Count) = 2
+code None = 3
 
-abbrev back : ℕ → Control
-back zero = Single
-back (suc zero) = Paired
-back (suc (suc zero)) = Count
-back (suc (suc (suc n))) = Bad
+abbrev back : ℕ → Option Control
+back zero = Some Single
+back (suc zero) = Some Paired
+back (suc (suc zero)) = Some Count
+back (suc (suc (suc n))) = None
 
-back-code : (a : Control) → back (code a) ≡ a
-back-code Single = refl
-back-code Paired = refl
-back-code Count = refl
-back-code Bad = refl
+back-code : (a : Option Control) → back (code a) ≡ a
+back-code (Some Single) = refl
+back-code (Some Paired) = refl
+back-code (Some Count) = refl
+back-code None = refl
 
 -- the masks tell the bytes apart: one test over the 256 bytes
 agree : (c : ℕ) → c < 256 → by_mask c ≡ control_of c

@@ -3,5 +3,5 @@ use mathlib.Core.Path.{sym, ap}
 use Rattle.register.specs.AidTold.{answer_for}
 use Rattle.register.proofs.told.Goals as goal
 
-pub returns-in-Done : goal.returns-in-Done
-returns-in-Done c = sym (ap answer_for c.in-Done.is)
+pub returns-in-Ok : goal.returns-in-Ok
+returns-in-Ok c = sym (ap answer_for c.in-Ok.is)

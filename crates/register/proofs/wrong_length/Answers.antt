@@ -25,4 +25,4 @@ returns-in_default c =
 pub returns : goal.returns
 returns c =
     let a = c.args in
-    wrong-sound a.m a.n a.area.now (answer-sound a.m.key a.n (index_in a.m a.area.now) c.in-Sound.free c.in-Sound.entries (sym c.check.ensures ∙ c.in-Sound.is)).sound
+    wrong-sound a.m a.n a.area.now (answer-sound a.m.key a.n (index_in a.m a.area.now) _ (sym c.check.ensures ∙ c.in-Some.is)).sound

@@ -1,5 +1,6 @@
 use Prim.Native.Nat.{◌-◌}
-use lib.ListN.{get_or}
+use mathlib.Core.Path.{◌≡◌}
+use lib.ListN.{get_or, length}
 use native.Mathlib.Omega.{arith}
 use Rattle.room.proofs.Runs.{lead-more, lead-none, lead-end, groups-at}
 use Rattle.room.proofs.run_at.Goals as goal
@@ -21,5 +22,6 @@ pub returns : goal.returns
 returns c =
     let a = c.args in
     let j = c.loop-j.j in
+    let e : j ≡ length a.lens.now = omega arith in
     let n = lead-end (get_or a.lens.now a.i 0) a.lens.now j (omega arith) in
-    record { run = groups-at a.lens.now a.i (j - a.i) (omega arith) (omega arith); inside = omega arith }
+    record { run = rw (← e) (groups-at a.lens.now a.i (j - a.i) (omega arith) (omega arith)); inside = omega arith }

@@ -8,6 +8,3 @@ use Rattle.walk.proofs.ahead.Given as goal
 abbrev pub invariant-loop-i : goal.invariant-loop-i
 invariant-loop-i l =
     (l.w ≡ width_for l.n) × (ahead_of (l.n - l.entry) l.area l.size l.n l.entry l.initial.e ≡ ahead_of (l.n - l.i) l.area l.size l.n l.i l.e)
-
-abbrev pub decreases-loop-i : goal.decreases-loop-i
-decreases-loop-i l = l.n - l.i

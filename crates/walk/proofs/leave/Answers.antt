@@ -1,163 +1,106 @@
 -- No loop. leave-entry, leave-index and leave-far for a place that is none of the area's; else the next record of the interval (leave-after, leave-before) or of
 -- another one (leave-ahead, leave-behind). The interval that the place lies in ends within the area (place-ends).
-use Rattle.walk.proofs.leave.Lts
-use Rattle.walk.proofs.leave.Reads
-use Rattle.walk.proofs.leave.Tie
-use Prim.Native.Nat.{ℕ, ◌+◌, ◌-◌, ◌*◌, ◌/◌, ◌≤◌}
+use Prim.Native.Nat.{ℕ, ◌+◌, ◌-◌, ◌*◌, ◌/◌, ◌≤◌, ◌<◌}
 use mathlib.Core.Path.{◌≡◌, ◌∙◌, ap}
-use mathlib.Core.Logic.{⊎_elim}
-use lib.ListN.{length}
+use mathlib.Core.List.{List}
+use lib.ListN.{length, take, drop}
 use native.Mathlib.Omega.{arith}
 use native.Mathlib.Nat.{div-mul-le_self}
-use borrow.Author.Tests.{ltb-true, ltb-false}
-use borrow.Author.Rules.{rules}
+use Rattle.std.specs.Prelude.{Option}
 use Rattle.fields.specs.Bytes.{part}
 use Rattle.fields.proofs.Splices.{part-is, length-mid}
+use Rattle.interval_walk.specs.declared.Spot.{Spot}
 use Rattle.interval_walk.specs.AidSpots.{after_of, before_of}
 use Rattle.interval_walk.proofs.Landing.{after-start, before-start}
+use Rattle.walk.specs.declared.Place.{Place}
 use Rattle.walk.specs.AidSteps.{count_in, spot_in}
-use Rattle.walk.proofs.Ways.{count-large, leave-entry, leave-index, leave-far, leave-after, leave-ahead, leave-before, leave-behind, place-ends}
+use Rattle.walk.proofs.Ways.{count-large, starts-at, leave-entry, leave-index, leave-far, leave-after, leave-ahead, leave-before, leave-behind, place-ends}
 use Rattle.walk.proofs.leave.Goals as goal
+use Rattle.walk.proofs.leave.Goals.{then-number-eq0-via-then-number-eq0, then-number-eq0-via-else-number-eq0+then-n-number}
 
-abbrev Else1-state : Type 0
-Else1-state = Lts.Else1 Tie.the-claims Reads.Pre Reads.Post
+-- where there is an entry, the area holds its intervals
+module _ (area : List ℕ) (size n : ℕ) (p : Place) (count : n ≡ count_in (length area) size) (h : p.entry < n) where
+  large : (512 ≤ size) × ((n + 1) * size ≤ length area)
+  large = count-large (length area) size n count (omega (arith, h))
 
-abbrev Else3-state : Type 0
-Else3-state = Lts.Else3 Tie.the-claims Reads.Pre Reads.Post
+  -- so the one that the place lies in ends there
+  ends : p.start / size ≤ n → p.start / size * size + size ≤ length area
+  ends few = place-ends size n (length area) (p.start / size) large.1 few
 
-abbrev After-after-state : Type 0
-After-after-state = Lts.After-after Tie.the-claims Reads.Pre Reads.Post
+-- a step reads the bytes of that interval
+module _ (area : List ℕ) (size : ℕ) (p : Place) (x : Option Spot) where
+  abbrev base : ℕ
+  base = p.start / size * size
 
-abbrev After-before2-state : Type 0
-After-before2-state = Lts.After-before2 Tie.the-claims Reads.Pre Reads.Post
+  abbrev lent : List ℕ
+  lent = take (base + size - base) (drop base area)
 
--- how many intervals there are
-abbrev many : Else1-state → ℕ
-many e = e.count_of-n.result
+  after-told : x ≡ after_of lent (spot_in base p) → x ≡ after_of (part area base size) (spot_in base p)
+  after-told e = e ∙ ap (λ ci. after_of ci (spot_in base p)) (part-is area base size)
 
-told : (e : Else1-state) → many e ≡ count_in (length e.args.area.now) e.args.size
-told e = e.count_of-n.ensures
-
-large : (e : Else1-state) → (512 ≤ e.args.size) × ((many e + 1) * e.args.size ≤ length e.args.area.now)
-large e = count-large (length e.args.area.now) e.args.size (many e) (told e) (omega (arith, e.if-n-p.false))
-
--- the one that the place lies in is none but these
-some : (d : Else3-state) → d.args.p.start / d.args.size ≡ 0 → ⊥
-some d = d.if-number-eq0.false
-
-few : (d : Else3-state) → d.args.p.start / d.args.size ≤ many d.before.before.before
-few d = ltb-false _ _ d.if-n-number.false-raw
-
-ends : (d : Else3-state)
-    → d.args.p.start / d.args.size * d.args.size + d.args.size ≤ length d.args.area.now
-ends d =
-    let a = d.args in
-    place-ends a.size (many d.before.before.before) (length a.area.now) (a.p.start / a.size) (large d.before.before.before).1 (few d)
-
--- the record after it there, and the one before it
-after-told : (v : After-after-state) → v.after-s.result
-    ≡ after_of
-    (part v.args.area.now
-    (v.args.p.start / v.args.size * v.args.size)
-    v.args.size)
-    (spot_in
-    (v.args.p.start / v.args.size * v.args.size)
-    v.args.p)
-after-told v =
-    let a = v.args in
-    v.after-s.ensures
-    ∙ ap (λ ci. after_of ci (spot_in (a.p.start / a.size * a.size) a.p)) (part-is a.area.now (a.p.start / a.size * a.size) a.size)
-
-before-told : (v : After-before2-state) → v.before-s.result
-    ≡ before_of
-    (part v.args.area.now
-    (v.args.p.start / v.args.size * v.args.size)
-    v.args.size)
-    (spot_in
-    (v.args.p.start / v.args.size * v.args.size)
-    v.args.p)
-before-told v =
-    let a = v.args in
-    v.before-s.ensures
-    ∙ ap (λ ci. before_of ci (spot_in (a.p.start / a.size * a.size) a.p)) (part-is a.area.now (a.p.start / a.size * a.size) a.size)
+  before-told : x ≡ before_of lent (spot_in base p) → x ≡ before_of (part area base size) (spot_in base p)
+  before-told e = e ∙ ap (λ ci. before_of ci (spot_in base p)) (part-is area base size)
 
 pub returns-then-n-p : goal.returns-then-n-p
 returns-then-n-p c =
     let a = c.args in
     c.ended.ensures ∙ leave-entry a.area.now a.size c.count_of-n.result a.forward a.p c.count_of-n.ensures c.if-n-p.true
 
-pub nonzero_div-number : goal.nonzero_div-number
-nonzero_div-number c = omega (arith, (large c.before.before).0)
-
 pub returns-then-number-eq0 : goal.returns-then-number-eq0
 returns-then-number-eq0 c =
     let a = c.args in
+    let n = c.count_of-n.result in
     c.ended-then-number-eq0.ensures
-    ∙ ⊎_elim (λ w. leave-index a.area.now a.size (many c.before.before.before.before) a.forward a.p (told c.before.before.before.before) c.if-n-p.false w.if-number-eq0.true)
-    (λ w. leave-far a.area.now a.size (many c.before.before.before.before) a.forward a.p (told c.before.before.before.before) c.if-n-p.false (ltb-true _ _ w.if-n-number.true-raw))
-    c.then-number-eq0.branch-raw
-
-pub overflow_mul-a : goal.overflow_mul-a
-overflow_mul-a c = omega (arith, ends c.before, c.before.before.before.before.before.before.before.before)
-
-pub overflow_add-z : goal.overflow_add-z
-overflow_add-z c = omega (arith, ends c.before, c.before.before.before.before.before.before.before.before)
-
-pub overflow_sub-here : goal.overflow_sub-here
-overflow_sub-here c =
-    let a = c.args in
-    div-mul-le_self a.p.start a.size
-
-pub slice_bounds-after-end : goal.slice_bounds-after-end
-slice_bounds-after-end c =
-    let z = ends c.before.before.before in
-    search rules
+    ∙ elim c.then-number-eq0.branch [
+      | then-number-eq0-via-then-number-eq0 w ↦ leave-index a.area.now a.size n a.forward a.p c.count_of-n.ensures c.if-n-p.false w.if-number-eq0.true
+      | then-number-eq0-via-else-number-eq0+then-n-number w ↦ leave-far a.area.now a.size n a.forward a.p c.count_of-n.ensures c.if-n-p.false w.if-n-number.true
+    ]
 
 pub placed-requires : goal.placed-requires
 placed-requires c =
     let a = c.args in
-    let l : c.after-s.result.start ≤ length (part a.area.now (a.p.start / a.size * a.size) a.size) =
-    rw (after-told c.before.before.before) (after-start (part a.area.now (a.p.start / a.size * a.size) a.size) (spot_in (a.p.start / a.size * a.size) a.p)) in
-    omega (arith, ends c.before.before.before.before.before.before.before, l, length-mid a.area.now (a.p.start / a.size * a.size) a.size (ends c.before.before.before.before.before.before.before), c.before.before.before.before.before.before.before.before.before.before.before.before.before.before)
+    let b = a.p.start / a.size * a.size in
+    let e = ends a.area.now a.size c.count_of-n.result a.p c.count_of-n.ensures c.if-n-p.false c.if-n-number.false in
+    let l = starts-at (length (part a.area.now b a.size)) c.after.result c.in-Some.s (rw (after-told a.area.now a.size a.p c.after.result c.after.ensures) (after-start (part a.area.now b a.size) (spot_in b a.p))) c.in-Some.is in
+    omega (arith, e, l, length-mid a.area.now b a.size e, c.well_formed)
 
-pub returns-then-s-gt0 : goal.returns-then-s-gt0
-returns-then-s-gt0 c =
+pub returns-in-Some : goal.returns-in-Some
+returns-in-Some c =
     let a = c.args in
     c.placed.ensures
-    ∙ leave-after a.area.now a.size (many c.before.before.before.before.before.before.before.before.before.before.before) a.forward a.p (told c.before.before.before.before.before.before.before.before.before.before.before) c.if-n-p.false (some c.before.before.before.before.before.before.before.before) (few c.before.before.before.before.before.before.before.before) c.after-s.result c.if-forward.true (after-told c.before.before.before.before) c.if-s-gt0.true
+    ∙ leave-after a.area.now a.size c.count_of-n.result a.forward a.p c.count_of-n.ensures c.if-n-p.false c.if-number-eq0.false c.if-n-number.false c.after.result c.if-forward.true (after-told a.area.now a.size a.p c.after.result c.after.ensures) c.in-Some.s c.in-Some.is
 
 pub ahead-requires : goal.ahead-requires
-ahead-requires c = large c.before.before.before.before.before.before.before.before.before.before.before
+ahead-requires c =
+    let a = c.args in
+    large a.area.now a.size c.count_of-n.result a.p c.count_of-n.ensures c.if-n-p.false
 
 pub returns-then-forward : goal.returns-then-forward
 returns-then-forward c =
     let a = c.args in
     c.ahead.ensures
-    ∙ leave-ahead a.area.now a.size (many c.before.before.before.before.before.before.before.before.before.before.before.before) a.forward a.p (told c.before.before.before.before.before.before.before.before.before.before.before.before) c.if-n-p.false (some c.before.before.before.before.before.before.before.before.before) (few c.before.before.before.before.before.before.before.before.before) c.after-s.result c.if-forward.true (after-told c.before.before.before.before.before) c.if-s-gt0.false
+    ∙ leave-ahead a.area.now a.size c.count_of-n.result a.forward a.p c.count_of-n.ensures c.if-n-p.false c.if-number-eq0.false c.if-n-number.false c.after.result c.if-forward.true (after-told a.area.now a.size a.p c.after.result c.after.ensures) c.in_default.is
 
-pub slice_bounds-before-end : goal.slice_bounds-before-end
-slice_bounds-before-end c =
-    let z = ends c.before.before.before in
-    search rules
-
-pub placed-requires-then-s-gt0-2 : goal.placed-requires-then-s-gt0-2
-placed-requires-then-s-gt0-2 c =
+pub placed-requires-in-Some-before : goal.placed-requires-in-Some-before
+placed-requires-in-Some-before c =
     let a = c.args in
-    let l : c.before-s.result.start ≤ a.p.start - a.p.start / a.size * a.size =
-    rw (before-told c.before.before.before) (before-start (part a.area.now (a.p.start / a.size * a.size) a.size) (spot_in (a.p.start / a.size * a.size) a.p)) in
-    omega (arith, l, div-mul-le_self a.p.start a.size, c.struct_known-2-1.given)
+    let b = a.p.start / a.size * a.size in
+    let l = starts-at (a.p.start - b) c.before-2.result c.in-Some-before.s (rw (before-told a.area.now a.size a.p c.before-2.result c.before-2.ensures) (before-start (part a.area.now b a.size) (spot_in b a.p))) c.in-Some-before.is in
+    omega (arith, l, div-mul-le_self a.p.start a.size, c)
 
-pub returns-then-s-gt0-2 : goal.returns-then-s-gt0-2
-returns-then-s-gt0-2 c =
+pub returns-in-Some-before : goal.returns-in-Some-before
+returns-in-Some-before c =
     let a = c.args in
-    c.placed-then-s-gt0-2.ensures
-    ∙ leave-before a.area.now a.size (many c.before.before.before.before.before.before.before.before.before.before.before) a.forward a.p (told c.before.before.before.before.before.before.before.before.before.before.before) c.if-n-p.false (some c.before.before.before.before.before.before.before.before) (few c.before.before.before.before.before.before.before.before) c.before-s.result c.if-forward.false (before-told c.before.before.before.before) c.if-s-gt0-2.true
+    c.placed-in-Some-before.ensures
+    ∙ leave-before a.area.now a.size c.count_of-n.result a.forward a.p c.count_of-n.ensures c.if-n-p.false c.if-number-eq0.false c.if-n-number.false c.before-2.result c.if-forward.false (before-told a.area.now a.size a.p c.before-2.result c.before-2.ensures) c.in-Some-before.s c.in-Some-before.is
 
 pub behind-requires : goal.behind-requires
-behind-requires c = large c.before.before.before.before.before.before.before.before.before.before
+behind-requires c =
+    let a = c.args in
+    large a.area.now a.size c.count_of-n.result a.p c.count_of-n.ensures c.if-n-p.false
 
 pub returns : goal.returns
 returns c =
     let a = c.args in
     c.behind.ensures
-    ∙ leave-behind a.area.now a.size (many c.before.before.before.before.before.before.before.before.before.before.before) a.forward a.p (told c.before.before.before.before.before.before.before.before.before.before.before) c.if-n-p.false (some c.before.before.before.before.before.before.before.before) (few c.before.before.before.before.before.before.before.before) c.before-s.result c.if-forward.false (before-told c.before.before.before.before) c.if-s-gt0-2.false
+    ∙ leave-behind a.area.now a.size c.count_of-n.result a.forward a.p c.count_of-n.ensures c.if-n-p.false c.if-number-eq0.false c.if-n-number.false c.before-2.result c.if-forward.false (before-told a.area.now a.size a.p c.before-2.result c.before-2.ensures) c.in_default-before.is

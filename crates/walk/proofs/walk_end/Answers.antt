@@ -1,31 +1,26 @@
 -- No loop. A refusal is that of the meaning (end_refused); an area that was opened begins at the first record from its end (end-begins).
-use Rattle.walk.proofs.walk_end.Lts
-use Rattle.walk.proofs.walk_end.Reads
-use Rattle.walk.proofs.walk_end.Tie
-use mathlib.Core.Path.{◌≡◌, ◌∙◌, sym}
+use mathlib.Core.Path.{◌∙◌, sym}
 use Rattle.measures.specs.Judgement.{asked}
-use Rattle.opening.specs.AidOpened.{opened_of}
-use Rattle.opening.specs.declared.Opened.TheVariants.{Whole}
+use Rattle.requests.proofs.Exits.{handed_on}
 use Rattle.walk.proofs.Walking.{opened-asks, end_refused, end-begins}
 use Rattle.walk.proofs.walk_end.Goals as goal
 
-abbrev After-known_told2-state : Type 0
-After-known_told2-state = Lts.Past-After-known_told2 Tie.the-claims Reads.Pre Reads.Post Tie.handed_clauses
-
--- what the area was opened as
-opened-told : (k : After-known_told2-state)
-    → opened_of (asked k.args.numbers) k.args.area.now
-    ≡ Whole k.in-Whole.measures k.in-Whole.count k.in-Whole.records k.in-Whole.free
-opened-told k = sym k.open.ensures ∙ k.in-Whole.is
+pub returns-in_err-whole : goal.returns-in_err-whole
+returns-in_err-whole c =
+    let a = c.args in
+    let e = c.in_err-whole in
+    let told = end_refused (asked a.numbers) a.area.now a.forward e.field-0.0 (sym c.open.ensures ∙ e.was) in
+    let h = handed_on c.from_residual.result e.field-0.0 c.from_residual.ensures.1 in
+    record { begins = rw h told.0; is = h ∙ told.1 }
 
 pub end_in-requires : goal.end_in-requires
 end_in-requires c =
-    opened-asks (asked c.args.numbers) c.args.area.now c.args.forward c.in-Whole.measures c.in-Whole.count c.in-Whole.records c.in-Whole.free (opened-told c.before)
+    let w = c.in_ok-whole.whole in
+    opened-asks (asked c.args.numbers) c.args.area.now c.args.forward w.measures w.count w.records w.free (sym c.open.ensures ∙ c.in_ok-whole.was)
 
-pub returns-in-Refused : goal.returns-in-Refused
-returns-in-Refused c =
-    let told = end_refused (asked c.args.numbers) c.args.area.now c.args.forward c.in-Refused.answer (sym c.open.ensures ∙ c.in-Refused.is) in record { begins = told.0; is = told.1 }
-
-pub returns-in-Whole : goal.returns-in-Whole
-returns-in-Whole c =
-    let told = end-begins (asked c.args.numbers) c.args.area.now c.args.forward c.in-Whole.measures c.in-Whole.count c.in-Whole.records c.in-Whole.free (opened-told c.before.before) c.end_in.result c.end_in.ensures in record { begins = told.0; is = told.1 }
+pub returns : goal.returns
+returns c =
+    let a = c.args in
+    let w = c.in_ok-whole.whole in
+    let told = end-begins (asked a.numbers) a.area.now a.forward w.measures w.count w.records w.free (sym c.open.ensures ∙ c.in_ok-whole.was) c.end_in.result c.end_in.ensures in
+    record { begins = told.0; is = told.1 }

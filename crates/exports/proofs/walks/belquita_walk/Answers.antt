@@ -9,4 +9,4 @@ returns-in_default c =
 pub returns : goal.returns
 returns c =
     let w = c.walk_end in
-    record { begun = w.result; begins = w.ensures.begins; is = w.ensures.is; sum = rw c.in-At.is c.added.ensures }
+    record { begun = w.result; begins = w.ensures.begins; is = w.ensures.is; sum = rw c.in-Ok.is c.added.ensures }
