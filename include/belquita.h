@@ -2,7 +2,8 @@
 
        cc -I include prog.c target/staticlib/libbelquita.a
 
-   The archive is for x86-64 Linux only; this page is for C11 and C++11 or later.
+   The archive is for x86-64 Linux only; this page is for C11 and C++11 or later. From outside it asks for memcpy and memset, and nothing else
+   (tests/scanner).
 
    What the two functions answer is proved, for all inputs that keep the rules below (crates/scanner; the numbers are document 01's). Neither keeps
    anything between calls, takes memory or writes anywhere but into the output it is lent; threads may call them at once.

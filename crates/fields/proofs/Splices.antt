@@ -6,6 +6,7 @@ use lib.ListN.{length, take, drop, get_or, length-append, length-drop, take-appe
 use lib.Seq.{get_or-take, get_or-drop, sets, sets-eq, length-take-le, take_at, drop_at, drop-append-add, take-append-le, drop-append-le, drop-drop, take-take, take-nil, drop-cons, drop-length}
 use native.Mathlib.Omega.{arith}
 use native.Mathlib.Nat.{add-zero, sub-zero}
+use Rattle.std.proofs.Math.Seq.{take-suc}
 use Rattle.fields.specs.Bytes.{part, splice}
 
 pub sets-splice : (vs l : List ℕ) (i : ℕ) → i + length vs ≤ length l → sets l i vs ≡ splice l i vs
@@ -76,8 +77,11 @@ part-is xs a n = let z : a + n - a ≡ n = omega arith in rw z
 pub length-part-is : (xs : List ℕ) (a n : ℕ) → a + n ≤ length xs → length (take (a + n - a) (drop a xs)) ≡ n
 length-part-is xs a n h = rw (part-is xs a n) (length-mid xs a n h)
 
+pub get-part : (xs : List ℕ) (a n i : ℕ) → i < n → get_or (part xs a n) i 0 ≡ get_or xs (a + i) 0
+get-part xs a n i h = rw (get_or-take n (drop a xs) i 0 h) (get_or-drop a xs i 0)
+
 pub get-part-is : (xs : List ℕ) (a n i : ℕ) → i < n → get_or (take (a + n - a) (drop a xs)) i 0 ≡ get_or xs (a + i) 0
-get-part-is xs a n i h = rw (part-is xs a n, get_or-take n (drop a xs) i 0 h) (get_or-drop a xs i 0)
+get-part-is xs a n i h = rw (part-is xs a n) (get-part xs a n i h)
 
 -- one value from the right
 module _ (b : List ℕ) (i to v : ℕ) (k : i ≤ to) (f : to ≤ length b) where
@@ -111,6 +115,17 @@ module _ (d : List ℕ) (at : ℕ) (s : List ℕ) (i : ℕ) (fits : at + length 
       let e : suc (i - 1) ≡ i = omega arith in
       let l = length-drop i s in
       rw (drop-cons s (i - 1) 0 j, e) (set-splice d (at + (i - 1)) (at + i) (get_or s (i - 1) 0) (drop i s) (omega arith) (omega arith))
+
+-- a copy from the left
+pub copy_on : (d : List ℕ) (at : ℕ) (s : List ℕ) (i : ℕ) → at + length s ≤ length d → i < length s
+    → set (splice d at (take i s)) (at + i) (get_or s i 0) ≡ splice d at (take (i + 1) s)
+copy_on d at s i fits h =
+    let n : length (take i s) ≡ i = length-take-le i s (omega arith) in
+    let l : length (splice d at (take i s)) ≡ length d = length-splice d at (take i s) (omega arith) in
+    let e : i + 1 ≡ suc i = omega arith in
+    rw (e, take-suc s i 0 h)
+    (sets-splice (get_or s i 0 ∷ []) (splice d at (take i s)) (at + i) (omega arith)
+    ∙ splice-after d at (at + i) (take i s) (get_or s i 0 ∷ []) (omega arith) (omega arith))
 
 -- ---- parts of parts, and of bytes in which something was stored
 
@@ -166,3 +181,57 @@ splice_front b xs = sym (mid-splice b xs 0 (length xs) refl)
 
 pub take-front : (b xs : List ℕ) (c : ℕ) → c ≡ length xs → take c (splice b 0 xs) ≡ xs
 take-front b xs c h = rw (splice_front b xs) (take_at xs (drop (length xs) b) c (sym h))
+
+-- ---- eight at once
+
+module _ (at : ℕ) where
+  one : at + 1 ≡ suc at
+  one = omega arith
+
+  two : at + 2 ≡ suc (suc at)
+  two = omega arith
+
+  three : at + 3 ≡ suc (suc (suc at))
+  three = omega arith
+
+  four : at + 4 ≡ suc (suc (suc (suc at)))
+  four = omega arith
+
+  five : at + 5 ≡ suc (suc (suc (suc (suc at))))
+  five = omega arith
+
+  six : at + 6 ≡ suc (suc (suc (suc (suc (suc at)))))
+  six = omega arith
+
+  seven : at + 7 ≡ suc (suc (suc (suc (suc (suc (suc at))))))
+  seven = omega arith
+
+-- eight stores, one after another, are one splice
+pub eight-stored : (b : List ℕ) (at v0 v1 v2 v3 v4 v5 v6 v7 : ℕ) → at + 8 ≤ length b
+    → set (set (set (set (set (set (set (set b at v0) (at + 1) v1) (at + 2) v2) (at + 3) v3) (at + 4) v4) (at + 5) v5) (at + 6) v6) (at + 7) v7
+    ≡ splice b at (v0 ∷ v1 ∷ v2 ∷ v3 ∷ v4 ∷ v5 ∷ v6 ∷ v7 ∷ [])
+eight-stored b at v0 v1 v2 v3 v4 v5 v6 v7 h =
+    rw (one at, two at, three at, four at, five at, six at, seven at) (sets-splice (v0 ∷ v1 ∷ v2 ∷ v3 ∷ v4 ∷ v5 ∷ v6 ∷ v7 ∷ []) b at (omega arith))
+
+-- the eight elements from a place on
+pub eight-part : (xs : List ℕ) (p : ℕ) → p + 8 ≤ length xs
+    → part xs p 8
+    ≡ get_or xs p 0 ∷ get_or xs (p + 1) 0 ∷ get_or xs (p + 2) 0 ∷ get_or xs (p + 3) 0 ∷ get_or xs (p + 4) 0 ∷ get_or xs (p + 5) 0 ∷ get_or xs (p + 6) 0 ∷ get_or xs (p + 7) 0 ∷ []
+eight-part xs p h =
+    rw (
+      one p,
+      two p,
+      three p,
+      four p,
+      five p,
+      six p,
+      seven p,
+      drop-cons xs p 0 (omega arith),
+      drop-cons xs (suc p) 0 (omega arith),
+      drop-cons xs (suc (suc p)) 0 (omega arith),
+      drop-cons xs (suc (suc (suc p))) 0 (omega arith),
+      drop-cons xs (suc (suc (suc (suc p)))) 0 (omega arith),
+      drop-cons xs (suc (suc (suc (suc (suc p))))) 0 (omega arith),
+      drop-cons xs (suc (suc (suc (suc (suc (suc p)))))) 0 (omega arith),
+      drop-cons xs (suc (suc (suc (suc (suc (suc (suc p))))))) 0 (omega arith),
+    )

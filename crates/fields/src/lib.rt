@@ -27,13 +27,16 @@ pub fn read_eight(b: &[u8], at: usize) -> usize
     read::<4>(b, at) * 4294967296 + read::<4>(b, at + 4)
 }
 
-// The number in `width` bytes: a pointer, which mostly has one.
+// The number in `width` bytes: a pointer, which mostly has one, or two.
 pub fn read_pointer(b: &[u8], at: usize, width: usize) -> usize
     requires { (width ≤ 4) × (at + width ≤ length b.now) }
     ensures { (result ≡ number width b.now at) × (result < 256 ^ width) }
 {
     if width == 1 {
         return usize::from(b[at]);
+    }
+    if width == 2 {
+        return read::<2>(b, at);
     }
     let mut x = 0;
     for byte in &b[at..at + width] {
@@ -109,15 +112,26 @@ pub fn copy(b: &mut [u8], at: usize, new: &[u8])
     requires { at + length new.now ≤ length b.old }
     ensures { b.new ≡ splice b.old at new.now }
 {
-    b[at..at + new.len()].copy_from_slice(new);
+    for i in 0..new.len() {
+        b[at + i] = new[i];
+    }
 }
 
 // Stores eight bytes that stand at a place of another part, from a place on: at once, where a loop would cost more than a few bytes do.
+// Spelt out, so that the compiler makes one load and one store of them: of a loop over them it makes five, and of `copy_from_slice` one that
+// compares the two places first.
 pub fn copy_eight(b: &mut [u8], at: usize, new: &[u8], place: usize)
     requires { (at + 8 ≤ length b.old) × (place + 8 ≤ length new.now) }
     ensures { b.new ≡ splice b.old at (part new.now place 8) }
 {
-    b[at..at + 8].copy_from_slice(&new[place..place + 8]);
+    b[at] = new[place];
+    b[at + 1] = new[place + 1];
+    b[at + 2] = new[place + 2];
+    b[at + 3] = new[place + 3];
+    b[at + 4] = new[place + 4];
+    b[at + 5] = new[place + 5];
+    b[at + 6] = new[place + 6];
+    b[at + 7] = new[place + 7];
 }
 
 // Stores one byte from one place to another.

@@ -289,11 +289,11 @@ module _ (w K n : ℕ) (ib : List ℕ) (is : w ≡ width_for n) where
       no_walk h = unsound (λ p. false-true (h ∙ ap (λ (m : List ℕ). walked_fine by ib m) em ∙ sym by-walk ∙ p))
 
       pub all-fine : true ≡ walked_fine by ib m₀ → (wanted before own : List ℕ) (spot : Lead) → (0 < length wanted → FoundBy w (n - c) ib wanted spot before own)
-          → JudgedAs K n ib wanted before own (Some (record { free = c; entries = n - c; spot = spot }))
-      all-fine ok wanted before own spot found =
+          → (free used : ℕ) → free ≡ n - (n - c) → used ≡ n - c → JudgedAs K n ib wanted before own (Some (record { free = free; entries = used; spot = spot }))
+      all-fine ok wanted before own spot found free used free-is used-is =
           rw (← is) (
             by-walk ∙ ap (λ (m : List ℕ). walked_fine by ib m) (sym em) ∙ sym ok,
-            omega (arith, free-few, free-long),
-            entries-long,
+            free-is ∙ free-long,
+            used-is ∙ entries-long,
             λ (x : 0 < length wanted). rw (← entries-long) (found x),
           )

@@ -1,7 +1,7 @@
 // The index record, read and judged in one walk.
 #![tactic(auto)]
 
-ghost use Rattle.std.specs.Prelude.{ℕ, ◌+◌, ◌-◌, ◌*◌, ◌≤◌, ◌<◌, ◌≡◌, true, false, List, ◌⊎◌, length, get_or, take, eqb, is_some, IfSome};
+ghost use Rattle.std.specs.Prelude.{ℕ, ◌+◌, ◌-◌, ◌*◌, ◌≤◌, ◌<◌, ◌≡◌, true, false, List, ◌⊎◌, length, get_or, take, eqb, None, is_some, IfSome};
 ghost use Rattle.fields.specs.Choice.{pick, both, no};
 ghost use Rattle.fields.specs.Bytes.{part, number};
 ghost use Rattle.measures.specs.Judgement.{limit};
@@ -64,12 +64,14 @@ pub(crate) struct Stop {
     pub left: usize,
 }
 
-// Which interval numbers were met, and how many are free and how many have an entry. It goes by value through the walk.
+// Which interval numbers were met, how many are free and how many have an entry; and the verdict: where the key leads that was sought, if all that was
+// met kept the rules. It goes by value through the walk.
 #[derive(Drop)]
 pub(crate) struct Marks {
     pub seen: [u8; LIMIT],
     pub used: usize,
     pub free: usize,
+    pub spot: Option<Lead>,
 }
 
 // A sound record: its free intervals and entries, and where the key leads that was sought.
@@ -520,18 +522,20 @@ pub(crate) fn walk(
     key: &[u8],
     before: &mut [u8],
     own: &mut [u8],
-) -> Option<Lead>
+) -> Marks
     requires walkable { Walkable ib.now by key.now × (0 < by.count) × (length before.old ≡ 263) × (length own.old ≡ 263) }
     requires free { (by.count ≤ by.n) × (24 + by.width * (by.n - by.count) ≤ length ib.now) }
-    requires counts { (marks.free ≡ by.n - by.count) × (marks.used ≡ by.count) }
-    ensures sound { is_some result ≡ walked_fine by ib.now marks.seen }
-    ensures found { 0 < length key.now → IfSome result (λ spot. FoundBy by.width by.count ib.now key.now spot before.new own.new) }
+    requires begun { (marks.free ≡ by.n - by.count) × (marks.used ≡ by.count) × (marks.spot ≡ None) }
+    ensures sound { is_some result.spot ≡ walked_fine by ib.now marks.seen }
+    ensures found { 0 < length key.now → IfSome result.spot (λ spot. FoundBy by.width by.count ib.now key.now spot before.new own.new) }
+    ensures counts { (result.free ≡ by.n - by.count) × (result.used ≡ by.count) }
 {
     let mut m = marks;
     if !mark_free(&mut m.seen, ib, by.width, m.free, m.free + m.used) {
-        return None;
+        return m;
     }
-    mark_entries(&mut m.seen, ib, by, key, before, own)
+    m.spot = mark_entries(&mut m.seen, ib, by, key, before, own);
+    m
 }
 
 // Whether header values, RDF and CIDF are as they must be. The pointer indicator has a bit for each byte of a pointer.
@@ -651,11 +655,13 @@ pub(crate) fn judge(
         seen: [0u8; LIMIT],
         used: entries,
         free,
+        spot: None,
     };
-    let spot = walk(marks, ib, by, wanted, before, own)?;
+    let walked = walk(marks, ib, by, wanted, before, own);
+    let spot = walked.spot?;
     Some(Verdict {
-        free,
-        entries,
+        free: walked.free,
+        entries: walked.used,
         spot,
     })
 }

@@ -63,7 +63,7 @@ edit_of m c (erase wanted) = edit_for m c wanted 1 []
 
 -- ---- what it comes to: 1, 2, 3, then 4 for an insert and 5 for the others, then 6, 7
 
--- 6, 7, or the stores made; done tells which intervals were written
+-- 6, 7, or the stores made; Changed tells which intervals were written
 abbrev pub carry_out : Measures → List ℕ → Plan → Outcome
 carry_out m area no_interval = kept (Err NoInterval) area
 carry_out m area no_room = kept (Err NoRoom) area

@@ -4,7 +4,10 @@
 -- (followed, of crate sections), and the two displacements tell whether there is a single section (spread-apart, spread-joined).
 -- Each refusal contradicts one part of soundness (no-frame to no_walk); where none does, all-fine: so many free numbers as the displacement tells, and the rest of
 -- the n numbers have an entry. The width is the one that the definition says, and it is 1 to 4.
-use mathlib.Core.Path.{refl, sym}
+use mathlib.Core.Path.{◌≡◌, refl, sym, ap, ◌∙◌, subst}
+use Rattle.std.specs.Prelude.{◌-◌, true, false, Option, is_some, IfSome}
+use Rattle.index_read.specs.AidSeek.{FoundBy}
+use Rattle.index_read.specs.declared.Lead.{Lead}
 use native.Mathlib.Omega.{arith}
 use Rattle.measures.proofs.Width.{width_some, width-most}
 use Rattle.index_read.proofs.Judging.{no-frame, no-base, no-places, free-inside, free-few, used-some, edge-inside, edge-far, edge-small, no_walk, all-fine}
@@ -31,8 +34,8 @@ overflow_sub-entries c =
     let a = c.args in
     free-few c.width_for-w.result a.key a.n a.ib.now c.width_for-w.ensures c.if-not-framed.ensures c.if-not-base_fine.ensures c.requires.in_bounds.4 c.in_ok-places.places (sym c.in_ok-places.ensures)
 
-pub walk-requires : goal.walk-requires
-walk-requires c =
+pub walk-walked-requires : goal.walk-walked-requires
+walk-walked-requires c =
     let a = c.args in
     let w = c.width_for-w in
     let p = c.requires.in_bounds in
@@ -60,19 +63,24 @@ walk-requires c =
         b.2,
       );
       free = free-inside w.result a.key a.n a.ib.now w.ensures f g p.4 x at p.0;
-      counts = (omega (arith, free-few w.result a.key a.n a.ib.now w.ensures f g p.4 x at), refl);
+      begun = (omega (arith, free-few w.result a.key a.n a.ib.now w.ensures f g p.4 x at), refl, refl);
     }
 
 pub returns-in_err-spot : goal.returns-in_err-spot
 returns-in_err-spot c =
     let a = c.args in
+    let wrong : false ≡ is_some c.walk-walked.result.spot = ap (λ (o : Option Lead). is_some o) (sym c.in_err-spot.was) in
     rw c.from_residual-in_err-spot.ensures
     (no_walk c.width_for-w.result a.key a.n a.ib.now c.width_for-w.ensures c.if-not-framed.ensures c.if-not-base_fine.ensures c.requires.in_bounds.4 c.in_ok-places.places
-    (sym c.in_ok-places.ensures) _ refl c.in_err-spot.ensures.sound)
+    (sym c.in_ok-places.ensures) _ refl (wrong ∙ c.walk-walked.ensures.sound))
 
 pub returns : goal.returns
 returns c =
     let a = c.args in
-    let x = c.walk in
+    let x = c.walk-walked in
+    let there = c.in_ok-spot.was in
+    let fine : true ≡ is_some x.result.spot = ap (λ (o : Option Lead). is_some o) (sym there) in
     all-fine c.width_for-w.result a.key a.n a.ib.now c.width_for-w.ensures c.if-not-framed.ensures c.if-not-base_fine.ensures c.requires.in_bounds.4 c.in_ok-places.places
-    (sym c.in_ok-places.ensures) _ refl c.in_ok-spot.ensures.sound a.wanted.now x.new.before x.new.own c.in_ok-spot.spot c.in_ok-spot.ensures.found
+    (sym c.in_ok-places.ensures) _ refl (fine ∙ x.ensures.sound) a.wanted.now x.new.before x.new.own c.in_ok-spot.spot
+    (λ sought. subst (λ (o : Option Lead). IfSome o (λ spot. FoundBy c.width_for-w.result (a.n - c.in_ok-places.places.free) a.ib.now a.wanted.now spot x.new.before x.new.own)) there (x.ensures.found sought))
+    x.result.free x.result.used x.ensures.counts.0 x.ensures.counts.1

@@ -3,7 +3,7 @@
 -- The whole record is fine exactly where the entries from there on are fine after that separator and that highest, with the marks made so far; the entry before
 -- closed a section, or is none, or others come. The search has come as far; once the key is sought no more, the entry that it leads to was found (Finding). While it
 -- is sought, its reach is that past the highest of the section before (Above), to which F of the next section's highest refers.
--- What the walk over a section's entries hands on is such a place again, before its highest or the entry that the key leads to (stopped-at); that entry is the step
+-- What the walk over a section's entries hands on is such a place again, before its highest or the entry that the key leads to; that entry is the step
 -- of this loop (Turn): turn_on, turn-finds, turn-above. Past the last entry, whose separator is empty, no key is sought (finding-end).
 -- Measure: the entries left.
 use mathlib.Core.Bool.{true}

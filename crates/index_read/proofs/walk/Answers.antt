@@ -6,11 +6,11 @@ use Rattle.index_read.proofs.walk.Goals as goal
 pub returns-then-not-mark_free-clause-sound : goal.returns-then-not-mark_free-clause-sound
 returns-then-not-mark_free-clause-sound c =
     let r = c.requires in
-    walked-wrong c.args.by c.args.ib.now c.args.marks r.free.0 r.counts.0 r.counts.1 c.if-not-mark_free.ensures.sound
+    rw r.begun.2 (walked-wrong c.args.by c.args.ib.now c.args.marks r.free.0 r.begun.0 r.begun.1 c.if-not-mark_free.ensures.sound)
 
 pub returns-clause-sound : goal.returns-clause-sound
 returns-clause-sound c =
-    let x = c.mark_entries in
+    let x = c.mark_entries-m in
     let r = c.requires in
-    walked_on c.args.by c.args.ib.now c.args.marks r.free.0 r.counts.0 r.counts.1 c.if-not-mark_free.ensures.sound c.mark_free.new.seen (c.mark_free.ensures.marks c.if-not-mark_free.false) (is_some x.result)
+    walked_on c.args.by c.args.ib.now c.args.marks r.free.0 r.begun.0 r.begun.1 c.if-not-mark_free.ensures.sound c.mark_free.new.seen (c.mark_free.ensures.marks c.if-not-mark_free.false) (is_some x.result)
     x.ensures.sound

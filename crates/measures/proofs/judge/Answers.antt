@@ -1,4 +1,4 @@
--- No loop. Each of the two tests denies that the key ends within the longest record, so by refused the judgement is Outside; the rest is judged over the value
+-- No loop. Each of the two tests denies that the key ends within the longest record, so by refused the judgement is None; the rest is judged over the value
 -- that the four numbers make.
 use mathlib.Core.Path.{sym}
 use native.Mathlib.Omega.{arith}

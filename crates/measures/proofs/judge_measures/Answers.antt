@@ -1,4 +1,4 @@
--- Each test that refuses denies one field of Fits, so by refused the judgement is Outside. At the end all fields hold, and accepted gives Fine.
+-- Each test that refuses denies one field of Fits, so by refused the judgement is None. At the end all fields hold, and accepted gives passed.
 -- permitted-range: a permitted size is at least 512, so size - 7 does not fall below zero.
 -- no-remainder and whole-number: with no remainder, and only then, the length is a whole number of intervals.
 use Rattle.std.specs.Prelude.{None}
