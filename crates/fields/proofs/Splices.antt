@@ -77,11 +77,8 @@ part-is xs a n = let z : a + n - a ≡ n = omega arith in rw z
 pub length-part-is : (xs : List ℕ) (a n : ℕ) → a + n ≤ length xs → length (take (a + n - a) (drop a xs)) ≡ n
 length-part-is xs a n h = rw (part-is xs a n) (length-mid xs a n h)
 
-pub get-part : (xs : List ℕ) (a n i : ℕ) → i < n → get_or (part xs a n) i 0 ≡ get_or xs (a + i) 0
-get-part xs a n i h = rw (get_or-take n (drop a xs) i 0 h) (get_or-drop a xs i 0)
-
 pub get-part-is : (xs : List ℕ) (a n i : ℕ) → i < n → get_or (take (a + n - a) (drop a xs)) i 0 ≡ get_or xs (a + i) 0
-get-part-is xs a n i h = rw (part-is xs a n) (get-part xs a n i h)
+get-part-is xs a n i h = rw (part-is xs a n, get_or-take n (drop a xs) i 0 h) (get_or-drop a xs i 0)
 
 -- one value from the right
 module _ (b : List ℕ) (i to v : ℕ) (k : i ≤ to) (f : to ≤ length b) where
@@ -181,57 +178,3 @@ splice_front b xs = sym (mid-splice b xs 0 (length xs) refl)
 
 pub take-front : (b xs : List ℕ) (c : ℕ) → c ≡ length xs → take c (splice b 0 xs) ≡ xs
 take-front b xs c h = rw (splice_front b xs) (take_at xs (drop (length xs) b) c (sym h))
-
--- ---- eight at once
-
-module _ (at : ℕ) where
-  one : at + 1 ≡ suc at
-  one = omega arith
-
-  two : at + 2 ≡ suc (suc at)
-  two = omega arith
-
-  three : at + 3 ≡ suc (suc (suc at))
-  three = omega arith
-
-  four : at + 4 ≡ suc (suc (suc (suc at)))
-  four = omega arith
-
-  five : at + 5 ≡ suc (suc (suc (suc (suc at))))
-  five = omega arith
-
-  six : at + 6 ≡ suc (suc (suc (suc (suc (suc at)))))
-  six = omega arith
-
-  seven : at + 7 ≡ suc (suc (suc (suc (suc (suc (suc at))))))
-  seven = omega arith
-
--- eight stores, one after another, are one splice
-pub eight-stored : (b : List ℕ) (at v0 v1 v2 v3 v4 v5 v6 v7 : ℕ) → at + 8 ≤ length b
-    → set (set (set (set (set (set (set (set b at v0) (at + 1) v1) (at + 2) v2) (at + 3) v3) (at + 4) v4) (at + 5) v5) (at + 6) v6) (at + 7) v7
-    ≡ splice b at (v0 ∷ v1 ∷ v2 ∷ v3 ∷ v4 ∷ v5 ∷ v6 ∷ v7 ∷ [])
-eight-stored b at v0 v1 v2 v3 v4 v5 v6 v7 h =
-    rw (one at, two at, three at, four at, five at, six at, seven at) (sets-splice (v0 ∷ v1 ∷ v2 ∷ v3 ∷ v4 ∷ v5 ∷ v6 ∷ v7 ∷ []) b at (omega arith))
-
--- the eight elements from a place on
-pub eight-part : (xs : List ℕ) (p : ℕ) → p + 8 ≤ length xs
-    → part xs p 8
-    ≡ get_or xs p 0 ∷ get_or xs (p + 1) 0 ∷ get_or xs (p + 2) 0 ∷ get_or xs (p + 3) 0 ∷ get_or xs (p + 4) 0 ∷ get_or xs (p + 5) 0 ∷ get_or xs (p + 6) 0 ∷ get_or xs (p + 7) 0 ∷ []
-eight-part xs p h =
-    rw (
-      one p,
-      two p,
-      three p,
-      four p,
-      five p,
-      six p,
-      seven p,
-      drop-cons xs p 0 (omega arith),
-      drop-cons xs (suc p) 0 (omega arith),
-      drop-cons xs (suc (suc p)) 0 (omega arith),
-      drop-cons xs (suc (suc (suc p))) 0 (omega arith),
-      drop-cons xs (suc (suc (suc (suc p)))) 0 (omega arith),
-      drop-cons xs (suc (suc (suc (suc (suc p))))) 0 (omega arith),
-      drop-cons xs (suc (suc (suc (suc (suc (suc p)))))) 0 (omega arith),
-      drop-cons xs (suc (suc (suc (suc (suc (suc (suc p))))))) 0 (omega arith),
-    )

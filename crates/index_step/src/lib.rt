@@ -51,22 +51,24 @@ pub fn start(ib: &[u8]) -> PassPlace
     }
 }
 
-// The next entry, with a pointer of w bytes.
+// The next entry, with a pointer of w bytes. F, L and the characters are told by the place c of the control information, so that the compiler
+// makes one address of it.
 pub fn entry_at(ib: &[u8], w: usize, p: PassPlace) -> Step
     requires { EntryEnds w ib.now p.right }
     ensures is { result ≡ step_at w ib.now p.right p.end }
     ensures small { (result.front < 256) × (result.len < 256) }
 {
     let r = p.right;
-    let f = usize::from(ib[r - (w + 2)]);
-    let l = usize::from(ib[r - (w + 1)]);
+    let c = r - (w + 2);
+    let f = usize::from(ib[c]);
+    let l = usize::from(ib[c + 1]);
     let number = fields::read_pointer(ib, r - w, w);
     Step {
         front: f,
         len: l,
-        at: r - (w + 2 + l),
+        at: c - l,
         number,
-        closes: r - (w + 2) == p.end,
+        closes: c == p.end,
     }
 }
 
